@@ -1,0 +1,37 @@
+-- What a crash may leave, now and at the moments since an earlier one.
+use Rattle.std.specs.Prelude.{◌≡◌, ◌≤◌, ◌⊎◌, ℕ, Option, IfSome}
+use Rattle.blk_device.specs.declared.device.Region.{Region}
+use Rattle.blk_device.specs.Contents.{Contents}
+
+-- each new outcome of a crash is an old outcome after a step
+abbrev pub Follows : (Contents → Contents → Type 0) → (Contents → Type 0) → (Contents → Type 0) → Type 0
+Follows step old new = (c : Contents) → new c → (d : Contents) × old d × step d c
+
+-- each new outcome is an old one
+abbrev pub NoMore : (Contents → Type 0) → (Contents → Type 0) → Type 0
+NoMore old new = (c : Contents) → new c → old c
+
+-- in this region each outcome is what is read
+abbrev pub IsDurable : Region → Option Contents → (Contents → Type 0) → Type 0
+IsDurable r told outcomes = IfSome told (λ m. (c : Contents) → outcomes c → (b : ℕ) → c r b ≡ m r b)
+
+-- Time goes on: a crash since t might have left what it might have left before, or what it may leave now.
+pub record Elapses (before now : ℕ) (past since : ℕ → Contents → Type 0) (may_hold : Contents → Type 0) : Type 0 where
+  pub later : before ≤ now
+  pub nothing_else : (t : ℕ) (c : Contents) → t ≤ before → since t c → past t c ⊎ may_hold c
+  pub keeps : (t : ℕ) (c : Contents) → t ≤ before → past t c → since t c
+
+-- A crash at any moment since old leaves contents that have P.
+pub record LeavesOnly {D : Type 0} (clock : D → ℕ) (held_since : D → ℕ → Contents → Type 0) (old new : D) (P : Contents → Type 0) : Type 0 where
+  pub later : clock old ≤ clock new
+  pub each : (c : Contents) → held_since new (clock old) c → P c
+  -- for a run that began earlier
+  pub before : (t : ℕ) (c : Contents) → t ≤ clock old → held_since new t c → held_since old t c ⊎ P c
+
+-- an outcome from before, of which the blocks in K are kept
+abbrev pub Reached : (Region → ℕ → Type 0) → (Contents → Type 0) → Contents → Type 0
+Reached K old c = (d : Contents) × old d × ((s : Region) (b : ℕ) → K s b → c s b ≡ d s b)
+
+-- A crash at any moment since old leaves what it might have left at old, with other bytes outside of K alone.
+abbrev pub Keeps : {D : Type 0} (clock : D → ℕ) (held_since : D → ℕ → Contents → Type 0) (may_hold : D → Contents → Type 0) (K : Region → ℕ → Type 0) (old new : D) → Type 0
+Keeps clock held_since may_hold K old new = LeavesOnly clock held_since old new (Reached K (may_hold old))

@@ -1,0 +1,5 @@
+pub mod Below
+pub mod Checksum
+pub mod Fields
+pub mod FirstFailing
+pub mod Zeros

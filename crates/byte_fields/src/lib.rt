@@ -1,0 +1,23 @@
+//! The bytes of a block: big-endian fields, the CRC-32C checksum, and a count of steps.
+#![tactic(auto)]
+
+mod block;
+mod checksum;
+mod fields;
+
+pub use block::Block;
+pub use checksum::{crc32c, is_summed, sum_at};
+pub use fields::{
+    get_sum, get_u16, get_u32, get_u64, is_uuid_at, put_sum, put_u16, put_u32, put_u64,
+};
+
+#[cfg(test)]
+mod tests {
+    use super::*;
+
+    #[test]
+    fn checksums_of_known_texts(rt: HostRuntime) {
+        assert_eq!(rt; crc32c(b"123456789"), 0xe306_9283);
+        assert_eq!(rt; crc32c(b""), 0);
+    }
+}

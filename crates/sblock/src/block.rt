@@ -1,0 +1,69 @@
+use crate::kind::Kind;
+use thiserror::Error;
+
+/// Why a block of a short-form btree is refused: the first of its ordered tests that fails
+/// (XFS Algorithms and Data Structures, "Short Format B+trees").
+#[derive(Clone, Copy, Debug, PartialEq, Eq, Error)]
+pub enum BlockFault {
+    #[error("magic")]
+    Magic,
+    #[error("level")]
+    Level,
+    #[error("count")]
+    Count,
+    #[error("sibling")]
+    Sibling,
+    #[error("place")]
+    Place,
+    #[error("owner")]
+    Owner,
+    #[error("uuid")]
+    Uuid,
+    #[error("checksum")]
+    Checksum,
+    #[error("order")]
+    Order,
+    #[error("key")]
+    Key,
+    #[error("range")]
+    Range,
+    #[error("later")]
+    Later,
+}
+
+/// The numbers that a record's range is judged by: the blocks of this group (`length`) and of
+/// the last group (`last`), and those by which an inode number has a place.
+#[derive(Clone, Copy, Debug, PartialEq, Eq)]
+pub struct Bounds {
+    pub length: u32,
+    pub agblocks: u32,
+    pub agcount: u32,
+    pub last: u32,
+    pub agblklog: u8,
+}
+
+/// What a block is to be. `level` is 0 for a leaf, `left` the group-relative block before it on
+/// its level (all ones for none), `place` the number of its blkno field (in 512-byte units from
+/// the start of the device), `group` its owner field.
+#[derive(Clone, Copy, Debug, PartialEq, Eq)]
+pub struct Want {
+    pub kind: Kind,
+    pub level: u8,
+    pub root: bool,
+    pub left: u32,
+    pub place: u64,
+    pub group: u32,
+    pub bounds: Bounds,
+    pub uuid: [u8; 16],
+}
+
+/// The fields of a block's header that its reader goes on with; `left` and `right` are
+/// group-relative block numbers, all ones for none.
+#[derive(Clone, Copy, Debug, PartialEq, Eq)]
+pub struct Header {
+    pub level: u8,
+    pub numrecs: u16,
+    pub left: u32,
+    pub right: u32,
+    pub lsn: u64,
+}

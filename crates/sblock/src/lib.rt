@@ -1,0 +1,8 @@
+//! Short-form btree blocks: their header, their tests in order, and what a kind of tree gives.
+#![tactic(auto)]
+
+mod block;
+mod kind;
+
+pub use block::{BlockFault, Bounds, Header, Want};
+pub use kind::{Kind, RecKind};
