@@ -1,33 +1,19 @@
 ghost use Rattle.std.specs.Prelude.{◌≡◌, ◌+◌, ◌≤◌, length};
-ghost use Rattle.byte_fields.specs.Checksum.{after_bit, after_byte, after_bytes, checksum, blanked, has_sum};
+ghost use Rattle.byte_fields.specs.Checksum.{after_byte, after_bytes, checksum, blanked, has_sum};
 
 use crate::fields::get_sum;
+use crate::tables;
 
-// The Castagnoli polynomial, the lowest power in the highest bit.
-const POLYNOMIAL: u32 = 0x82F6_3B78;
-
-#[tactic(auto, unfolding(crate::specs::Checksum::after_bit))]
-fn next_bit(rest: u32) -> u32
-    ensures { result ≡ after_bit rest }
-{
-    if rest % 2 == 1 {
-        (rest / 2) ^ POLYNOMIAL
-    } else {
-        rest / 2
-    }
-}
-
-#[tactic(auto, unfolding(crate::specs::Checksum::after_byte, crate::specs::Checksum::after_bits))]
+// One byte: the high bits move down, and what the low byte leaves is laid over them.
+#[tactic(auto, using(crate::proofs::TableLemmas::by_table))]
 fn next_byte(rest: u32, byte: u8) -> u32
     ensures { result ≡ after_byte rest byte }
 {
-    let mut rest = rest ^ u32::from(byte);
-    rest = next_bit(next_bit(next_bit(next_bit(rest))));
-    next_bit(next_bit(next_bit(next_bit(rest))))
+    (rest / 256) ^ tables::after_one((rest % 256) as u8 ^ byte)
 }
 
 #[tactic(auto, using(crate::proofs::ChecksumLemmas::after_bytes_step, crate::proofs::ChecksumLemmas::after_bytes_end))]
-fn next_bytes(first: u32, bytes: &[u8]) -> u32
+fn next_each(first: u32, bytes: &[u8]) -> u32
     ensures { result ≡ after_bytes first bytes.now }
 {
     let mut rest = first;
@@ -35,6 +21,36 @@ fn next_bytes(first: u32, bytes: &[u8]) -> u32
         rest = next_byte(rest, *byte);
     }
     rest
+}
+
+// Eight bytes at once: each of the first four is laid over the bits of the remainder that it
+// meets, and all eight are looked up, each in the table of its place.
+#[tactic(auto, using(crate::proofs::TableLemmas::after_eight))]
+fn next_eight(rest: u32, eight: &[u8]) -> u32
+    requires { length eight.now ≡ 8 }
+    ensures { result ≡ after_bytes rest eight.now }
+{
+    tables::after_eight((rest % 256) as u8 ^ eight[0])
+        ^ tables::after_seven((rest / 256 % 256) as u8 ^ eight[1])
+        ^ tables::after_six((rest / 65536 % 256) as u8 ^ eight[2])
+        ^ tables::after_five((rest / 16777216) as u8 ^ eight[3])
+        ^ tables::after_four(eight[4])
+        ^ tables::after_three(eight[5])
+        ^ tables::after_two(eight[6])
+        ^ tables::after_one(eight[7])
+}
+
+fn next_bytes(first: u32, bytes: &[u8]) -> u32
+    ensures { result ≡ after_bytes first bytes.now }
+{
+    let mut rest = first;
+    let mut left = bytes;
+    while left.len() >= 8 {
+        let (eight, tail) = left.split_at(8);
+        rest = next_eight(rest, eight);
+        left = tail;
+    }
+    next_each(rest, left)
 }
 
 /// The CRC-32C of the bytes: Castagnoli polynomial, from all ones, complemented

@@ -4,20 +4,17 @@
 mod block;
 mod checksum;
 mod fields;
+mod plain;
+mod steps;
+mod tables;
 
 pub use block::Block;
 pub use checksum::{crc32c, is_summed, sum_at};
 pub use fields::{
     get_sum, get_u16, get_u32, get_u64, is_uuid_at, put_sum, put_u16, put_u32, put_u64,
 };
+pub use plain::plain_crc32c;
+pub use steps::Steps;
 
 #[cfg(test)]
-mod tests {
-    use super::*;
-
-    #[test]
-    fn checksums_of_known_texts(rt: HostRuntime) {
-        assert_eq!(rt; crc32c(b"123456789"), 0xe306_9283);
-        assert_eq!(rt; crc32c(b""), 0);
-    }
-}
+mod tests;
