@@ -1,3 +1,4 @@
 pub mod Moments
+pub mod RecordLemmas
 pub mod TakenLemmas
 pub mod Told

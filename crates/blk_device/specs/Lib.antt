@@ -1,4 +1,9 @@
+pub mod Calls
 pub mod Causes
 pub mod Contents
 pub mod Crash
+pub mod Memory
+pub mod Recorded
+pub mod Stored
 pub mod Taken
+pub mod Tally

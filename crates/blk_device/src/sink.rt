@@ -1,6 +1,6 @@
 ghost use Rattle.std.specs.Prelude.{◌≡◌, ◌<◌, ◌≤◌, ℕ, List, length, take, Option, OnOk, OnErr, IfOk};
 ghost use Rattle.blk_device.specs.Causes.{HasCause, Rose};
-ghost use Rattle.blk_device.specs.Taken.{Takes};
+ghost use Rattle.blk_device.specs.Taken.{Takes, TakesFront};
 
 use thiserror::Error;
 
@@ -37,10 +37,11 @@ pub trait Sink {
     ghost kept_by_both: { (a b c : Self) → kept a b → kept b c → kept a c };
 }
 
-/// Puts all the bytes, one piece after the other.
+/// Puts all the bytes, one piece after the other. At Failed the sink took a front of them.
 pub fn put_all<K: Sink>(sink: &mut K, bytes: &[u8]) -> Result<(), SinkFailed>
     ensures rest { K.kept sink.old sink.new }
     ensures bytes { OnOk result (Takes bytes.now (K.taken sink.old) (K.taken sink.new)) }
+    ensures front { OnErr result (TakesFront bytes.now (K.taken sink.old) (K.taken sink.new)) }
     ensures cause { HasCause (K.sink_faults sink.old) (K.sink_faults sink.new) result }
 {
     let mut at = 0;

@@ -1,0 +1,121 @@
+-- A record with one call more, or as it was.
+use Rattle.std.proofs.Common.{◌≡◌, ℕ, Bool, true, false, List, [], ◌∷◌, ◌++◌, length, reverse, if◌then◌else◌, Some, Result, Ok, Err, is_ok, OnOk, OnErr, ⊎_elim, inl, inr, refl, sym, ap, subst, ◌∙◌, arith}
+use Rattle.std.proofs.lemmas.List.{reverse-append}
+use Rattle.std.specs.BTreeMap.{BTreeMap}
+use Rattle.byte_fields.specs.declared.block.Block.{Block}
+use Rattle.blk_device.specs.Calls.{seen_after, MayHold, MayHaveHeld, fewer, put_aside, settled_all}
+use Rattle.blk_device.specs.Contents.{Contents, InDoubt, put}
+use Rattle.blk_device.specs.Crash.{Elapses, Follows, NoMore, IsDurable}
+use Rattle.blk_device.specs.Recorded.{Adds, Stays, seen, left_now, left_since, moment}
+use Rattle.blk_device.specs.Stored.{with_stored}
+use Rattle.blk_device.specs.declared.device.Region.{Region}
+use Rattle.blk_device.specs.declared.device.Region.TheVariants.{Image}
+use Rattle.blk_device.specs.declared.record.Call.{Call}
+use Rattle.blk_device.specs.declared.record.Call.TheVariants.{Wrote, Synced}
+use Rattle.blk_device.specs.declared.record.Record.{Record}
+
+abbrev grown : Bool → Call → List Call → List Call
+grown kept call calls = if kept then call ∷ calls else calls
+
+reversed : (kept : Bool) (call : Call) (calls : List Call) → reverse (if kept then calls ++ call ∷ [] else calls) ≡ grown kept call (reverse calls)
+reversed true call calls = reverse-append calls (call ∷ [])
+reversed false call calls = refl
+
+-- what holds of the old base and the calls with one more holds of the new record
+along : (P : BTreeMap ℕ Block → List Call → Type 0) (kept : Bool) (call : Call) (old new : Record) → Adds kept call old new → P old.base (grown kept call (reverse old.calls.items)) → P new.base (reverse new.calls.items)
+along P kept call old new (base, items) holds =
+    subst (λ (b : BTreeMap ℕ Block). P b (reverse new.calls.items)) (sym base) (subst (P old.base) (sym (ap reverse items ∙ reversed kept call old.calls.items)) holds)
+
+time_after : (kept : Bool) (call : Call) (first : Contents) (calls : List Call) → Elapses (length calls) (length (grown kept call calls)) (MayHaveHeld first calls) (MayHaveHeld first (grown kept call calls)) (MayHold first (grown kept call calls))
+time_after true call first calls = record {
+  later = omega arith;
+  nothing_else = λ t c le since. ⊎_elim (λ now. inr now) (λ past. inl past.1) since;
+  keeps = λ t c le past. inr (le, past);
+}
+time_after false call first calls = record {
+  later = omega arith;
+  nothing_else = λ t c le since. inl since;
+  keeps = λ t c le past. past;
+}
+
+pub added_time : (kept : Bool) (call : Call) (old new : Record) → Adds kept call old new → Elapses (moment old) (moment new) (left_since old) (left_since new) (left_now new)
+added_time kept call old new adds =
+    along (λ b calls. Elapses (moment old) (length calls) (left_since old) (MayHaveHeld (with_stored b) calls) (MayHold (with_stored b) calls)) kept call old new adds (time_after kept call (with_stored old.base) (reverse old.calls.items))
+
+-- a call that adds nothing
+pub stays_time : (old new : Record) → Stays old new → Elapses (moment old) (moment new) (left_since old) (left_since new) (left_now new)
+stays_time old new stays = added_time false (Synced Image) old new stays
+
+pub stays_seen : (old new : Record) → Stays old new → seen new ≡ seen old
+stays_seen old new stays = along (λ b calls. seen_after (with_stored b) calls ≡ seen old) false (Synced Image) old new stays refl
+
+pub stays_crash : (old new : Record) → Stays old new → NoMore (left_now old) (left_now new)
+stays_crash old new stays = along (λ b calls. NoMore (left_now old) (MayHold (with_stored b) calls)) false (Synced Image) old new stays (λ c now. now)
+
+pub stays_follows : (r : Region) (at : ℕ) (old new : Record) → Stays old new → Follows (InDoubt r at) (left_now old) (left_now new)
+stays_follows r at old new stays = along (λ b calls. Follows (InDoubt r at) (left_now old) (MayHold (with_stored b) calls)) false (Synced Image) old new stays (λ c now. (c, now, λ s b out. refl))
+
+-- the same record adds nothing
+pub is_same : (old new : Record) → new ≡ old → Stays old new
+is_same old new same = (ap (λ (r : Record). r.base) same, ap (λ (r : Record). r.calls.items) same)
+
+-- two calls that add nothing
+pub stay_both : (old mid new : Record) → Stays old mid → Stays mid new → Stays old new
+stay_both old mid new first second = (second.0 ∙ first.0, second.1 ∙ first.1)
+
+crash_after_write : (kept : Bool) (r : Region) (at : ℕ) (block : Block) (first : Contents) (calls : List Call) → Follows (InDoubt r at) (MayHold first calls) (MayHold first (grown kept (Wrote r at block) calls))
+crash_after_write true r at block first calls = λ c now. now
+crash_after_write false r at block first calls = λ c now. (c, now, λ s b out. refl)
+
+pub write_crash : (kept : Bool) (r : Region) (at : ℕ) (block : Block) (old new : Record) → Adds kept (Wrote r at block) old new → Follows (InDoubt r at) (left_now old) (left_now new)
+write_crash kept r at block old new adds =
+    along (λ b calls. Follows (InDoubt r at) (left_now old) (MayHold (with_stored b) calls)) kept (Wrote r at block) old new adds (crash_after_write kept r at block (with_stored old.base) (reverse old.calls.items))
+
+doubt_after_write : (kept : Bool) (r : Region) (at : ℕ) (block : Block) (first : Contents) (calls : List Call) → InDoubt r at (seen_after first calls) (seen_after first (grown kept (Wrote r at block) calls))
+doubt_after_write true r at block first calls = put_aside r at block.bytes (seen_after first calls)
+doubt_after_write false r at block first calls = λ s b out. refl
+
+pub write_doubt : (kept : Bool) (r : Region) (at : ℕ) (block : Block) (old new : Record) → Adds kept (Wrote r at block) old new → InDoubt r at (seen old) (seen new)
+write_doubt kept r at block old new adds =
+    along (λ b calls. InDoubt r at (seen old) (seen_after (with_stored b) calls)) kept (Wrote r at block) old new adds (doubt_after_write kept r at block (with_stored old.base) (reverse old.calls.items))
+
+pub write_seen : (r : Region) (at : ℕ) (block : Block) (old new : Record) → Adds true (Wrote r at block) old new → seen new ≡ put r at block.bytes (seen old)
+write_seen r at block old new adds = along (λ b calls. seen_after (with_stored b) calls ≡ put r at block.bytes (seen old)) true (Wrote r at block) old new adds refl
+
+pub failed_seen : (call : Call) (old new : Record) → Adds false call old new → seen new ≡ seen old
+failed_seen call old new adds = along (λ b calls. seen_after (with_stored b) calls ≡ seen old) false call old new adds refl
+
+seen_after_sync : (kept : Bool) (r : Region) (first : Contents) (calls : List Call) → seen_after first (grown kept (Synced r) calls) ≡ seen_after first calls
+seen_after_sync true r first calls = refl
+seen_after_sync false r first calls = refl
+
+pub sync_seen : (kept : Bool) (r : Region) (old new : Record) → Adds kept (Synced r) old new → seen new ≡ seen old
+sync_seen kept r old new adds = along (λ b calls. seen_after (with_stored b) calls ≡ seen old) kept (Synced r) old new adds (seen_after_sync kept r (with_stored old.base) (reverse old.calls.items))
+
+crash_after_sync : (kept : Bool) (r : Region) (first : Contents) (calls : List Call) → NoMore (MayHold first calls) (MayHold first (grown kept (Synced r) calls))
+crash_after_sync true r first calls = fewer first calls r
+crash_after_sync false r first calls = λ c now. now
+
+pub sync_crash : (kept : Bool) (r : Region) (old new : Record) → Adds kept (Synced r) old new → NoMore (left_now old) (left_now new)
+sync_crash kept r old new adds =
+    along (λ b calls. NoMore (left_now old) (MayHold (with_stored b) calls)) kept (Synced r) old new adds (crash_after_sync kept r (with_stored old.base) (reverse old.calls.items))
+
+pub sync_durable : (r : Region) (old new : Record) → Adds true (Synced r) old new → IsDurable r (Some (seen old)) (left_now new)
+sync_durable r old new adds =
+    along (λ b calls. IsDurable r (Some (seen old)) (MayHold (with_stored b) calls)) true (Synced r) old new adds (settled_all r (with_stored old.base) (reverse old.calls.items))
+
+-- after a call that left the record as it was
+pub from_same : (kept : Bool) (call : Call) (old mid new : Record) → mid ≡ old → Adds kept call mid new → Adds kept call old new
+from_same kept call old mid new same adds = subst (λ (r : Record). Adds kept call r new) same adds
+
+pub write_told : {T E : Type 0} (result : Result T E) (kept : Bool) (r : Region) (at : ℕ) (block : Block) (old new : Record) → is_ok result ≡ kept → Adds kept (Wrote r at block) old new → OnOk result (Some (seen new) ≡ Some (put r at block.bytes (seen old)))
+write_told (Ok x) kept r at block old new exact adds = ap (λ (c : Contents). Some c) (write_seen r at block old new (subst (λ (k : Bool). Adds k (Wrote r at block) old new) (sym exact) adds))
+write_told (Err e) kept r at block old new exact adds = tt
+
+pub write_refused : {T E : Type 0} (result : Result T E) (kept : Bool) (call : Call) (old new : Record) → is_ok result ≡ kept → Adds kept call old new → OnErr result (seen new ≡ seen old)
+write_refused (Ok x) kept call old new exact adds = tt
+write_refused (Err e) kept call old new exact adds = failed_seen call old new (subst (λ (k : Bool). Adds k call old new) (sym exact) adds)
+
+pub sync_told : {T E : Type 0} (result : Result T E) (kept : Bool) (r : Region) (old new : Record) → is_ok result ≡ kept → Adds kept (Synced r) old new → OnOk result (IsDurable r (Some (seen old)) (left_now new))
+sync_told (Ok x) kept r old new exact adds = sync_durable r old new (subst (λ (k : Bool). Adds k (Synced r) old new) (sym exact) adds)
+sync_told (Err e) kept r old new exact adds = tt

@@ -1,0 +1,221 @@
+ghost use Rattle.std.specs.Prelude.{◌≡◌, ◌≤◌, ◌↔◌, ℕ, List, Some, false, IsErr, IsTrue, OnErr, OnOk, IfOk, IfSome, Contains, is_ok};
+ghost use Rattle.blk_device.specs.Causes.{HasCause, one_more};
+ghost use Rattle.blk_device.specs.Contents.{InDoubt, Holds, Doubts, map_told, put};
+ghost use Rattle.blk_device.specs.Crash.{Follows, NoMore, Elapses, IsDurable};
+
+use crate::counted::answer;
+use crate::device::{Device, DeviceFailed, Region};
+use crate::record::Record;
+use byte_fields::Block;
+use std::alloc::{AllocError, Global};
+use std::collections::BTreeMap;
+
+/// A device in memory, by its first content and the list of what was asked of it since. Reads,
+/// writes and syncs are numbered from 0 in one count, and those of chosen numbers fail. A write
+/// or a sync for which no memory is left fails too. A call that fails changes no content.
+#[derive(Drop)]
+pub struct MemDevice {
+    log: Record,
+    image: u64,
+    redo: u64,
+    failing: Vec<u64>,
+    asked: u64,
+    faults: u64,
+    reads: u64,
+}
+
+impl MemDevice {
+    ghost use Rattle.std.specs.Prelude.{if◌then◌else◌};
+    ghost use Rattle.blk_device.specs.Contents.{Contents, same_region};
+    ghost use Rattle.blk_device.specs.Memory.{FailsNext, AskedOnce, calls_asked, failing_calls, holds_block, reads_of};
+    ghost use Rattle.blk_device.specs.Stored.{blank, stored, with_stored};
+    ghost use Rattle.blk_device.specs.Tally.{has};
+    ghost use Rattle.blk_device.specs.declared.device.Region.{Region};
+    ghost use Rattle.blk_device.specs.declared.device.Region.TheVariants.{Image};
+
+    fn over(log: Record, image: u64, redo: u64, failing: Vec<u64>) -> Self
+        ensures log { result.log ≡ log }
+        ensures sizes { (result.image ≡ image) × (result.redo ≡ redo) }
+        ensures failing { result.failing.items ≡ failing.items }
+        ensures counts { (result.asked ≡ 0) × (result.faults ≡ 0) × (result.reads ≡ 0) }
+    {
+        MemDevice {
+            log,
+            image,
+            redo,
+            failing,
+            asked: 0,
+            faults: 0,
+            reads: 0,
+        }
+    }
+
+    /// A device of zeros with so many blocks in its two regions, of which the calls of these
+    /// numbers will fail.
+    pub fn new(alloc: Global, image: u64, redo: u64, failing: Vec<u64>) -> Self
+        ensures content { ⟦<MemDevice as Device>⟧.content result ≡ Some blank }
+        ensures quiet { (c : Contents) → ⟦<MemDevice as Device>⟧.may_hold_now result c → c ≡ blank }
+        ensures sizes { (r : Region) → ⟦<MemDevice as Device>⟧.blocks result r ≡ (if same_region r Image then image else redo) }
+        ensures faults { ⟦<MemDevice as Device>⟧.faults result ≡ 0 }
+        ensures reads { ⟦<MemDevice as Device>⟧.reads result ≡ 0 }
+        ensures asked { calls_asked result ≡ 0 }
+        ensures failing { failing_calls result ≡ failing.items }
+        ensures none { (b : ℕ) → holds_block result b ≡ false }
+        ensures unread { (b : ℕ) → reads_of result b ≡ 0 }
+    {
+        MemDevice::over(Record::blank(alloc), image, redo, failing)
+    }
+
+    /// A device whose image holds these blocks, and zeros where there is none; its redo region
+    /// holds zeros, and all is durable. Fails for want of memory.
+    pub fn with_image(
+        alloc: Global,
+        image: u64,
+        redo: u64,
+        blocks: BTreeMap<u64, Block>,
+        failing: Vec<u64>,
+    ) -> Result<Self, AllocError>
+        ensures content { IfOk result (λ d. ⟦<MemDevice as Device>⟧.content d ≡ Some (with_stored blocks)) }
+        ensures quiet { IfOk result (λ d. (c : Contents) → ⟦<MemDevice as Device>⟧.may_hold_now d c → c ≡ with_stored blocks) }
+        ensures sizes { IfOk result (λ d. (r : Region) → ⟦<MemDevice as Device>⟧.blocks d r ≡ (if same_region r Image then image else redo)) }
+        ensures faults { IfOk result (λ d. ⟦<MemDevice as Device>⟧.faults d ≡ 0) }
+        ensures reads { IfOk result (λ d. ⟦<MemDevice as Device>⟧.reads d ≡ 0) }
+        ensures asked { IfOk result (λ d. calls_asked d ≡ 0) }
+        ensures failing { IfOk result (λ d. failing_calls d ≡ failing.items) }
+        ensures there { IfOk result (λ d. (b : ℕ) → holds_block d b ≡ has blocks b) }
+        ensures unread { IfOk result (λ d. (b : ℕ) → reads_of d b ≡ 0) }
+    {
+        let log = Record::over(alloc, blocks)?;
+        Ok(MemDevice::over(log, image, redo, failing))
+    }
+
+    /// The image's blocks as they read now.
+    pub fn into_image(self) -> BTreeMap<u64, Block>
+        ensures { IfSome (⟦<MemDevice as Device>⟧.content self) (λ c. (b : ℕ) → stored result b ≡ c Image b) }
+    {
+        self.log.into_image()
+    }
+
+    /// How often an image read of this block answered Ok since it was first written, or since
+    /// the device was made with it; 0 for any other block. Stays at 2^64 - 1.
+    pub fn reads_at(&self, at: u64) -> u64
+        ensures count { result ≡ reads_of self.now at }
+        ensures none { holds_block self.now at ≡ false → result ≡ 0 }
+    {
+        self.log.reads_of(at)
+    }
+
+    /// How often a call has failed.
+    pub fn fault_count(&self) -> u64
+        ensures { result ≡ ⟦<MemDevice as Device>⟧.faults self.now }
+    {
+        self.faults
+    }
+
+    // Counts a call, and fails it if its number is one of those that fail.
+    fn ask(&mut self) -> Result<(), DeviceFailed>
+        ensures log { self.new.log ≡ self.old.log }
+        ensures asked { AskedOnce self.old self.new }
+        ensures sizes { (self.new.image ≡ self.old.image) × (self.new.redo ≡ self.old.redo) }
+        ensures reads { self.new.reads ≡ self.old.reads }
+        ensures cause { HasCause self.old.faults self.new.faults result }
+        ensures fails { IsErr result ↔ FailsNext self.old }
+    {
+        let call = self.asked;
+        self.asked = self.asked.saturating_add(1);
+        let is_good = !self.failing.contains(&call);
+        answer(is_good, &mut self.faults)
+    }
+}
+
+impl Device for MemDevice {
+    ghost use Rattle.std.specs.Prelude.{reverse};
+    ghost use Rattle.blk_device.specs.Calls.{held_now, only_held, seen_now, seen_whole};
+    ghost use Rattle.blk_device.specs.Memory.{FailsNext, AskedOnce, TalliesRead, TalliesWrite, SameTally, size_of};
+    ghost use Rattle.blk_device.specs.Recorded.{seen, left_now, moment, left_since};
+    ghost use Rattle.blk_device.specs.Stored.{with_stored, stored_whole};
+
+    ghost content = { λ d. Some (seen d.log) };
+
+    ghost may_hold_now = { λ d. left_now d.log };
+
+    ghost clock = { λ d. moment d.log };
+
+    ghost may_have_held_since = { λ d. left_since d.log };
+
+    ghost faults = { λ d. d.faults };
+
+    ghost reads = { λ d. d.reads };
+
+    ghost blocks = { size_of };
+
+    ghost only_now = { λ d c held. only_held (with_stored d.log.base) (reverse d.log.calls.items) c held };
+
+    ghost counts_now = { λ d t c before now. held_now (with_stored d.log.base) (reverse d.log.calls.items) t c now };
+
+    ghost told_now = { λ d. seen_now (with_stored d.log.base) (reverse d.log.calls.items) };
+
+    ghost whole_blocks = { λ d. seen_whole (with_stored d.log.base) (stored_whole d.log.base) (reverse d.log.calls.items) };
+
+    fn size(&self, region: Region) -> u64 {
+        match region {
+            Region::Image => self.image,
+            Region::Redo => self.redo,
+        }
+    }
+
+    /// Fails exactly where this call's number is one of those that fail.
+    fn read(&mut self, region: Region, at: u64, into: &mut Block) -> Result<(), DeviceFailed>
+        ensures bytes { OnOk result (Holds region at into.new.bytes (Some (seen self.old.log))) }
+        ensures same { Some (seen self.new.log) ≡ Some (seen self.old.log) }
+        ensures crash { NoMore (left_now self.old.log) (left_now self.new.log) }
+        ensures time { Elapses (moment self.old.log) (moment self.new.log) (left_since self.old.log) (left_since self.new.log) (left_now self.new.log) }
+        ensures sizes { size_of self.new ≡ size_of self.old }
+        ensures cause { HasCause self.old.faults self.new.faults result }
+        ensures reads { self.new.reads ≡ one_more self.old.reads }
+        ensures fails { IsErr result ↔ FailsNext self.old }
+        ensures asked { AskedOnce self.old self.new }
+        ensures tally { TalliesRead (is_ok result) region at self.old self.new }
+    {
+        self.reads = self.reads.saturating_add(1);
+        self.ask()?;
+        *into = self.log.latest(region, at);
+        self.log.count_read(region, at);
+        Ok(())
+    }
+
+    fn write(&mut self, region: Region, at: u64, from: &Block) -> Result<(), DeviceFailed>
+        ensures written { OnOk result (Some (seen self.new.log) ≡ Some (put region at from.now.bytes (seen self.old.log))) }
+        ensures doubt { InDoubt region at (seen self.old.log) (seen self.new.log) }
+        ensures crash { Follows (InDoubt region at) (left_now self.old.log) (left_now self.new.log) }
+        ensures time { Elapses (moment self.old.log) (moment self.new.log) (left_since self.old.log) (left_since self.new.log) (left_now self.new.log) }
+        ensures sizes { size_of self.new ≡ size_of self.old }
+        ensures cause { HasCause self.old.faults self.new.faults result }
+        ensures reads { self.new.reads ≡ self.old.reads }
+        ensures fails { FailsNext self.old → IsErr result }
+        ensures asked { AskedOnce self.old self.new }
+        ensures unwritten { OnErr result (seen self.new.log ≡ seen self.old.log) }
+        ensures tally { TalliesWrite (is_ok result) region at self.old self.new }
+    {
+        self.ask()?;
+        let is_kept = self.log.write(region, at, from);
+        answer(is_kept, &mut self.faults)
+    }
+
+    fn sync(&mut self, region: Region) -> Result<(), DeviceFailed>
+        ensures durable { OnOk result (IsDurable region (Some (seen self.old.log)) (left_now self.new.log)) }
+        ensures same { Some (seen self.new.log) ≡ Some (seen self.old.log) }
+        ensures crash { NoMore (left_now self.old.log) (left_now self.new.log) }
+        ensures time { Elapses (moment self.old.log) (moment self.new.log) (left_since self.old.log) (left_since self.new.log) (left_now self.new.log) }
+        ensures sizes { size_of self.new ≡ size_of self.old }
+        ensures cause { HasCause self.old.faults self.new.faults result }
+        ensures reads { self.new.reads ≡ self.old.reads }
+        ensures fails { FailsNext self.old → IsErr result }
+        ensures asked { AskedOnce self.old self.new }
+        ensures tally { SameTally self.old self.new }
+    {
+        self.ask()?;
+        let is_kept = self.log.sync(region);
+        answer(is_kept, &mut self.faults)
+    }
+}

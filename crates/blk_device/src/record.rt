@@ -1,0 +1,158 @@
+// What was asked of a device in memory, and what its blocks hold.
+ghost use Rattle.std.specs.Prelude.{◌≡◌, ◌++◌, [], ◌∷◌, ℕ, true, false, IfOk, reverse, if◌then◌else◌};
+ghost use Rattle.blk_device.specs.Calls.{seen_after};
+ghost use Rattle.blk_device.specs.Stored.{stored, with_stored};
+ghost use Rattle.blk_device.specs.declared.device.Region.TheVariants.{Image, Redo};
+ghost use Rattle.blk_device.specs.declared.record.Call.TheVariants.{Wrote, Synced};
+
+use crate::device::Region;
+use crate::tally::{Tally, block_or_zeros};
+use byte_fields::Block;
+use std::alloc::{AllocError, Global};
+use std::collections::BTreeMap;
+
+/// What changed a device, or made it durable.
+#[derive(Clone, Copy, Debug, Drop)]
+pub enum Call {
+    Wrote(Region, u64, Block),
+    Synced(Region),
+}
+
+/// The image that a device began with, the calls since then, the first one first, and the
+/// blocks as they now read.
+#[derive(Drop)]
+pub struct Record {
+    base: BTreeMap<u64, Block>,
+    calls: Vec<Call>,
+    image: Tally,
+    redo: BTreeMap<u64, Block>,
+    ghost image_is: { (b : ℕ) → stored image.blocks b ≡ seen_after (with_stored base) (reverse calls.items) Image b },
+    ghost redo_is: { (b : ℕ) → stored redo b ≡ seen_after (with_stored base) (reverse calls.items) Redo b },
+}
+
+impl Record {
+    ghost use Rattle.blk_device.specs.Recorded.{Adds, Stays, KeepsWritten, CountsRead, KeepsCounts, keeps_block, reads_kept};
+    ghost use Rattle.blk_device.specs.Tally.{has};
+
+    /// A record of no calls, over zeros.
+    pub fn blank(alloc: Global) -> Self
+        ensures calls { result.calls.items ≡ [] }
+        ensures base { result.base.entries ≡ [] }
+        ensures none { (b : ℕ) → keeps_block result b ≡ false }
+        ensures unread { (b : ℕ) → reads_kept result b ≡ 0 }
+    {
+        Record {
+            base: BTreeMap::new(alloc),
+            calls: Vec::new(alloc),
+            image: Tally::new(alloc),
+            redo: BTreeMap::new(alloc),
+        }
+    }
+
+    /// An image of these blocks, of which nothing was asked yet, over a redo region of zeros.
+    pub fn over(alloc: Global, blocks: BTreeMap<u64, Block>) -> Result<Self, AllocError>
+        ensures calls { IfOk result (λ r. r.calls.items ≡ []) }
+        ensures base { IfOk result (λ r. r.base.entries ≡ blocks.entries) }
+        ensures there { IfOk result (λ r. (b : ℕ) → keeps_block r b ≡ has blocks b) }
+        ensures unread { IfOk result (λ r. (b : ℕ) → reads_kept r b ≡ 0) }
+    {
+        let image = Tally::copy_of(alloc, &blocks)?;
+        Ok(Record {
+            base: blocks,
+            calls: Vec::new(alloc),
+            image,
+            redo: BTreeMap::new(alloc),
+        })
+    }
+
+    /// What was last written there, or what stood there at first.
+    pub fn latest(&self, region: Region, at: u64) -> Block
+        ensures { result.bytes ≡ seen_after (with_stored self.now.base) (reverse self.now.calls.items) region at }
+    {
+        match region {
+            Region::Image => self.image.get(at),
+            Region::Redo => block_or_zeros(&self.redo, at),
+        }
+    }
+
+    /// Counts a read of an image block that is kept.
+    pub fn count_read(&mut self, region: Region, at: u64)
+        ensures calls { Stays self.old self.new }
+        ensures counts { CountsRead true region at self.old self.new }
+    {
+        match region {
+            Region::Image => self.image.count_read(at),
+            Region::Redo => (),
+        }
+    }
+
+    /// How often an image block was read; 0 where none is kept.
+    pub fn reads_of(&self, at: u64) -> u64
+        ensures count { result ≡ reads_kept self.now at }
+        ensures none { keeps_block self.now at ≡ false → result ≡ 0 }
+    {
+        self.image.reads_of(at)
+    }
+
+    /// The image's blocks as they read now.
+    pub fn into_image(self) -> BTreeMap<u64, Block>
+        ensures { (b : ℕ) → stored result b ≡ seen_after (with_stored self.base) (reverse self.calls.items) Image b }
+    {
+        self.image.into_blocks()
+    }
+
+    fn write_image(&mut self, at: u64, from: &Block) -> bool
+        ensures calls { Adds result (Wrote Image at from.now) self.old self.new }
+        ensures counts { KeepsWritten result Image at self.old self.new }
+    {
+        if self
+            .calls
+            .push(Call::Wrote(Region::Image, at, *from))
+            .is_err()
+        {
+            return false;
+        }
+        if !self.image.put(at, from) {
+            self.calls.pop();
+            return false;
+        }
+        true
+    }
+
+    fn write_redo(&mut self, at: u64, from: &Block) -> bool
+        ensures calls { Adds result (Wrote Redo at from.now) self.old self.new }
+        ensures counts { KeepsCounts self.old self.new }
+    {
+        if self
+            .calls
+            .push(Call::Wrote(Region::Redo, at, *from))
+            .is_err()
+        {
+            return false;
+        }
+        if self.redo.insert(at, *from).is_err() {
+            self.calls.pop();
+            return false;
+        }
+        true
+    }
+
+    /// Whether the write could be kept.
+    pub fn write(&mut self, region: Region, at: u64, from: &Block) -> bool
+        ensures calls { Adds result (Wrote region at from.now) self.old self.new }
+        ensures counts { KeepsWritten result region at self.old self.new }
+    {
+        match region {
+            Region::Image => self.write_image(at, from),
+            Region::Redo => self.write_redo(at, from),
+        }
+    }
+
+    /// Whether the sync could be kept.
+    pub fn sync(&mut self, region: Region) -> bool
+        ensures calls { Adds result (Synced region) self.old self.new }
+        ensures counts { KeepsCounts self.old self.new }
+    {
+        self.calls.push(Call::Synced(region)).is_ok()
+    }
+}

@@ -1,0 +1,142 @@
+use super::*;
+use byte_fields::Block;
+use std::alloc::Global;
+use std::fs::{File, Files, OpenFile};
+use std::test::Fail;
+use std::{fs, io};
+
+fn block_of(byte: u8) -> Block {
+    let mut block = Block::zeroed();
+    block.bytes[0] = byte;
+    block.bytes[4095] = byte;
+    block
+}
+
+// What reads there begin and end with.
+fn ends_at<D: Device>(device: &mut D, region: Region, at: u64) -> Option<(u8, u8)> {
+    let mut block = block_of(255);
+    if at < device.size(region) && device.read(region, at, &mut block).is_ok() {
+        return Some((block.bytes[0], block.bytes[4095]));
+    }
+    None
+}
+
+fn write_at<D: Device>(device: &mut D, region: Region, at: u64, byte: u8) -> bool {
+    at < device.size(region) && device.write(region, at, &block_of(byte)).is_ok()
+}
+
+fn sync_of<D: Device>(device: &mut D, region: Region) -> bool {
+    device.sync(region).is_ok()
+}
+
+#[test]
+fn a_new_device_reads_as_zeros(rt: HostRuntime) {
+    let alloc = rt.alloc();
+    let mut device = MemDevice::new(alloc, 5, 3, Vec::new(alloc));
+    let sizes = [device.size(Region::Image), device.size(Region::Redo)];
+    let image = ends_at(&mut device, Region::Image, 4);
+    let redo = ends_at(&mut device, Region::Redo, 2);
+    assert_eq!(rt; sizes, [5, 3]);
+    assert_eq!(rt; [image, redo], [Some((0, 0)), Some((0, 0))]);
+}
+
+fn written(alloc: Global) -> MemDevice {
+    let mut device = MemDevice::new(alloc, 5, 3, Vec::new(alloc));
+    write_at(&mut device, Region::Image, 2, 7);
+    write_at(&mut device, Region::Redo, 1, 8);
+    sync_of(&mut device, Region::Image);
+    device
+}
+
+#[test]
+fn reads_of_an_image_block_are_counted(rt: HostRuntime) {
+    let mut device = written(rt.alloc());
+    let once = ends_at(&mut device, Region::Image, 2);
+    let twice = ends_at(&mut device, Region::Image, 2);
+    let redo = ends_at(&mut device, Region::Redo, 1);
+    let blank = ends_at(&mut device, Region::Image, 1);
+    assert_eq!(rt;
+        [once, twice, redo, blank],
+        [Some((7, 7)), Some((7, 7)), Some((8, 8)), Some((0, 0))]
+    );
+    assert_eq!(rt; [device.reads_at(2), device.reads_at(1)], [2, 0]);
+}
+
+#[test]
+fn a_written_image_is_handed_to_a_second_device(rt: HostRuntime) -> Result<(), Fail> {
+    let alloc = rt.alloc();
+    let blocks = written(alloc).into_image();
+    let mut second = MemDevice::with_image(alloc, 6, 2, blocks, Vec::new(alloc))?;
+    let image = ends_at(&mut second, Region::Image, 2);
+    let redo = ends_at(&mut second, Region::Redo, 1);
+    assert_eq!(rt; [image, redo], [Some((7, 7)), Some((0, 0))]);
+    assert_eq!(rt; second.reads_at(2), 1);
+    Ok(())
+}
+
+#[test]
+fn only_the_chosen_calls_fail(rt: HostRuntime) -> Result<(), Fail> {
+    let alloc = rt.alloc();
+    let failing = [1u64, 3, 4].to_vec(alloc)?;
+    let mut device = MemDevice::new(alloc, 2, 2, failing);
+    let first = write_at(&mut device, Region::Image, 0, 1);
+    let second = write_at(&mut device, Region::Image, 0, 2);
+    let third = ends_at(&mut device, Region::Image, 0);
+    let fourth = ends_at(&mut device, Region::Image, 0);
+    let fifth = sync_of(&mut device, Region::Image);
+    let sixth = sync_of(&mut device, Region::Image);
+    assert_eq!(rt; [first, second, fifth, sixth], [true, false, false, true]);
+    assert_eq!(rt; [third, fourth], [Some((1, 1)), None]);
+    Ok(())
+}
+
+fn fresh_file<R: Files>(files: &R, name: &str, blocks: u64) -> io::Result<R::File> {
+    let file = File::options()
+        .read(true)
+        .write(true)
+        .create(true)
+        .truncate(true)
+        .open(files, name)?;
+    file.set_len(blocks.saturating_mul(4096))?;
+    Ok(file)
+}
+
+#[test]
+fn files_keep_what_was_written(rt: HostRuntime) -> Result<(), Fail> {
+    let image = fresh_file(&rt, "blocks.image", 3).map_err(|_| "no image file")?;
+    let redo = fresh_file(&rt, "blocks.redo", 2).map_err(|_| "no redo file")?;
+    let mut device = FileDevice::new(rt.alloc(), image, Some(redo), 4, 2);
+    let image_done = write_at(&mut device, Region::Image, 2, 9)
+        && sync_of(&mut device, Region::Image);
+    let redo_done = write_at(&mut device, Region::Redo, 0, 6) && sync_of(&mut device, Region::Redo);
+    let last = ends_at(&mut device, Region::Image, 2);
+    let beyond = ends_at(&mut device, Region::Image, 3);
+    let first = ends_at(&mut device, Region::Redo, 0);
+    assert!(rt; image_done && redo_done);
+    assert_eq!(rt; [last, beyond, first], [Some((9, 9)), None, Some((6, 6))]);
+    let image = fs::read(&rt, "blocks.image").map_err(|_| "no image file")?;
+    let redo = fs::read(&rt, "blocks.redo").map_err(|_| "no redo file")?;
+    let found = [
+        image.get(8191),
+        image.get(8192),
+        redo.get(0),
+        redo.get(4095),
+    ];
+    assert_eq!(rt; found, [Some(&0), Some(&9), Some(&6), Some(&6)]);
+    fs::remove_file(&rt, "blocks.image").map_err(|_| "not removed")?;
+    fs::remove_file(&rt, "blocks.redo").map_err(|_| "not removed")?;
+    Ok(())
+}
+
+#[test]
+fn without_a_redo_file_the_region_is_zeros_in_memory(rt: HostRuntime) -> Result<(), Fail> {
+    let image = fresh_file(&rt, "alone.image", 1).map_err(|_| "no image file")?;
+    let mut device = FileDevice::new(rt.alloc(), image, None, 1, 162);
+    let before = ends_at(&mut device, Region::Redo, 161);
+    let done = write_at(&mut device, Region::Redo, 161, 5) && sync_of(&mut device, Region::Redo);
+    let after = ends_at(&mut device, Region::Redo, 161);
+    assert!(rt; done);
+    assert_eq!(rt; [before, after], [Some((0, 0)), Some((5, 5))]);
+    fs::remove_file(&rt, "alone.image").map_err(|_| "not removed")?;
+    Ok(())
+}
