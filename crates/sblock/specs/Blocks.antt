@@ -1,5 +1,5 @@
 -- One leaf: its tests in their order, its header and its records.
-use Rattle.std.specs.Prelude.{ℕ, zero, suc, ◌+◌, ◌-◌, ◌==◌, nat_le, Bool, true, ◌&&◌, if◌then◌else◌, List, [], ◌∷◌, Option, Some, None, Result, Ok, Err}
+use Rattle.std.specs.Prelude.{◌≡◌, ⊤, ℕ, zero, suc, ◌+◌, ◌-◌, ◌==◌, nat_le, Bool, true, ◌&&◌, if◌then◌else◌, List, [], ◌∷◌, Option}
 use Rattle.byte_fields.specs.Below.{all_below}
 use Rattle.byte_fields.specs.Checksum.{has_sum}
 use Rattle.byte_fields.specs.Fields.{field, has_uuid}
@@ -63,3 +63,18 @@ module _ {R : Type 0} (form : Form R) where
   -- the records of a leaf
   unfoldable pub records_of : List ℕ → List R
   records_of bytes = records_from (numrecs bytes) bytes 0
+
+  -- the record comes before the first of these
+  abbrev pub IsAhead : R → List R → Type 0
+  IsAhead r [] = ⊤
+  IsAhead r (s ∷ rs) = form.is_before r s ≡ true
+
+  -- each record comes before the next one
+  abbrev pub IsRising : List R → Type 0
+  IsRising [] = ⊤
+  IsRising (r ∷ rs) = IsAhead r rs × IsRising rs
+
+  -- each record's numbers are in range
+  abbrev pub AllInside : Bounds → List R → Type 0
+  AllInside bounds [] = ⊤
+  AllInside bounds (r ∷ rs) = (form.is_in_range bounds r ≡ true) × AllInside bounds rs

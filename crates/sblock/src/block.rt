@@ -2,7 +2,8 @@ use crate::kind::Kind;
 use thiserror::Error;
 
 /// Why a block of a short-form btree is refused: the first of its ordered tests that fails
-/// (XFS Algorithms and Data Structures, "Short Format B+trees").
+/// (XFS Algorithms and Data Structures, "Short Format B+trees"). No test of a leaf answers Key,
+/// which is of the keys in nodes, or Later, which is of records in a form that isn't built.
 #[derive(Clone, Copy, Debug, PartialEq, Eq, Error)]
 pub enum BlockFault {
     #[error("magic")]
@@ -42,9 +43,10 @@ pub struct Bounds {
     pub agblklog: u8,
 }
 
-/// What a block is to be. `level` is 0 for a leaf, `left` the group-relative block before it on
-/// its level (all ones for none), `place` the number of its blkno field (in 512-byte units from
-/// the start of the device), `group` its owner field.
+/// What a block is to be. `level` is 0 for a leaf, `root` allows fewer records than a leaf has
+/// beside others, `left` is the group-relative block before it on its level (all ones for none),
+/// `place` its blkno field (in 512-byte units from the start of the device), `group` its owner
+/// field (XFS Algorithms and Data Structures, "Short Format B+trees").
 #[derive(Clone, Copy, Debug, PartialEq, Eq)]
 pub struct Want {
     pub kind: Kind,
@@ -58,7 +60,8 @@ pub struct Want {
 }
 
 /// The fields of a block's header that its reader goes on with; `left` and `right` are
-/// group-relative block numbers, all ones for none.
+/// group-relative block numbers, all ones for none
+/// (XFS Algorithms and Data Structures, "Short Format B+trees").
 #[derive(Clone, Copy, Debug, PartialEq, Eq)]
 pub struct Header {
     pub level: u8,

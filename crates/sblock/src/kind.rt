@@ -6,7 +6,8 @@ ghost use Rattle.sblock.specs.Kinds.{magic_of, leaf_most_of, leaf_least_of};
 use crate::block::Bounds;
 
 /// The six kinds of short-form btree of an allocation group: free space by start and by count,
-/// reverse mapping, reference counts, inode chunks, chunks with free inodes.
+/// reverse mapping, reference counts, inode chunks, chunks with free inodes
+/// (XFS Algorithms and Data Structures, "Allocation Groups").
 #[derive(Clone, Copy, Debug, PartialEq, Eq)]
 pub enum Kind {
     Bno,
@@ -60,6 +61,7 @@ impl Kind {
 /// A kind of tree: its records, their order and their range. Record `i` of a leaf is counted
 /// from 0.
 pub trait RecKind {
+    /// Its records.
     type Rec: Copy;
 
     /// What the kind means.

@@ -3,6 +3,8 @@
 
 mod block;
 mod kind;
+mod leaf;
 
 pub use block::{BlockFault, Bounds, Header, Want};
 pub use kind::{Kind, RecKind};
+pub use leaf::{leaf_records, verify};
