@@ -1,0 +1,4 @@
+pub mod Operation
+pub mod Runs
+pub mod Sets
+pub mod Stretches
