@@ -1,14 +1,15 @@
 use crate::records::FreeRec;
 use sblock::{BlockFault, Kind};
 
-/// What is checked at once: here the free space btrees of a group.
+/// Trees of a group that are checked together and get one verdict. Only the free space is judged
+/// yet; the reverse mappings are named where it waits for them.
 #[derive(Clone, Copy, Debug, PartialEq, Eq)]
 pub enum Unit {
     Rmap,
     Free,
 }
 
-/// A record of an index, by its kind.
+/// A record of an index, by its kind. Only the free space btree by start is judged yet.
 #[derive(Clone, Copy, Debug, PartialEq, Eq)]
 pub enum AnyRec {
     Bno(FreeRec),

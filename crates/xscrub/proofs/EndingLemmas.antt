@@ -1,0 +1,205 @@
+-- A journal that was told, and the line behind it.
+use Rattle.std.proofs.Common.{◌≡◌, ◌≤◌, ℕ, List, [], ◌∷◌, ◌++◌, Bool, true, false, cond, IfSome, take, drop, Option, Some, None, ◌⊎◌, inl, inr, refl, sym, ◌∙◌, ap, subst, append-nil, arith}
+use Rattle.std.proofs.lemmas.List.{take-append-drop}
+use Rattle.blk_device.specs.Causes.{Rose}
+use Rattle.blk_device.specs.Taken.{Takes, TakesFront, IsFront}
+use Rattle.blk_device.proofs.TakenLemmas.{then, whole_front, takes_nothing}
+use Rattle.xscrub.proofs.ShownLemmas.{told_nothing}
+use Rattle.std.specs.List.{list_all}
+use Rattle.xscrub.specs.Ending.{IsShown, IsToldOf, IsFoundBy, Decides, EndsFor, HasCause, IsSettled, IsOutcome, IsAsked, IsOfImage, IsWorded, EndsByWords}
+use Rattle.xscrub.specs.Command.{Job, check_of, unbuilt, usage}
+use Rattle.xscrub.specs.Stored.{Request}
+use Rattle.xscrub.specs.Outcome.{Outcome, is_calm, is_image_line, judged_status, judged_outcome, ended_outcome, outcome_of}
+use Rattle.xscrub.specs.declared.ending.Finding.{Finding}
+use Rattle.xscrub.specs.declared.ending.Finding.TheVariants as findings
+use Rattle.xscrub.specs.Report.{report_of, is_fixed}
+use Rattle.xscrub.specs.Shown.{IsLineShown, EndsWith, last_text}
+use Rattle.xscrub.specs.declared.ending.Status.{Status}
+use Rattle.xscrub.specs.declared.ending.Status.TheVariants as statuses
+use Rattle.xscrub.specs.declared.entry.Entry.{Entry}
+use Rattle.xscrub.specs.declared.report.LastLine.{LastLine}
+use Rattle.xscrub.specs.declared.report.LastLine.TheVariants as lines
+
+-- a journal that was told whole, without a line behind it
+pub shown_alone : (journal : List Entry) (f g : ℕ) (a b : Option (List ℕ)) → g ≡ f → Takes (report_of journal) a b → IsShown journal None f g a b
+shown_alone journal f g a b calm takes = record {
+  later = omega (arith, calm);
+  whole = λ _. subst (λ (text : List ℕ). Takes text a b) (sym (append-nil (report_of journal))) takes;
+  fronts = (b, (whole_front (report_of journal) a b takes, whole_front [] b b (takes_nothing b b refl)));
+}
+
+-- a journal that was told whole, and a line
+pub shown_then : (journal : List Entry) (last : Option LastLine) (f g h : ℕ) (a b c : Option (List ℕ)) → g ≡ f → Takes (report_of journal) a b
+    → IsLineShown (last_text last) g h b c → IsShown journal last f h a c
+shown_then journal last f g h a b c calm takes line = record {
+  later = omega (arith, calm, line.later);
+  whole = λ fine. then (report_of journal) (last_text last) a b c takes (line.whole (λ rose. fine (subst (λ (n : ℕ). Rose n h) calm rose)));
+  fronts = (b, (whole_front (report_of journal) a b takes, line.front));
+}
+
+-- a journal of which only a front was told, and a line
+pub shown_some : (journal : List Entry) (last : Option LastLine) (f g h : ℕ) (a b c : Option (List ℕ)) → Rose f g → TakesFront (report_of journal) a b
+    → IsLineShown (last_text last) g h b c → f ≤ g → IsShown journal last f h a c
+shown_some journal last f g h a b c rose front line le = record {
+  later = omega (arith, le, line.later);
+  whole = λ fine. absurd (fine (omega (arith, rose, line.later)));
+  fronts = (b, (front, line.front));
+}
+
+-- a line without a journal
+pub shown_line : (journal : List Entry) (last : Option LastLine) (f g : ℕ) (a b : Option (List ℕ)) → journal ≡ [] → IsLineShown (last_text last) f g a b → IsShown journal last f g a b
+shown_line journal last f g a b none line =
+    shown_then journal last f f g a a b refl (subst (λ (js : List Entry). Takes (report_of js) a a) (sym none) (told_nothing a a refl)) line
+
+-- a journal for which there was no more memory
+pub told_memory : (journal cut : List Entry) (n : ℕ) (told : Outcome) (f g : ℕ) → cut ≡ take n journal → EndsWith statuses.Memory cut lines.Memory told.status told.journal told.last
+    → IsToldOf (judged_outcome journal) f g told
+told_memory journal cut n told f g is (same, inl ends) = inr (inr (ends.0, ends.1, (drop n journal, sym (ap (λ (js : List Entry). js ++ drop n journal) (same ∙ is) ∙ take-append-drop n journal)), tt))
+told_memory journal cut n told f g is (same, inr ends) = inr (inr (ends.0, ends.1, (drop n journal, sym (ap (λ (js : List Entry). js ++ drop n journal) (same ∙ is) ∙ take-append-drop n journal)), tt))
+
+-- ---- from what was found to what is told
+
+-- the cause of a status, along the status
+at_status : (told : Outcome) (s : Status) (h h' d d' k k' : ℕ) → told.status ≡ s → EndsFor s told h h' d d' k k' → HasCause told h h' d d' k k'
+at_status told s h h' d d' k k' is ends = subst (λ (t : Status). EndsFor t told h h' d d' k k') (sym is) ends
+
+judged_ends : (journal : List Entry) (h h' d d' k k' : ℕ) → h' ≡ h → d' ≡ d → k' ≡ k → HasCause (judged_outcome journal) h h' d d' k k'
+judged_ends journal h h' d d' k k' i j l =
+    elim (both_ways (list_all is_calm journal)) [
+      | inl calm ↦ at_status (judged_outcome journal) statuses.Clean h h' d d' k k' (ap (λ (b : Bool). cond b statuses.Clean statuses.Faulty) calm) (calm, refl, i, j, l)
+      | inr loud ↦ at_status (judged_outcome journal) statuses.Faulty h h' d d' k k' (ap (λ (b : Bool). cond b statuses.Clean statuses.Faulty) loud) (loud, refl, i, j, l)
+    ]
+  where
+    both_ways : (b : Bool) → (b ≡ true) ⊎ (b ≡ false)
+    both_ways true = inl refl
+    both_ways false = inr refl
+
+found_ends : (finding : Finding) (h h' d d' k k' : ℕ) → IsFoundBy finding h h' d d' → ((outcome_of finding).last ≡ None → k' ≡ k) → HasCause (outcome_of finding) h h' d d' k k'
+found_ends (findings.Judged journal) h h' d d' k k' cause calm = judged_ends journal.items h h' d d' k k' cause.0 cause.1 (calm refl)
+found_ends (findings.Refused line) h h' d d' k k' cause calm = (line, refl)
+found_ends findings.Usage h h' d d' k k' cause calm = refl
+found_ends findings.DeviceFailed h h' d d' k k' cause calm = inl (refl, cause)
+found_ends findings.HostFailed h h' d d' k k' cause calm = inr (refl, inl cause)
+found_ends findings.Memory h h' d d' k k' cause calm = refl
+
+pub told_cause : (finding : Finding) (told : Outcome) (h h' d d' k k' : ℕ) → IsFoundBy finding h h' d d' → IsToldOf (outcome_of finding) k k' told → HasCause told h h' d d' k k'
+told_cause finding told h h' d d' k k' cause (inl same) =
+    subst (λ (o : Outcome). HasCause o h h' d d' k k') (sym same.0) (found_ends finding h h' d d' k k' cause same.1)
+told_cause finding told h h' d d' k k' cause (inr (inl failed)) =
+    subst (λ (o : Outcome). HasCause o h h' d d' k k') (sym failed.0) (inr (refl, inr failed.1))
+told_cause finding told h h' d d' k k' cause (inr (inr memory)) = at_status told statuses.Memory h h' d d' k k' memory.0 memory.1
+
+-- a stopped run isn't settled
+unsettled : (s t : Status) → s ≡ t → (IsSettled t → ⊥) → {P : Type 0} → IsSettled s → P
+unsettled s t is stops settled = absurd (stops (subst IsSettled is settled))
+
+whole_outcome : (told o : Outcome) → told ≡ o → IsOutcome told o
+whole_outcome told o same = record { front = ([], ap (λ (q : Outcome). q.journal) (sym same) ∙ sym (append-nil told.journal)); whole = λ _. same }
+
+stopped_outcome : (told o : Outcome) (s : Status) → told.status ≡ s → (IsSettled s → ⊥) → IsFront told.journal o.journal → IsOutcome told o
+stopped_outcome told o s is stops front = record { front = front; whole = unsettled told.status s is stops }
+
+-- what is told of a finding that nothing stopped
+told_same : (told found o : Outcome) (k k' : ℕ) → found ≡ o → IsToldOf found k k' told → IsOutcome told o
+told_same told found o k k' same (inl whole) = whole_outcome told o (whole.0 ∙ same)
+told_same told found o k k' same (inr (inl failed)) =
+    stopped_outcome told o statuses.Failed (ap (λ (q : Outcome). q.status) failed.0) (λ h. h)
+    ([], ap (λ (q : Outcome). q.journal) (sym same) ∙ ap (λ (q : Outcome). q.journal) (sym failed.0) ∙ sym (append-nil told.journal))
+told_same told found o k k' same (inr (inr memory)) =
+    stopped_outcome told o statuses.Memory memory.0 (λ h. h) (memory.2.0, ap (λ (q : Outcome). q.journal) (sym same) ∙ memory.2.1)
+
+none_left : (xs rest : List Entry) → [] ≡ xs ++ rest → xs ≡ []
+none_left [] rest e = refl
+none_left (x ∷ xs) rest e = cc
+
+front_of_none : (told o : Outcome) → told.journal ≡ [] → IsFront told.journal o.journal
+front_of_none told o none = (o.journal, ap (λ (js : List Entry). js ++ o.journal) (sym none))
+
+-- what is told of a run that was stopped before its first entry
+told_stop : (told o : Outcome) (s : Status) (line : LastLine) (k k' : ℕ) → (IsSettled s → ⊥) → IsToldOf (ended_outcome s line) k k' told → IsOutcome told o
+told_stop told o s line k k' stops (inl whole) =
+    stopped_outcome told o s (ap (λ (q : Outcome). q.status) whole.0) stops (front_of_none told o (ap (λ (q : Outcome). q.journal) whole.0))
+told_stop told o s line k k' stops (inr (inl failed)) =
+    stopped_outcome told o statuses.Failed (ap (λ (q : Outcome). q.status) failed.0) (λ h. h) (front_of_none told o (ap (λ (q : Outcome). q.journal) failed.0))
+told_stop told o s line k k' stops (inr (inr memory)) =
+    stopped_outcome told o statuses.Memory memory.0 (λ h. h) (front_of_none told o (none_left told.journal memory.2.0 memory.2.1))
+
+pub told_decided : (decided : Option Outcome) (finding : Finding) (told : Outcome) (k k' : ℕ) → Decides decided finding → IsToldOf (outcome_of finding) k k' told → IfSome decided (IsOutcome told)
+told_decided None finding told k k' decides ends = tt
+told_decided (Some o) (findings.Judged journal) told k k' decides ends = told_same told (judged_outcome journal.items) o k k' decides ends
+told_decided (Some o) (findings.Refused line) told k k' decides ends = told_same told (ended_outcome statuses.Refused line) o k k' decides ends
+told_decided (Some o) findings.Usage told k k' decides ends = told_same told (ended_outcome statuses.Usage lines.Usage) o k k' decides ends
+told_decided (Some o) findings.DeviceFailed told k k' decides ends = told_stop told o statuses.Failed lines.DeviceFailed k k' (λ h. h) ends
+told_decided (Some o) findings.HostFailed told k k' decides ends = told_stop told o statuses.Failed lines.HostFailed k k' (λ h. h) ends
+told_decided (Some o) findings.Memory told k k' decides ends = told_stop told o statuses.Memory lines.Memory k k' (λ h. h) ends
+
+-- where memory was short as a device was opened, that is told
+pub told_short : (told : Outcome) (finding : Finding) (k k' : ℕ) → finding ≡ findings.Memory → IsToldOf (outcome_of finding) k k' told → told.status ≡ statuses.Memory
+told_short told finding k k' is ends = short (subst (λ (f : Finding). IsToldOf (outcome_of f) k k' told) is ends)
+  where
+    short : IsToldOf (ended_outcome statuses.Memory lines.Memory) k k' told → told.status ≡ statuses.Memory
+    short (inl whole) = ap (λ (q : Outcome). q.status) whole.0
+    short (inr (inl failed)) = let clash : Some lines.Memory ≡ None = failed.2 in cc
+    short (inr (inr memory)) = memory.0
+
+pub asked_so : (command : Job) (told : Outcome) (finding : Finding) (k k' : ℕ) (a b c : List Request) → IsToldOf (outcome_of finding) k k' told → c ≡ b
+    → IsAsked command (finding ≡ findings.Memory) a b → IsAsked command (told.status ≡ statuses.Memory) a c
+asked_so command told finding k k' a b c ends same (inl short) = inl (told_short told finding k k' short.0 ends, same ∙ short.1)
+asked_so command told finding k k' a b c ends same (inr whole) = inr (same ∙ whole)
+
+-- ---- what the words alone decide
+
+-- a line without a number is told as it is
+told_fixed : (told : Outcome) (s : Status) (line : LastLine) (k k' : ℕ) → is_fixed line ≡ true → IsToldOf (ended_outcome s line) k k' told → told ≡ ended_outcome s line
+told_fixed told s line k k' fixed (inl whole) = whole.0
+told_fixed told s line k k' fixed (inr (inl failed)) = let clash : Some line ≡ None = failed.2 in cc
+told_fixed told s line k k' fixed (inr (inr memory)) = let loose : is_fixed line ≡ false = memory.3 in absurd (true_not_false (sym fixed ∙ loose))
+  where
+    true_not_false : true ≡ false → ⊥
+    true_not_false e = cc
+
+judged_not_usage : (journal : List Entry) → judged_status journal ≡ statuses.Usage → ⊥
+judged_not_usage journal e = either (list_all is_calm journal) e
+  where
+    either : (b : Bool) → cond b statuses.Clean statuses.Faulty ≡ statuses.Usage → ⊥
+    either true e = cc
+    either false e = cc
+
+found_not_usage : (finding : Finding) → IsOfImage finding → (outcome_of finding).status ≡ statuses.Usage → ⊥
+found_not_usage (findings.Judged journal) of e = judged_not_usage journal.items e
+found_not_usage (findings.Refused line) of e = cc
+found_not_usage findings.Usage of e = of
+found_not_usage findings.DeviceFailed of e = cc
+found_not_usage findings.HostFailed of e = cc
+found_not_usage findings.Memory of e = cc
+
+not_unbuilt : (line : LastLine) → is_image_line line ≡ true → Some line ≡ Some lines.UnbuiltJob → ⊥
+not_unbuilt line image e = let same : line ≡ lines.UnbuiltJob = cc in clash (subst (λ (l : LastLine). is_image_line l ≡ true) same image)
+  where
+    clash : false ≡ true → ⊥
+    clash e = cc
+
+found_not_unbuilt : (finding : Finding) → IsOfImage finding → (outcome_of finding).last ≡ Some lines.UnbuiltJob → ⊥
+found_not_unbuilt (findings.Judged journal) of e = cc
+found_not_unbuilt (findings.Refused line) of e = not_unbuilt line of e
+found_not_unbuilt findings.Usage of e = of
+found_not_unbuilt findings.DeviceFailed of e = cc
+found_not_unbuilt findings.HostFailed of e = cc
+found_not_unbuilt findings.Memory of e = cc
+
+told_not_usage : (finding : Finding) (told : Outcome) (k k' : ℕ) → IsOfImage finding → IsToldOf (outcome_of finding) k k' told → told.status ≡ statuses.Usage → ⊥
+told_not_usage finding told k k' of (inl whole) e = found_not_usage finding of (ap (λ (q : Outcome). q.status) (sym whole.0) ∙ e)
+told_not_usage finding told k k' of (inr (inl failed)) e = let clash : statuses.Failed ≡ statuses.Usage = ap (λ (q : Outcome). q.status) (sym failed.0) ∙ e in cc
+told_not_usage finding told k k' of (inr (inr memory)) e = let clash : statuses.Memory ≡ statuses.Usage = sym memory.0 ∙ e in cc
+
+told_not_unbuilt : (finding : Finding) (told : Outcome) (k k' : ℕ) → IsOfImage finding → IsToldOf (outcome_of finding) k k' told → told.last ≡ Some lines.UnbuiltJob → ⊥
+told_not_unbuilt finding told k k' of (inl whole) e = found_not_unbuilt finding of (ap (λ (q : Outcome). q.last) (sym whole.0) ∙ e)
+told_not_unbuilt finding told k k' of (inr (inl failed)) e = let clash : Some lines.HostFailed ≡ Some lines.UnbuiltJob = ap (λ (q : Outcome). q.last) (sym failed.0) ∙ e in cc
+told_not_unbuilt finding told k k' of (inr (inr memory)) e = let clash : Some lines.Memory ≡ Some lines.UnbuiltJob = sym memory.1 ∙ e in cc
+
+pub told_by_words : (job : Job) (finding : Finding) (told : Outcome) (k k' : ℕ) → IsWorded job finding → IsToldOf (outcome_of finding) k k' told → EndsByWords job told
+told_by_words usage finding told k k' worded ends =
+    told_fixed told statuses.Usage lines.Usage k k' refl (subst (λ (f : Finding). IsToldOf (outcome_of f) k k' told) worded ends)
+told_by_words unbuilt finding told k k' worded ends =
+    told_fixed told statuses.Refused lines.UnbuiltJob k k' refl (subst (λ (f : Finding). IsToldOf (outcome_of f) k k' told) worded ends)
+told_by_words (check_of name) finding told k k' worded ends = (told_not_usage finding told k k' worded ends, told_not_unbuilt finding told k k' worded ends)

@@ -1,0 +1,7 @@
+use Rattle.std.proofs.Common.{◌≡◌, ◌++◌, map, take}
+use Rattle.xscrub.specs.declared.entry.AnyRec.TheVariants as recs
+use Rattle.xscrub.specs.declared.entry.Fault.TheVariants as fault_of
+use Rattle.xscrub.proofs.compare.push_missing.Given as goal
+
+abbrev pub invariant-loop-rec : goal.invariant-loop-rec
+invariant-loop-rec l = l.faults.items ≡ l.initial.faults.items ++ map (λ r. fault_of.Missing (recs.Bno r)) (take l.rec-index l.rest)

@@ -1,0 +1,8 @@
+-- What a host keeps of the calls that ask it for a device.
+use Rattle.std.specs.Prelude.{string_bytes}
+use Rattle.std.specs.Option.{option_map}
+use Rattle.xscrub.specs.Stored.{Request}
+use Rattle.xscrub.specs.declared.asked.DeviceAsked.{DeviceAsked}
+
+abbrev pub request_of : DeviceAsked → Request
+request_of asked = record { image = string_bytes asked.image; redo = option_map string_bytes asked.redo; purpose = asked.purpose }

@@ -1,0 +1,152 @@
+-- What a whole run owes to whoever called it.
+use Rattle.std.specs.Prelude.{◌≡◌, ◌≤◌, ◌⊎◌, ℕ, true, false, List, [], ◌∷◌, ◌++◌, length, Option, Some, None, IfSome, ⊤}
+use Rattle.std.specs.List.{list_all}
+use Rattle.blk_device.specs.Causes.{Rose}
+use Rattle.blk_device.specs.Taken.{Takes, IsFront}
+use Rattle.xscrub.specs.Command.{Job, check_of, unbuilt, usage}
+use Rattle.xscrub.specs.Image.{image_outcome}
+use Rattle.xscrub.specs.Outcome.{Outcome, code_of, is_calm, is_image_line, judged_outcome, ended_outcome}
+use Rattle.xscrub.specs.Report.{report_of, is_fixed}
+use Rattle.xscrub.specs.Shown.{TakesFronts, last_text}
+use Rattle.xscrub.specs.Stored.{Stored, Request}
+use Rattle.xscrub.specs.declared.ending.Finding.{Finding}
+use Rattle.xscrub.specs.declared.ending.Finding.TheVariants as findings
+use Rattle.xscrub.specs.declared.ending.Status.{Status}
+use Rattle.xscrub.specs.declared.ending.Status.TheVariants as statuses
+use Rattle.xscrub.specs.declared.ending.Told.{Told}
+use Rattle.xscrub.specs.declared.entry.Entry.{Entry}
+use Rattle.xscrub.specs.declared.host.Purpose.TheVariants.{Check as ForCheck}
+use Rattle.xscrub.specs.declared.report.LastLine.{LastLine}
+use Rattle.xscrub.specs.declared.report.LastLine.TheVariants as lines
+use Rattle.xscrub.specs.declared.top.RunEnd.{RunEnd}
+
+-- ---- what words and bytes decide
+
+abbrev pub stored_outcome : Option Stored → Option Outcome
+stored_outcome None = None
+stored_outcome (Some file) = Some (image_outcome file.size file.at)
+
+-- how a run ends that nothing stops: None where the host doesn't tell the image that is named
+abbrev pub decided_by : Job → (List ℕ → Option Stored) → Option Outcome
+decided_by usage stored = Some (ended_outcome statuses.Usage lines.Usage)
+decided_by unbuilt stored = Some (ended_outcome statuses.Refused lines.UnbuiltJob)
+decided_by (check_of name) stored = stored_outcome (stored name)
+
+-- what the host is asked for
+abbrev pub requests_of : Job → List Request
+requests_of usage = []
+requests_of unbuilt = []
+requests_of (check_of name) = record { image = name; redo = None; purpose = ForCheck } ∷ []
+
+-- ---- what a check of an image finds, before it is told
+
+-- what wasn't stopped is what was decided
+abbrev pub Decides : Option Outcome → Finding → Type 0
+Decides decided (findings.Judged journal) = IfSome decided (λ o. judged_outcome journal.items ≡ o)
+Decides decided (findings.Refused line) = IfSome decided (λ o. ended_outcome statuses.Refused line ≡ o)
+Decides decided findings.Usage = IfSome decided (λ o. ended_outcome statuses.Usage lines.Usage ≡ o)
+Decides decided findings.DeviceFailed = ⊤
+Decides decided findings.HostFailed = ⊤
+Decides decided findings.Memory = ⊤
+
+-- a fault is found only where its count rose, and nothing is judged where one did
+abbrev pub IsFoundBy : Finding → (host host' devices devices' : ℕ) → Type 0
+IsFoundBy (findings.Judged journal) host host' devices devices' = (host' ≡ host) × (devices' ≡ devices)
+IsFoundBy (findings.Refused line) host host' devices devices' = ⊤
+IsFoundBy findings.Usage host host' devices devices' = ⊤
+IsFoundBy findings.DeviceFailed host host' devices devices' = Rose devices devices'
+IsFoundBy findings.HostFailed host host' devices devices' = Rose host host'
+IsFoundBy findings.Memory host host' devices devices' = ⊤
+
+-- a finding that an image may have
+abbrev pub IsOfImage : Finding → Type 0
+IsOfImage (findings.Judged journal) = ⊤
+IsOfImage (findings.Refused line) = is_image_line line ≡ true
+IsOfImage findings.Usage = ⊥
+IsOfImage findings.DeviceFailed = ⊤
+IsOfImage findings.HostFailed = ⊤
+IsOfImage findings.Memory = ⊤
+
+-- what the words alone say of a finding
+abbrev pub IsWorded : Job → Finding → Type 0
+IsWorded usage finding = finding ≡ findings.Usage
+IsWorded unbuilt finding = finding ≡ findings.Refused lines.UnbuiltJob
+IsWorded (check_of name) finding = IsOfImage finding
+
+pub record IsFound (decided : Option Outcome) (host host' devices devices' : ℕ) (finding : Finding) : Type 0 where
+  pub decides : Decides decided finding
+  pub cause : IsFoundBy finding host host' devices devices'
+
+-- ---- how it is told
+
+abbrev pub told_outcome : Told → Outcome
+told_outcome told = record { status = told.status; journal = told.journal.items; last = told.last }
+
+-- the sink took these lines, all of them where it didn't fail
+pub record IsShown (journal : List Entry) (last : Option LastLine) (faults faults' : ℕ) (taken taken' : Option (List ℕ)) : Type 0 where
+  pub later : faults ≤ faults'
+  pub whole : (Rose faults faults' → ⊥) → Takes (report_of journal ++ last_text last) taken taken'
+  pub fronts : TakesFronts (report_of journal) (last_text last) taken taken'
+
+-- What is told of a finding: itself; or, where the sink failed in its journal, that the host
+-- failed; or, where there was no memory for a line, as much of the journal as had been told.
+abbrev pub IsToldOf : Outcome → (faults faults' : ℕ) → Outcome → Type 0
+IsToldOf found faults faults' told =
+    ((told ≡ found) × (found.last ≡ None → faults' ≡ faults))
+    ⊎ (((told ≡ record { status = statuses.Failed; journal = found.journal; last = Some lines.HostFailed }) × Rose faults faults' × (found.last ≡ None))
+    ⊎ ((told.status ≡ statuses.Memory) × (told.last ≡ Some lines.Memory) × IsFront told.journal found.journal × IfSome found.last (λ line. is_fixed line ≡ false)))
+
+-- ---- the whole run
+
+-- why a run ends with a status, by the counts of host, devices and sink before and after it
+abbrev pub EndsFor : Status → Outcome → (host host' devices devices' sink sink' : ℕ) → Type 0
+EndsFor statuses.Clean told host host' devices devices' sink sink' =
+    (list_all is_calm told.journal ≡ true) × (told.last ≡ None) × (host' ≡ host) × (devices' ≡ devices) × (sink' ≡ sink)
+EndsFor statuses.Faulty told host host' devices devices' sink sink' =
+    (list_all is_calm told.journal ≡ false) × (told.last ≡ None) × (host' ≡ host) × (devices' ≡ devices) × (sink' ≡ sink)
+EndsFor statuses.Usage told host host' devices devices' sink sink' = told ≡ ended_outcome statuses.Usage lines.Usage
+EndsFor statuses.Refused told host host' devices devices' sink sink' = (line : LastLine) × (told ≡ ended_outcome statuses.Refused line)
+EndsFor statuses.Failed told host host' devices devices' sink sink' =
+    ((told.last ≡ Some lines.DeviceFailed) × Rose devices devices')
+    ⊎ ((told.last ≡ Some lines.HostFailed) × (Rose host host' ⊎ Rose sink sink'))
+EndsFor statuses.Memory told host host' devices devices' sink sink' = told.last ≡ Some lines.Memory
+
+abbrev pub HasCause : Outcome → (host host' devices devices' sink sink' : ℕ) → Type 0
+HasCause told host host' devices devices' sink sink' = EndsFor told.status told host host' devices devices' sink sink'
+
+-- neither a fault nor want of memory ended it
+abbrev pub IsSettled : Status → Type 0
+IsSettled statuses.Clean = ⊤
+IsSettled statuses.Faulty = ⊤
+IsSettled statuses.Usage = ⊤
+IsSettled statuses.Refused = ⊤
+IsSettled statuses.Failed = ⊥
+IsSettled statuses.Memory = ⊥
+
+-- what is told is what words and bytes decide; a run that was stopped told a front of its journal
+pub record IsOutcome (told decided : Outcome) : Type 0 where
+  pub front : IsFront told.journal decided.journal
+  pub whole : IsSettled told.status → told ≡ decided
+
+-- what the host was asked for, in order; where memory was short, perhaps nothing
+abbrev pub IsAsked : Job → (short : Type 0) → (asked asked' : List Request) → Type 0
+IsAsked command short asked asked' = (short × (asked' ≡ asked)) ⊎ (asked' ≡ asked ++ requests_of command)
+
+-- Words that ask for no check end the run at once, and always so; only they do.
+abbrev pub EndsByWords : Job → Outcome → Type 0
+EndsByWords usage told = told ≡ ended_outcome statuses.Usage lines.Usage
+EndsByWords unbuilt told = told ≡ ended_outcome statuses.Refused lines.UnbuiltJob
+EndsByWords (check_of name) told = (told.status ≡ statuses.Usage → ⊥) × (told.last ≡ Some lines.UnbuiltJob → ⊥)
+
+-- What a run owes: how it ended is what words and bytes decide, or has a cause in a count that
+-- rose; and this is what the sink took.
+pub record IsRun (command : Job) (told : Outcome) (stored : List ℕ → Option Stored) (host host' devices devices' sink sink' : ℕ)
+    (taken taken' : Option (List ℕ)) (asked asked' : List Request) (end : RunEnd) : Type 0 where
+  pub status : end.status ≡ code_of told.status
+  pub journal : end.journal.items ≡ told.journal
+  pub starts : end.starts ≡ 0 ∷ length told.journal ∷ length told.journal ∷ []
+  pub words : EndsByWords command told
+  pub decided : IfSome (decided_by command stored) (IsOutcome told)
+  pub cause : HasCause told host host' devices devices' sink sink'
+  pub shown : IsShown told.journal told.last sink sink' taken taken'
+  pub asked_for : IsAsked command (told.status ≡ statuses.Memory) asked asked'

@@ -1,0 +1,20 @@
+-- What a host in memory stands for.
+use Rattle.std.specs.Prelude.{◌≡◌, ℕ, List, map, Option, IsSome}
+use Rattle.std.specs.BTreeMap.{get_by_text}
+use Rattle.xscrub.specs.Asked.{request_of}
+use Rattle.xscrub.specs.MemFiles.{file_named}
+use Rattle.xscrub.specs.Stored.{Stored, Request}
+use Rattle.xscrub.specs.declared.mem_host.MemHost.{MemHost}
+
+abbrev pub stored_by : MemHost → List ℕ → Option Stored
+stored_by host name = file_named host.images name
+
+abbrev pub Awaits : MemHost → List ℕ → Type 0
+Awaits host name = IsSome (get_by_text host.images name)
+
+abbrev pub asked_of : MemHost → List Request
+asked_of host = map request_of host.asked.items
+
+-- the report changes nothing else that a clause speaks of
+abbrev pub Keeps : MemHost → MemHost → Type 0
+Keeps a b = (b.host_faults ≡ a.host_faults) × (b.dev_faults ≡ a.dev_faults) × (asked_of b ≡ asked_of a) × ((n : List ℕ) → stored_by b n ≡ stored_by a n)

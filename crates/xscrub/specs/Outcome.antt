@@ -1,0 +1,64 @@
+-- How a run ends: its status, its journal, and the line that comes last.
+use Rattle.std.specs.Prelude.{ℕ, Bool, true, false, if◌then◌else◌, List, [], Option, Some, None}
+use Rattle.std.specs.List.{list_all}
+use Rattle.xscrub.specs.declared.entry.Entry.{Entry}
+use Rattle.xscrub.specs.declared.entry.Entry.TheVariants.{Fault as FaultEntry, Verdict as VerdictEntry}
+use Rattle.xscrub.specs.declared.entry.Verdict.TheVariants.{Good, Faulty, Skipped}
+use Rattle.xscrub.specs.declared.ending.Finding.{Finding}
+use Rattle.xscrub.specs.declared.ending.Finding.TheVariants as findings
+use Rattle.xscrub.specs.declared.ending.Status.{Status}
+use Rattle.xscrub.specs.declared.ending.Status.TheVariants as statuses
+use Rattle.xscrub.specs.declared.report.LastLine.{LastLine}
+use Rattle.xscrub.specs.declared.report.LastLine.TheVariants as lines
+
+pub record Outcome : Type 0 where
+  pub status : Status
+  pub journal : List Entry
+  pub last : Option LastLine
+
+-- the number that the process ends with
+abbrev pub code_of : Status → ℕ
+code_of statuses.Clean = 0
+code_of statuses.Faulty = 1
+code_of statuses.Usage = 2
+code_of statuses.Refused = 4
+code_of statuses.Failed = 5
+code_of statuses.Memory = 8
+
+-- the entry doesn't speak against the image
+abbrev pub is_calm : Entry → Bool
+is_calm (FaultEntry group unit fault) = false
+is_calm (VerdictEntry group unit Good) = true
+is_calm (VerdictEntry group unit (Faulty n)) = false
+is_calm (VerdictEntry group unit (Skipped of cause)) = false
+
+-- clean where every unit is good, else faulty
+abbrev pub judged_status : List Entry → Status
+judged_status journal = if list_all is_calm journal then statuses.Clean else statuses.Faulty
+
+abbrev pub judged_outcome : List Entry → Outcome
+judged_outcome journal = record { status = judged_status journal; journal = journal; last = None }
+
+-- an end before the first unit, with a line that says why
+abbrev pub ended_outcome : Status → LastLine → Outcome
+ended_outcome status line = record { status = status; journal = []; last = Some line }
+
+-- a line that tells of an image
+abbrev pub is_image_line : LastLine → Bool
+is_image_line (lines.Image fault) = true
+is_image_line (lines.Agf group fault) = true
+is_image_line lines.UnbuiltGroups = true
+is_image_line lines.UnbuiltLevels = true
+is_image_line lines.Usage = false
+is_image_line lines.UnbuiltJob = false
+is_image_line lines.DeviceFailed = false
+is_image_line lines.HostFailed = false
+is_image_line lines.Memory = false
+
+abbrev pub outcome_of : Finding → Outcome
+outcome_of (findings.Judged journal) = judged_outcome journal.items
+outcome_of (findings.Refused line) = ended_outcome statuses.Refused line
+outcome_of findings.Usage = ended_outcome statuses.Usage lines.Usage
+outcome_of findings.DeviceFailed = ended_outcome statuses.Failed lines.DeviceFailed
+outcome_of findings.HostFailed = ended_outcome statuses.Failed lines.HostFailed
+outcome_of findings.Memory = ended_outcome statuses.Memory lines.Memory

@@ -1,0 +1,33 @@
+-- What a host keeps under a name, and what it is asked.
+use Rattle.std.specs.Prelude.{◌≡◌, ℕ, List, Option, Some, None}
+use Rattle.byte_fields.specs.Zeros.{zeros}
+use Rattle.blk_device.specs.Contents.{Contents}
+use Rattle.blk_device.specs.declared.device.Region.{Region}
+use Rattle.blk_device.specs.declared.device.Region.TheVariants.{Image, Redo}
+use Rattle.xscrub.specs.declared.host.Purpose.{Purpose}
+
+-- a file of blocks: how many, and the bytes of each
+pub record Stored : Type 0 where
+  pub size : ℕ
+  pub at : ℕ → List ℕ
+
+-- a device that was asked for, by the name of its image, that of its redo file and its purpose
+pub record Request : Type 0 where
+  pub image : List ℕ
+  pub redo : Option (List ℕ)
+  pub purpose : Purpose
+
+-- an image that was opened without a redo file: its redo region is zeros
+abbrev pub opened : Stored → Contents
+opened file Image b = file.at b
+opened file Redo b = zeros
+
+-- the device that was handed out has the named image, where the host tells that
+abbrev pub IsOpened : Option Stored → Option Contents → (Region → ℕ) → Type 0
+IsOpened None content blocks = content ≡ None
+IsOpened (Some file) content blocks = (content ≡ Some (opened file)) × (blocks Image ≡ file.size)
+
+-- the image of a device that comes back, where the device tells it
+abbrev pub stored_image : Option Contents → (Region → ℕ) → Option Stored
+stored_image None blocks = None
+stored_image (Some content) blocks = Some (record { size = blocks Image; at = content Image })

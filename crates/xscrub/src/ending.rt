@@ -1,0 +1,47 @@
+ghost use Rattle.std.specs.Prelude.{◌≡◌};
+ghost use Rattle.std.specs.List.{list_all};
+
+use crate::entry::{Entry, Verdict};
+use crate::report::LastLine;
+
+/// How a run ended; its number is the status of the process.
+#[derive(Clone, Copy, Debug, PartialEq, Eq)]
+pub enum Status {
+    Clean = 0,
+    Faulty = 1,
+    Usage = 2,
+    Refused = 4,
+    Failed = 5,
+    Memory = 8,
+}
+
+/// What a run found, before it is told: the journal of a judged image, the line of a refusal, or
+/// what stopped it.
+#[derive(Debug, PartialEq, Eq, Drop)]
+pub enum Finding {
+    Judged(Vec<Entry>),
+    Refused(LastLine),
+    Usage,
+    DeviceFailed,
+    HostFailed,
+    Memory,
+}
+
+/// What is told of a run: its status, its journal, and the line that came last.
+#[derive(Debug, PartialEq, Eq, Drop)]
+pub struct Told {
+    pub status: Status,
+    pub journal: Vec<Entry>,
+    pub last: Option<LastLine>,
+}
+
+impl Status {
+    ghost use Rattle.xscrub.specs.Outcome.{code_of};
+
+    /// The status of the process.
+    pub fn code(self) -> u8
+        ensures { result ≡ code_of self }
+    {
+        self as u8
+    }
+}

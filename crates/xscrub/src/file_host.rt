@@ -1,0 +1,176 @@
+//! The host of the program: images are files, and the report goes to standard output.
+ghost use Rattle.std.specs.Prelude.{◌≡◌, [], None, IsNone, IfOk};
+
+use crate::asked::{DeviceAsked, count_failed, count_fault, keep_request};
+use crate::host::{Host, OpenFault, Purpose};
+use blk_device::{Device, FileDevice, Region, Sink, SinkFailed};
+use std::alloc::Global;
+use std::fs::{OpenFile, OpenOptions};
+use std::io::{Seek, SeekFrom, Write};
+use std::rt::Files;
+use std::{fs, io};
+
+const BLOCK_BYTES: u64 = 4096;
+
+// The blocks of a redo region, in a file or not.
+const REDO_BLOCKS: u64 = 162;
+
+/// Opens files for devices and prints the report. It tells nothing of what a file holds, nor of
+/// what standard output took.
+#[derive(Drop)]
+pub struct FileHost<'a, R: Files + Print> {
+    rt: &'a R,
+    asked: Vec<DeviceAsked>,
+    sink_faults: u64,
+    host_faults: u64,
+    dev_faults: u64,
+}
+
+impl<'a, R: Files + Print> FileHost<'a, R> {
+    /// A host that was asked nothing yet.
+    pub fn new(alloc: Global, rt: &'a R) -> Self
+        ensures asked { result.asked.items ≡ [] }
+        ensures host { result.host_faults ≡ 0 }
+        ensures devices { result.dev_faults ≡ 0 }
+        ensures sink { result.sink_faults ≡ 0 }
+    {
+        FileHost {
+            rt,
+            asked: Vec::new(alloc),
+            sink_faults: 0,
+            host_faults: 0,
+            dev_faults: 0,
+        }
+    }
+}
+
+// How many whole blocks a file has. The end is sought, which also tells the size of a block
+// device.
+fn blocks_of<F: Seek>(file: &mut F) -> io::Result<u64> {
+    Ok(file.seek(SeekFrom::End(0))? / BLOCK_BYTES)
+}
+
+fn open_image<R: Files>(rt: &R, name: &str, purpose: Purpose) -> io::Result<R::File> {
+    match purpose {
+        Purpose::Check => fs::open(rt, name),
+        Purpose::Change => OpenOptions::new().read(true).write(true).open(rt, name),
+        Purpose::Make(blocks) => {
+            let file = OpenOptions::new()
+                .read(true)
+                .write(true)
+                .create(true)
+                .truncate(true)
+                .open(rt, name)?;
+            file.set_len(blocks.saturating_mul(BLOCK_BYTES))?;
+            Ok(file)
+        }
+    }
+}
+
+// Opens a redo file, and makes one of zeros where there is none.
+fn open_redo<R: Files>(rt: &R, name: &str) -> io::Result<R::File> {
+    let mut file = OpenOptions::new()
+        .read(true)
+        .write(true)
+        .create(true)
+        .open(rt, name)?;
+    if file.seek(SeekFrom::End(0))? == 0 {
+        file.set_len(REDO_BLOCKS * BLOCK_BYTES)?;
+    }
+    Ok(file)
+}
+
+fn open_device<R: Files>(
+    alloc: Global,
+    rt: &R,
+    image: &str,
+    redo: Option<&str>,
+    purpose: Purpose,
+) -> io::Result<FileDevice<R::File>>
+    ensures redo_blocks { IsNone redo.entry →
+        IfOk result (λ d. ⟦<FileDevice<R::File> as Device>⟧.blocks d Region.Redo ≡ 162) }
+    ensures fresh { IfOk result (λ d. ⟦<FileDevice<R::File> as Device>⟧.faults d ≡ 0) }
+    ensures untold { IfOk result (λ d. ⟦<FileDevice<R::File> as Device>⟧.content d ≡ None) }
+{
+    let mut image = open_image(rt, image, purpose)?;
+    let image_blocks = blocks_of(&mut image)?;
+    let Some(name) = redo else {
+        return Ok(FileDevice::new(alloc, image, None, image_blocks, REDO_BLOCKS));
+    };
+    let mut redo = open_redo(rt, name)?;
+    let redo_blocks = blocks_of(&mut redo)?;
+    Ok(FileDevice::new(alloc, image, Some(redo), image_blocks, redo_blocks))
+}
+
+impl<R: Files + Print> Sink for FileHost<'_, R> {
+    ghost use Rattle.std.specs.Prelude.{map};
+    ghost use Rattle.std.proofs.Common.{rules};
+    ghost use Rattle.xscrub.specs.Asked.{request_of};
+
+    ghost taken = { λ h. None };
+
+    ghost sink_faults = { λ h. h.sink_faults };
+
+    ghost kept = { λ a b. (b.host_faults ≡ a.host_faults) × (b.dev_faults ≡ a.dev_faults)
+        × (map request_of b.asked.items ≡ map request_of a.asked.items) };
+
+    ghost kept_at_rest = { λ a. Prim.search rules };
+
+    ghost kept_by_both = { λ a b c first second. Prim.search rules };
+
+    fn put(&mut self, piece: &[u8]) -> Result<usize, SinkFailed> {
+        match io::writer(self.rt).write(piece) {
+            Ok(taken) if taken > 0 || piece.is_empty() => Ok(taken),
+            _ => {
+                count_fault(&mut self.sink_faults);
+                Err(SinkFailed)
+            }
+        }
+    }
+}
+
+impl<R: Files + Print> Host for FileHost<'_, R>
+where
+    R::File: Send,
+{
+    type Dev = FileDevice<R::File>;
+
+    ghost use Rattle.std.specs.Prelude.{map};
+    ghost use Rattle.std.proofs.Common.{rules};
+    ghost use Rattle.xscrub.specs.Asked.{request_of};
+
+    ghost stored = { λ h n. None };
+
+    ghost awaits = { λ h n. Unit {0} };
+
+    ghost asked = { λ h. map request_of h.asked.items };
+
+    ghost host_faults = { λ h. h.host_faults };
+
+    ghost dev_faults = { λ h. h.dev_faults };
+
+    ghost report_keeps = { λ a b kept. Prim.search rules };
+
+    fn device(
+        &mut self,
+        image: &str,
+        redo: Option<&str>,
+        purpose: Purpose,
+    ) -> Result<FileDevice<R::File>, OpenFault> {
+        let alloc = *self.asked.allocator();
+        if keep_request(alloc, &mut self.asked, image, redo, purpose).is_err() {
+            return Err(OpenFault::Memory);
+        }
+        match open_device(alloc, self.rt, image, redo, purpose) {
+            Ok(dev) => Ok(dev),
+            Err(_) => {
+                count_fault(&mut self.host_faults);
+                Err(OpenFault::Failed)
+            }
+        }
+    }
+
+    fn put_back(&mut self, _image: &str, dev: FileDevice<R::File>) {
+        count_failed(&mut self.dev_faults, dev.fault_count());
+    }
+}

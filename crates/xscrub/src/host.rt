@@ -1,0 +1,95 @@
+ghost use Rattle.std.specs.Prelude.{◌≡◌, ◌≤◌, ◌==◌, ◌+◌, ℕ, List, [], ◌∷◌, ◌++◌, Option, OnOk, OnErr, IfOk, IsErrOf, IsNone, false, if◌then◌else◌, ◌⊎◌};
+ghost use Rattle.std.specs.Option.{option_map};
+ghost use Rattle.std.specs.Str.{bytes_eq};
+ghost use Rattle.blk_device.specs.Causes.{Rose, one_more};
+ghost use Rattle.xscrub.specs.Stored.{Stored, Request, IsOpened, stored_image};
+
+use blk_device::{Device, Region, Sink};
+use thiserror::Error;
+
+/// What a device is opened for: to be read alone, to be changed, or to be made anew with so many
+/// blocks.
+#[derive(Clone, Copy, Debug, PartialEq, Eq)]
+pub enum Purpose {
+    Check,
+    Change,
+    Make(u64),
+}
+
+/// Why no device is handed out: the host failed, and its count of faults rose, or there is no
+/// memory.
+#[derive(Clone, Copy, Debug, PartialEq, Eq, Error)]
+pub enum OpenFault {
+    #[error("host failed")]
+    Failed,
+    #[error("memory")]
+    Memory,
+}
+
+/// What hands out devices by name and takes the report. A device can't be dropped: whoever is
+/// handed one gives it back.
+pub trait Host: Sink {
+    /// The devices that it hands out.
+    type Dev: Device + Send;
+
+    /// The image of each name, where the host tells it.
+    ghost stored: { Self → List ℕ → Option Stored };
+
+    /// The host has a place for a device that comes back under this name.
+    ghost awaits: { Self → List ℕ → Type 0 };
+
+    /// What was asked of it so far, in order.
+    ghost asked: { Self → List Request };
+
+    /// How often the host itself has failed. At 2^64 - 1 the count stays there.
+    ghost host_faults: { Self → ℕ };
+
+    /// How often a device came back that had failed. At 2^64 - 1 the count stays there.
+    ghost dev_faults: { Self → ℕ };
+
+    /// Opens an image, with a redo file or, without one, with 162 redo blocks of zeros that no
+    /// file keeps. At Failed the host's own count rose.
+    fn device(
+        &mut self,
+        image: &str,
+        redo: Option<&str>,
+        purpose: Purpose,
+    ) -> Result<Self::Dev, OpenFault>
+        ensures told { IsNone redo.entry →
+            IfOk result (λ dev. IsOpened (stored self.old image.now) (Self.Dev.content dev) (Self.Dev.blocks dev)) }
+        ensures redo_blocks { IsNone redo.entry → IfOk result (λ dev. Self.Dev.blocks dev Region.Redo ≡ 162) }
+        ensures fresh { IfOk result (λ dev. Self.Dev.faults dev ≡ 0) }
+        ensures place { OnOk result (awaits self.new image.now) }
+        ensures others { (n : List ℕ) → bytes_eq n image.now ≡ false
+            → stored self.new n ≡ stored self.old n }
+        ensures none { OnErr result ((n : List ℕ) → stored self.new n ≡ stored self.old n) }
+        ensures failed { IsErrOf result OpenFault.Failed → Rose (host_faults self.old) (host_faults self.new) }
+        ensures calm { OnOk result (host_faults self.new ≡ host_faults self.old) }
+        ensures later { host_faults self.old ≤ host_faults self.new }
+        ensures memory { IsErrOf result OpenFault.Memory → host_faults self.new ≡ host_faults self.old }
+        ensures asked { (IsErrOf result OpenFault.Memory × (asked self.new ≡ asked self.old))
+            ⊎ (asked self.new ≡ asked self.old
+            ++ record { image = image.now; redo = option_map (λ s. s.now) redo.entry; purpose = purpose } ∷ []) }
+        ensures devices { dev_faults self.new ≡ dev_faults self.old }
+        ensures report { Self.taken self.new ≡ Self.taken self.old }
+        ensures sink { Self.sink_faults self.new ≡ Self.sink_faults self.old };
+
+    /// Takes a device back under the name by which it was handed out. The count of devices that
+    /// failed rises exactly where this one did.
+    fn put_back(&mut self, image: &str, dev: Self::Dev)
+        requires { awaits self.old image.now }
+        ensures image { (n : List ℕ) → stored self.new n ≡ (if bytes_eq n image.now
+            then stored_image (Self.Dev.content dev) (Self.Dev.blocks dev)
+            else stored self.old n) }
+        ensures host { host_faults self.new ≡ host_faults self.old }
+        ensures devices { dev_faults self.new ≡ (if Self.Dev.faults dev == 0
+            then dev_faults self.old
+            else one_more (dev_faults self.old)) }
+        ensures asked { asked self.new ≡ asked self.old }
+        ensures report { Self.taken self.new ≡ Self.taken self.old }
+        ensures sink { Self.sink_faults self.new ≡ Self.sink_faults self.old };
+
+    /// The report changes no image, no count of the host and nothing of what it was asked.
+    ghost report_keeps: { (a b : Self) → Self.kept a b
+        → (host_faults b ≡ host_faults a) × (dev_faults b ≡ dev_faults a) × (asked b ≡ asked a) × ((n : List ℕ) → stored b n ≡ stored a n) };
+}

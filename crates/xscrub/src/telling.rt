@@ -1,0 +1,175 @@
+ghost use Rattle.std.specs.Prelude.{◌≡◌, ◌≤◌, OnOk, IfErr, length, Some, false};
+ghost use Rattle.std.specs.Bool.{OnTrue, OnFalse};
+ghost use Rattle.std.specs.List.{list_all};
+ghost use Rattle.blk_device.specs.Causes.{Rose};
+ghost use Rattle.blk_device.specs.Taken.{Takes};
+ghost use Rattle.xscrub.specs.Ending.{IsShown, IsToldOf, told_outcome};
+ghost use Rattle.xscrub.specs.Outcome.{is_calm as is_calm_entry, judged_status, judged_outcome, outcome_of};
+ghost use Rattle.xscrub.specs.Report.{report_of, is_fixed, last_line_of};
+ghost use Rattle.xscrub.specs.Shown.{StopsAt, IsLineShown, EndsWith, last_text};
+
+use crate::ending::{Finding, Status, Told};
+use crate::entry::{Entry, Verdict};
+use crate::report::{LastLine, fixed_line, last_line, line};
+use blk_device::{Sink, SinkFailed, put_all};
+use std::alloc::Global;
+
+/// Why a journal wasn't told whole: the sink failed, or there was no memory for the line of entry
+/// `told`, the first that wasn't told.
+#[derive(Clone, Copy, Debug, PartialEq, Eq)]
+pub enum TellStop {
+    Sink,
+    Memory { told: usize },
+}
+
+/// Puts the line of each entry into the sink, in the journal's order, up to the first that the
+/// sink or memory refuses.
+pub fn put_journal<K: Sink>(alloc: Global, sink: &mut K, journal: &[Entry]) -> Result<(), TellStop>
+    ensures rest { K.kept sink.old sink.new }
+    ensures later { K.sink_faults sink.old ≤ K.sink_faults sink.new }
+    ensures calm { OnOk result (K.sink_faults sink.new ≡ K.sink_faults sink.old) }
+    ensures whole { OnOk result (Takes (report_of journal.now) (K.taken sink.old) (K.taken sink.new)) }
+    ensures stop { IfErr result (λ stop. StopsAt journal.now
+        (K.sink_faults sink.old) (K.sink_faults sink.new)
+        (K.taken sink.old) (K.taken sink.new) stop) }
+{
+    for (told, entry) in journal.iter().enumerate() {
+        let Ok(text) = line(alloc, entry) else {
+            return Err(TellStop::Memory { told });
+        };
+        match put_all(sink, text.as_bytes()) {
+            Ok(()) => {}
+            Err(SinkFailed) => return Err(TellStop::Sink),
+        }
+    }
+    Ok(())
+}
+
+// Puts a line into the sink as far as the sink takes it, and says whether there was memory for it.
+fn put_line<K: Sink>(alloc: Global, sink: &mut K, last: LastLine) -> bool
+    ensures rest { K.kept sink.old sink.new }
+    ensures shown { OnTrue result (IsLineShown (last_line_of last)
+        (K.sink_faults sink.old) (K.sink_faults sink.new)
+        (K.taken sink.old) (K.taken sink.new)) }
+    ensures none { OnFalse result ((K.sink_faults sink.new ≡ K.sink_faults sink.old)
+        × (K.taken sink.new ≡ K.taken sink.old)) }
+    ensures fixed { OnFalse result (is_fixed last ≡ false) }
+{
+    if let Some(text) = fixed_line(&last) {
+        let _ = put_all(sink, text.as_bytes());
+        return true;
+    }
+    let Ok(text) = last_line(alloc, &last) else {
+        return false;
+    };
+    let _ = put_all(sink, text.as_bytes());
+    true
+}
+
+// Ends a run with this line or, where there is no memory for it, with the one that says so.
+fn end_with<K: Sink>(
+    alloc: Global,
+    sink: &mut K,
+    status: Status,
+    journal: Vec<Entry>,
+    last: LastLine,
+) -> Told
+    ensures rest { K.kept sink.old sink.new }
+    ensures shown { EndsWith status journal.items last result.status result.journal.items result.last }
+    ensures line { IsLineShown (last_text result.last)
+        (K.sink_faults sink.old) (K.sink_faults sink.new)
+        (K.taken sink.old) (K.taken sink.new) }
+{
+    if put_line(alloc, sink, last) {
+        return Told {
+            status,
+            journal,
+            last: Some(last),
+        };
+    }
+    put_line(alloc, sink, LastLine::Memory);
+    Told {
+        status: Status::Memory,
+        journal,
+        last: Some(LastLine::Memory),
+    }
+}
+
+fn is_calm(entry: &Entry) -> bool
+    ensures { result ≡ is_calm_entry entry.now }
+{
+    match entry {
+        Entry::Verdict {
+            verdict: Verdict::Good,
+            ..
+        } => true,
+        _ => false,
+    }
+}
+
+fn are_all_calm(journal: &[Entry]) -> bool
+    ensures { result ≡ list_all is_calm_entry journal.now }
+{
+    for entry in journal {
+        if !is_calm(entry) {
+            return false;
+        }
+    }
+    true
+}
+
+fn status_of(journal: &[Entry]) -> Status
+    ensures { result ≡ judged_status journal.now }
+{
+    if are_all_calm(journal) {
+        Status::Clean
+    } else {
+        Status::Faulty
+    }
+}
+
+// Tells a journal, as far as the sink and memory go.
+fn tell_journal<K: Sink>(alloc: Global, sink: &mut K, journal: Vec<Entry>) -> Told
+    ensures rest { K.kept sink.old sink.new }
+    ensures shown { IsShown result.journal.items result.last
+        (K.sink_faults sink.old) (K.sink_faults sink.new)
+        (K.taken sink.old) (K.taken sink.new) }
+    ensures told { IsToldOf (judged_outcome journal.items)
+        (K.sink_faults sink.old) (K.sink_faults sink.new) (told_outcome result) }
+{
+    let mut journal = journal;
+    match put_journal(alloc, sink, journal.as_slice()) {
+        Ok(()) => Told {
+            status: status_of(journal.as_slice()),
+            journal,
+            last: None,
+        },
+        Err(TellStop::Sink) => end_with(alloc, sink, Status::Failed, journal, LastLine::HostFailed),
+        Err(TellStop::Memory { told }) => {
+            journal.truncate(told);
+            end_with(alloc, sink, Status::Memory, journal, LastLine::Memory)
+        }
+    }
+}
+
+/// Tells what a run found: the line of each entry, and then the line that it ends with. Where the
+/// sink fails in the journal, the host has failed; where there is no memory for an entry's line,
+/// the journal is cut to what was told.
+pub fn tell<K: Sink>(alloc: Global, sink: &mut K, finding: Finding) -> Told
+    ensures rest { K.kept sink.old sink.new }
+    ensures shown { IsShown result.journal.items result.last
+        (K.sink_faults sink.old) (K.sink_faults sink.new)
+        (K.taken sink.old) (K.taken sink.new) }
+    ensures told { IsToldOf (outcome_of finding)
+        (K.sink_faults sink.old) (K.sink_faults sink.new) (told_outcome result) }
+{
+    let (status, line) = match finding {
+        Finding::Judged(journal) => return tell_journal(alloc, sink, journal),
+        Finding::Refused(line) => (Status::Refused, line),
+        Finding::Usage => (Status::Usage, LastLine::Usage),
+        Finding::DeviceFailed => (Status::Failed, LastLine::DeviceFailed),
+        Finding::HostFailed => (Status::Failed, LastLine::HostFailed),
+        Finding::Memory => (Status::Memory, LastLine::Memory),
+    };
+    end_with(alloc, sink, status, Vec::new(alloc), line)
+}
