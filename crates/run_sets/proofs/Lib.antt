@@ -1,5 +1,7 @@
 pub mod DepthLemmas
 pub mod OnlyRunsLemmas
+pub mod OnlyStretchesLemmas
+pub mod RestLemmas
 pub mod RunsLemmas
 pub mod SetLemmas
 pub mod StretchesLemmas

@@ -2,10 +2,12 @@
 use Rattle.std.proofs.Common.{◌≡◌, ℕ, zero, suc, ◌+◌, ◌<◌, ◌≤◌, Bool, true, false, eqb, ◌&&◌, ◌||◌, not, List, [], ◌∷◌, refl, ap, sym, ◌∙◌, arith, inl, inr}
 use Rattle.std.specs.Prelude.{nat_le, nat_lt}
 use Rattle.std.proofs.lemmas.Bool.{cases_eq, cases_lt, eq-eqb, ne_eqb, le-leb, lt-ltb, lt-leb, le-ltb, true≢false, cases_Bool}
+use Rattle.std.specs.List.{All}
+use Rattle.std.proofs.lemmas.List.Elements.{All-cons, All-nil}
 use Rattle.run_sets.specs.declared.run.Run.{Run}
 use Rattle.run_sets.specs.declared.sweep.Operation.TheVariants.{Union, Difference}
 use Rattle.run_sets.specs.Operation.{kept}
-use Rattle.run_sets.specs.Runs.{in_front, runs_from, runs_below, is_within, holds, most, AreMaximal, EndWithin, are_maximal}
+use Rattle.run_sets.specs.Runs.{in_front, runs_from, runs_below, is_within, holds, most, AreMaximal, EndWithin, are_maximal, IsRun}
 use Rattle.run_sets.proofs.RunsLemmas.{runs_maximal}
 use Rattle.run_sets.proofs.OnlyRunsLemmas.{are_runs_below, behind_false}
 
@@ -57,6 +59,11 @@ passes_test a (r ∷ rs) h e =
     let end = le-leb (r.start + r.count) most e.0 in
     let rest = passes_test (r.start + r.count + 1) rs h.2 e.1 in
     rw (first, some, end, rest) refl
+
+-- each run of a set stands for blocks
+pub runs_of_maximal : (a : ℕ) (rs : List Run) → AreMaximal a rs → EndWithin most rs → All IsRun rs
+runs_of_maximal a [] h e = All-nil IsRun
+runs_of_maximal a (r ∷ rs) h e = All-cons IsRun r rs (record { some = h.1; within = e.0 }) (runs_of_maximal (r.start + r.count + 1) rs h.2 e.1)
 
 -- ---- the runs of a test end within the blocks that were tested
 

@@ -4,7 +4,7 @@ use Rattle.std.proofs.lemmas.Bool.{cases_lt, cases_order}
 use Rattle.std.proofs.lemmas.List.{get_or_default}
 use Rattle.std.proofs.lemmas.List.Folds.{list_any_none, list_any_at}
 use Rattle.run_sets.specs.declared.run.Run.{Run}
-use Rattle.run_sets.specs.Runs.{is_within, holds, AreMaximal, EndWithin}
+use Rattle.run_sets.specs.Runs.{is_within, holds, AreMaximal}
 use Rattle.run_sets.proofs.OnlyRunsLemmas.{within_true, before_false, behind_false}
 
 least_start : (a : ℕ) (rs : List Run) (k : ℕ) (d : Run) → AreMaximal a rs → k < length rs → a ≤ (get_or rs k d).start
@@ -25,11 +25,6 @@ starts_rise a rs i j d h le lt = elim (cases_order i j) [
   | inr (inl front) ↦ let gap = apart a rs i j d h front lt in omega (arith, gap)
   | inr (inr back) ↦ absurd (omega (arith, le, back))
 ]
-
-pub ends_within : (len : ℕ) (rs : List Run) (i : ℕ) (d : Run) → EndWithin len rs → i < length rs → (get_or rs i d).start + (get_or rs i d).count ≤ len
-ends_within len [] i d h lt = absurd (omega (arith, lt))
-ends_within len (r ∷ rs) zero d h lt = h.0
-ends_within len (r ∷ rs) (suc i) d h lt = ends_within len rs i d h.1 (omega (arith, lt))
 
 -- a block of a run lies in the list
 pub inside : (rs : List Run) (i : ℕ) (d : Run) (b : ℕ) → i < length rs → (get_or rs i d).start ≤ b → b < (get_or rs i d).start + (get_or rs i d).count → holds rs b ≡ true
@@ -75,20 +70,13 @@ later_more rs m block e h lt here k d back within =
     let same = ap (λ (r : Run). r.start) (get_or_default rs m d e lt) in
     omega (arith, rise, same, here)
 
--- ---- the stretch outside the runs
+-- ---- a block behind the last run that has begun, and one in front of all
 
-pub outside_from : (rs : List Run) (n block end : ℕ) (e : Run) → AreMaximal 0 rs → n ≤ length rs
-    → ((k : ℕ) (d : Run) → k < n → (get_or rs k d).start ≤ block)
+pub outside_from : (rs : List Run) (n block : ℕ) (e : Run) → AreMaximal 0 rs → n ≤ length rs
     → (0 < n → (get_or rs (n - 1) e).start + (get_or rs (n - 1) e).count ≤ block)
-    → (n < length rs → end ≤ (get_or rs n e).start) → (b : ℕ) → block ≤ b → b < end → holds rs b ≡ false
-outside_from rs n block end e h le begun last next b low high =
-    outside rs n b
-    (λ k d front within. let ended = all_ended 0 rs n block h le (λ some d'. last_of some d') k d front in omega (arith, ended, low))
-    (λ k d back within.
-    let first = next (omega (arith, back, within)) in
-    let rise = starts_rise 0 rs n k e h back within in
-    let same = ap (λ (r : Run). r.start) (get_or_default rs k d e within) in
-    omega (arith, first, rise, same, high))
+    → ((k : ℕ) (d : Run) → n ≤ k → k < length rs → block < (get_or rs k d).start) → holds rs block ≡ false
+outside_from rs n block e h le last later =
+    outside rs n block (λ k d front within. all_ended 0 rs n block h le (λ some d'. last_of some d') k d front) later
   where
     last_of : 0 < n → (d' : Run) → (get_or rs (n - 1) d').start + (get_or rs (n - 1) d').count ≤ block
     last_of some d' =

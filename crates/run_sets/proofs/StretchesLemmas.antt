@@ -4,7 +4,7 @@ use Rattle.std.specs.Prelude.{nat_le}
 use Rattle.std.proofs.lemmas.Bool.{eq-eqb, ne_eqb, cases_eq, cases_lt, le-leb, lt-leb}
 use Rattle.std.proofs.lemmas.List.{append-nil}
 use Rattle.run_sets.specs.declared.run.Run.{Run}
-use Rattle.run_sets.specs.Stretches.{with_front, stretches_from, stretches}
+use Rattle.run_sets.specs.Stretches.{with_front, stretches_from, stretches, StaysApart}
 
 -- ---- where the stretches from a block on begin
 
@@ -34,10 +34,6 @@ begins f least a (suc n) = either (nat_le least (f a)) (begins f least (a + 1) n
     either false h = begins_later f a (stretches_from f least (a + 1) n) h
 
 -- a stretch with the number v that ends at c stays apart from those behind it
-abbrev pub StaysApart : ℕ → ℕ → List (Run × ℕ) → Type 0
-StaysApart c v [] = Unit {0}
-StaysApart c v (s ∷ ss) = s.0.start ≡ c → s.1 ≡ v → ⊥
-
 apart_if : (f : ℕ → ℕ) (c v : ℕ) (ss : List (Run × ℕ)) → Begins f c ss → (f c ≡ v → ⊥) → StaysApart c v ss
 apart_if f c v [] h ne = tt
 apart_if f c v (s ∷ ss) h ne = λ start value. ne (sym (h.1 start) ∙ value)

@@ -61,3 +61,6 @@ nothing_left p start len old all le so_far =
 -- a block of a stretch of both lists is kept as the stretch is
 pub kept_at : (operation : Operation) (left right : List Run) (b : ℕ) (l r t : Bool) → holds left b ≡ l → holds right b ≡ r → t ≡ joined operation l r → t ≡ false → kept operation left right b ≡ false
 kept_at operation left right b l r t is_left is_right is off = rw (is_left, is_right) (sym is ∙ off)
+
+pub kept_on : (operation : Operation) (left right : List Run) (b : ℕ) (l r t : Bool) → holds left b ≡ l → holds right b ≡ r → t ≡ joined operation l r → t ≡ true → kept operation left right b ≡ true
+kept_on operation left right b l r t is_left is_right is on = rw (is_left, is_right) (sym is ∙ on)

@@ -1,4 +1,5 @@
 pub mod Operation
+pub mod Rest
 pub mod Runs
 pub mod Sets
 pub mod Stretches

@@ -1,8 +1,41 @@
--- In how many runs a block lies, and the maximal runs of blocks with equal numbers.
-use Rattle.std.specs.Prelude.{ℕ, zero, suc, List, [], ◌∷◌, ◌+◌, ◌-◌, ◌==◌, ◌&&◌, min, nat_le, if◌then◌else◌}
-use Rattle.std.specs.List.{count_by}
+-- Stretches: runs with a value each. The maximal stretches of a function of blocks, and in how many runs a block lies.
+use Rattle.std.specs.Prelude.{◌≡◌, ◌↔◌, ℕ, zero, suc, List, [], ◌∷◌, ◌+◌, ◌-◌, ◌==◌, ◌<◌, ◌≤◌, ◌&&◌, min, nat_le, nat_lt, if◌then◌else◌, Option, Some, None}
+use Rattle.std.specs.List.{All, count_by}
 use Rattle.run_sets.specs.declared.run.Run.{Run}
-use Rattle.run_sets.specs.Runs.{is_within, most}
+use Rattle.run_sets.specs.Runs.{is_within, most, IsRun}
+
+module _ {V : Type 0} where
+  -- the value of the stretch that the block lies in, where it lies in one
+  abbrev pub value_at : List (Run × V) → ℕ → Option V
+  value_at [] b = None
+  value_at (s ∷ ss) b = if is_within b s.0 then Some s.1 else value_at ss b
+
+  -- the first of these doesn't go on at the block with the value
+  abbrev pub StaysApart : ℕ → V → List (Run × V) → Type 0
+  StaysApart end v [] = Unit {0}
+  StaysApart end v (s ∷ ss) = s.0.start ≡ end → s.1 ≡ v → ⊥
+
+  -- from a block on: no stretch is empty, each begins at the end of the one before it or later, and right there only with another value
+  abbrev pub AreMaximalStretches : ℕ → List (Run × V) → Type 0
+  AreMaximalStretches from [] = Unit {0}
+  AreMaximalStretches from (s ∷ ss) = (from ≤ s.0.start) × (0 < s.0.count) × StaysApart (s.0.start + s.0.count) s.1 ss × AreMaximalStretches (s.0.start + s.0.count) ss
+
+  -- the stretches are maximal, and a block has their value that it has by the function and lies below the length
+  pub record AreStretchesBelow (f : ℕ → Option V) (length : ℕ) (ss : List (Run × V)) : Type 0 where
+    pub maximal : AreMaximalStretches 0 ss
+    pub exact : (b : ℕ) → value_at ss b ≡ (if nat_lt b length then f b else None)
+
+  -- the run of each stretch stands for blocks
+  abbrev pub AllRuns : List (Run × V) → Type 0
+  AllRuns ss = All (λ s. IsRun s.0) ss
+
+-- two such lists of one function and length are one, whatever the values are
+abbrev pub OneStretchList : (V : Type 0) → Type 0
+OneStretchList V = (f : ℕ → Option V) (length : ℕ) (ss others : List (Run × V)) → AreStretchesBelow f length ss → AreStretchesBelow f length others → ss ≡ others
+
+-- the block's number, where it is at least so great
+abbrev pub at_least : ℕ → (ℕ → ℕ) → ℕ → Option ℕ
+at_least least f b = if nat_le least (f b) then Some (f b) else None
 
 -- in how many of the runs the block lies
 abbrev pub depth : List Run → ℕ → ℕ
@@ -25,6 +58,10 @@ stretches_from f least a (suc n) = if nat_le least (f a) then with_front a (f a)
 -- the same, among the blocks below a length
 unfoldable pub stretches : (ℕ → ℕ) → ℕ → ℕ → List (Run × ℕ)
 stretches f least length = stretches_from f least 0 length
+
+-- for each function to numbers, least number and length there is such a list, and only one
+abbrev pub OnlyStretches : Type 0
+OnlyStretches = (f : ℕ → ℕ) (least length : ℕ) (ss : List (Run × ℕ)) → AreStretchesBelow (at_least least f) length ss ↔ (ss ≡ stretches f least length)
 
 -- how many numbers are at most b
 abbrev pub up_to : List ℕ → ℕ → ℕ

@@ -2,7 +2,7 @@ ghost use Rattle.std.specs.Prelude.{◌≡◌, ℕ, ◌<◌, ◌≤◌, IfOk, le
 ghost use Rattle.std.specs.List.{All};
 ghost use Rattle.std.specs.List.Sorted.{IsNonDecreasing};
 ghost use Rattle.run_sets.specs.Runs.{IsRun, most};
-ghost use Rattle.run_sets.specs.Stretches.{begun, counted, ended, open_at, stretches, up_to};
+ghost use Rattle.run_sets.specs.Stretches.{AllRuns, AreStretchesBelow, at_least, begun, counted, ended, open_at, stretches, up_to};
 
 use crate::run::{Memory, Run};
 use std::alloc::{AllocError, Global};
@@ -150,7 +150,9 @@ fn levels(
 pub fn overlaps(alloc: Global, runs: &[Run], least: u32) -> Result<Vec<(Run, u32)>, Memory>
     requires runs { All IsRun runs.now }
     requires least { 0 < least }
-    ensures exact { IfOk result (λ found. found.items ≡ stretches (counted runs.now) least most) }
+    ensures value { IfOk result (λ found. found.items ≡ stretches (counted runs.now) least most) }
+    ensures exact { IfOk result (λ found. AreStretchesBelow (at_least least (counted runs.now)) most found.items) }
+    ensures runs { IfOk result (λ found. AllRuns found.items) }
 {
     let starts = sorted_starts(alloc, runs)?;
     let ends = sorted_ends(alloc, runs)?;

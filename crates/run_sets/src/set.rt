@@ -2,7 +2,7 @@ ghost use Rattle.std.specs.Prelude.{◌≡◌, true};
 ghost use Rattle.run_sets.specs.Runs.{are_maximal};
 
 use crate::run::{Memory, Run};
-use crate::stretch::stretch_at;
+use crate::stretch::lies_in;
 use crate::sweep::{Operation, sweep};
 use std::alloc::Global;
 
@@ -15,7 +15,7 @@ pub struct RunSet {
 }
 
 impl RunSet {
-    ghost use Rattle.std.specs.Prelude.{ℕ, false, not, ◌<◌, ◌&&◌, ◌||◌, IfOk, OnOk, OnErr, nat_lt};
+    ghost use Rattle.std.specs.Prelude.{ℕ, false, not, All, ◌<◌, ◌&&◌, ◌||◌, IfOk, OnOk, OnErr, nat_lt};
     ghost use Rattle.run_sets.specs.Runs.{is_within, AreMaximal, AreRunsOf, EndWithin, IsRun, most};
     ghost use Rattle.run_sets.specs.Sets.{has, runs_of};
     ghost use Rattle.run_sets.specs.Operation.{kept};
@@ -33,6 +33,7 @@ impl RunSet {
     pub fn runs(&self) -> &[Run]
         ensures value { result.now ≡ runs_of self.now }
         ensures exact { AreRunsOf (has self.now) result.now }
+        ensures runs { All IsRun result.now }
     {
         &self.runs
     }
@@ -41,10 +42,7 @@ impl RunSet {
     pub fn contains(&self, block: u32) -> bool
         ensures exact { result ≡ has self.now block }
     {
-        if block == u32::MAX {
-            return false;
-        }
-        stretch_at(self.runs(), block).inside
+        lies_in(self.runs(), block)
     }
 
     // The blocks below `length` that the operation keeps of the set and of other runs.

@@ -1,4 +1,5 @@
 ghost use Rattle.std.specs.Prelude.{◌≡◌, ℕ, ◌<◌, ◌≤◌, ◌+◌, length, get_or};
+ghost use Rattle.run_sets.specs.Rest.{EndFrom, IsRest};
 ghost use Rattle.run_sets.specs.Runs.{AreMaximal, EndWithin, holds, most};
 
 use crate::run::Run;
@@ -30,30 +31,61 @@ fn begun(runs: &[Run], block: u32) -> usize
     low
 }
 
-/// The stretch from a block on: whether the block lies in the runs, and how far the blocks behind
-/// it do the same.
-pub fn stretch_at(runs: &[Run], block: u32) -> Stretch
+/// Whether the block lies in one of the runs.
+pub fn lies_in(runs: &[Run], block: u32) -> bool
+    requires maximal { AreMaximal 0 runs.now }
+    ensures { result ≡ holds runs.now block }
+{
+    let index = begun(runs, block);
+    if index == 0 {
+        return false;
+    }
+    let run = runs[index - 1];
+    block - run.start < run.count
+}
+
+/// The stretch from a block on, where the first of the runs ends behind it.
+pub fn first_stretch(runs: &[Run], block: u32) -> Stretch
     requires maximal { AreMaximal 0 runs.now }
     requires ends { EndWithin most runs.now }
+    requires ahead { EndFrom (block + 1) runs.now }
     requires block { block < most }
     ensures on { block < result.end }
     ensures within { result.end ≤ most }
+    ensures first { EndFrom result.end runs.now }
     ensures same { (b : ℕ) → block ≤ b → b < result.end → holds runs.now b ≡ result.inside }
 {
-    let index = begun(runs, block);
-    if index > 0 {
-        let run = runs[index - 1];
-        if block - run.start < run.count {
-            return Stretch {
-                inside: true,
-                end: run.start + run.count,
-            };
-        }
+    if runs.is_empty() {
+        return Stretch {
+            inside: false,
+            end: u32::MAX,
+        };
     }
-    let end = if index < runs.len() {
-        runs[index].start
-    } else {
-        u32::MAX
-    };
-    Stretch { inside: false, end }
+    let run = runs[0];
+    if block < run.start {
+        return Stretch {
+            inside: false,
+            end: run.start,
+        };
+    }
+    Stretch {
+        inside: true,
+        end: run.start + run.count,
+    }
+}
+
+/// The runs that end behind a block, where the first of all ends there or behind it.
+pub fn rest_behind(runs: &[Run], block: u32) -> &[Run]
+    requires maximal { AreMaximal 0 runs.now }
+    requires ends { EndWithin most runs.now }
+    requires first { EndFrom block runs.now }
+    ensures { IsRest runs.now block result.now }
+{
+    if runs.is_empty() {
+        return runs;
+    }
+    if block < runs[0].start + runs[0].count {
+        return runs;
+    }
+    &runs[1..]
 }

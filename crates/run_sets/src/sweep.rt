@@ -3,7 +3,7 @@ ghost use Rattle.run_sets.specs.Runs.{AreMaximal, EndWithin, most, runs_below};
 ghost use Rattle.run_sets.specs.Operation.{joined, kept};
 
 use crate::run::Run;
-use crate::stretch::stretch_at;
+use crate::stretch::{first_stretch, rest_behind};
 use std::alloc::{AllocError, Global};
 
 /// What becomes of a block by where it lies.
@@ -44,12 +44,16 @@ pub fn sweep(
     ensures exact { IfOk result (λ runs. runs.items ≡ runs_below (kept operation left.now right.now) length) }
 {
     let mut found = Vec::new(alloc);
+    let mut left_rest = left;
+    let mut right_rest = right;
     let mut start = 0;
     let mut at = 0;
     while at < length {
-        let in_left = stretch_at(left, at);
-        let in_right = stretch_at(right, at);
+        let in_left = first_stretch(left_rest, at);
+        let in_right = first_stretch(right_rest, at);
         let next = in_left.end.min(in_right.end).min(length);
+        left_rest = rest_behind(left_rest, next);
+        right_rest = rest_behind(right_rest, next);
         if !operation.keeps(in_left.inside, in_right.inside) {
             if start < at {
                 found.push(Run {

@@ -73,3 +73,11 @@ fn overlaps_are_counted(rt: HostRuntime) -> Result<(), Fail> {
     );
     Ok(())
 }
+
+#[test]
+fn the_laws_hold_at_a_type() {
+    only_runs();
+    one_list();
+    only_stretches();
+    one_stretch_list::<Run>();
+}
