@@ -1,4 +1,5 @@
 pub mod Moments
 pub mod RecordLemmas
+pub mod ReplayLemmas
 pub mod TakenLemmas
 pub mod Told

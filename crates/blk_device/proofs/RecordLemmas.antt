@@ -5,13 +5,13 @@ use Rattle.std.specs.BTreeMap.{BTreeMap}
 use Rattle.byte_fields.specs.declared.block.Block.{Block}
 use Rattle.blk_device.specs.Calls.{seen_after, MayHold, MayHaveHeld, fewer, put_aside, settled_all}
 use Rattle.blk_device.specs.Contents.{Contents, InDoubt, put}
-use Rattle.blk_device.specs.Crash.{Elapses, Follows, NoMore, IsDurable}
+use Rattle.blk_device.specs.Crash.{Elapses, Follows, NoMore, IsDurable, LeavesAny}
 use Rattle.blk_device.specs.Recorded.{Adds, Stays, seen, left_now, left_since, moment}
 use Rattle.blk_device.specs.Stored.{with_stored}
 use Rattle.blk_device.specs.declared.device.Region.{Region}
 use Rattle.blk_device.specs.declared.device.Region.TheVariants.{Image}
 use Rattle.blk_device.specs.declared.record.Call.{Call}
-use Rattle.blk_device.specs.declared.record.Call.TheVariants.{Wrote, Synced}
+use Rattle.blk_device.specs.declared.record.Call.TheVariants.{Wrote, Doubted, Synced}
 use Rattle.blk_device.specs.declared.record.Record.{Record}
 
 abbrev grown : Bool → Call → List Call → List Call
@@ -119,3 +119,57 @@ write_refused (Err e) kept call old new exact adds = failed_seen call old new (s
 pub sync_told : {T E : Type 0} (result : Result T E) (kept : Bool) (r : Region) (old new : Record) → is_ok result ≡ kept → Adds kept (Synced r) old new → OnOk result (IsDurable r (Some (seen old)) (left_now new))
 sync_told (Ok x) kept r old new exact adds = sync_durable r old new (subst (λ (k : Bool). Adds k (Synced r) old new) (sym exact) adds)
 sync_told (Err e) kept r old new exact adds = tt
+
+-- from a record that stayed as it was, back to the one before
+pub from_stayed : (P : BTreeMap ℕ Block → List Call → Type 0) (old mid : Record) → Stays old mid → P mid.base (reverse mid.calls.items) → P old.base (reverse old.calls.items)
+from_stayed P old mid (base, items) holds = along P false (Synced Image) mid old (sym base, sym items) holds
+
+pub stayed_time : (old mid new : Record) → Stays old mid → Elapses (moment mid) (moment new) (left_since mid) (left_since new) (left_now new) → Elapses (moment old) (moment new) (left_since old) (left_since new) (left_now new)
+stayed_time old mid new stays time =
+    from_stayed (λ b calls. Elapses (length calls) (moment new) (MayHaveHeld (with_stored b) calls) (left_since new) (left_now new)) old mid stays time
+
+pub stayed_follows : (r : Region) (at : ℕ) (old mid new : Record) → Stays old mid → Follows (InDoubt r at) (left_now mid) (left_now new) → Follows (InDoubt r at) (left_now old) (left_now new)
+stayed_follows r at old mid new stays crash = from_stayed (λ b calls. Follows (InDoubt r at) (MayHold (with_stored b) calls) (left_now new)) old mid stays crash
+
+pub stayed_any : (r : Region) (at : ℕ) (old mid new : Record) → Stays old mid → LeavesAny r at (left_now mid) (left_now new) → LeavesAny r at (left_now old) (left_now new)
+stayed_any r at old mid new stays any = from_stayed (λ b calls. LeavesAny r at (MayHold (with_stored b) calls) (left_now new)) old mid stays any
+
+-- a call that was done or not is one that stayed, where it wasn't
+pub stays_at_err : {T E : Type 0} (result : Result T E) (call : Call) (old new : Record) (e : E) → result ≡ Err e → Adds (is_ok result) call old new → Stays old new
+stays_at_err (Ok x) call old new e is adds = cc
+stays_at_err (Err x) call old new e is adds = adds
+
+crash_after_doubt : (kept : Bool) (r : Region) (at : ℕ) (block : Block) (first : Contents) (calls : List Call) → Follows (InDoubt r at) (MayHold first calls) (MayHold first (grown kept (Doubted r at block) calls))
+crash_after_doubt true r at block first calls = λ c now. now
+crash_after_doubt false r at block first calls = λ c now. (c, now, λ s b out. refl)
+
+pub doubt_crash : (kept : Bool) (r : Region) (at : ℕ) (block : Block) (old new : Record) → Adds kept (Doubted r at block) old new → Follows (InDoubt r at) (left_now old) (left_now new)
+doubt_crash kept r at block old new adds =
+    along (λ b calls. Follows (InDoubt r at) (left_now old) (MayHold (with_stored b) calls)) kept (Doubted r at block) old new adds (crash_after_doubt kept r at block (with_stored old.base) (reverse old.calls.items))
+
+seen_after_doubt : (kept : Bool) (r : Region) (at : ℕ) (block : Block) (first : Contents) (calls : List Call) → seen_after first (grown kept (Doubted r at block) calls) ≡ seen_after first calls
+seen_after_doubt true r at block first calls = refl
+seen_after_doubt false r at block first calls = refl
+
+pub doubt_seen : (kept : Bool) (r : Region) (at : ℕ) (block : Block) (old new : Record) → Adds kept (Doubted r at block) old new → seen new ≡ seen old
+doubt_seen kept r at block old new adds = along (λ b calls. seen_after (with_stored b) calls ≡ seen old) kept (Doubted r at block) old new adds (seen_after_doubt kept r at block (with_stored old.base) (reverse old.calls.items))
+
+-- a doubt that was kept lets the block have any bytes
+pub doubt_any : (kept : Bool) (r : Region) (at : ℕ) (block : Block) (old new : Record) → Adds kept (Doubted r at block) old new → kept ≡ true → LeavesAny r at (left_now old) (left_now new)
+doubt_any true r at block old new adds is = along (λ b calls. LeavesAny r at (left_now old) (MayHold (with_stored b) calls)) true (Doubted r at block) old new adds (λ c bytes whole held. (c, held, put_aside r at bytes c))
+doubt_any false r at block old new adds is = cc
+
+pub write_any : (r : Region) (at : ℕ) (block : Block) (old new : Record) → Adds true (Wrote r at block) old new → LeavesAny r at (left_now old) (left_now new)
+write_any r at block old new adds = along (λ b calls. LeavesAny r at (left_now old) (MayHold (with_stored b) calls)) true (Wrote r at block) old new adds (λ c bytes whole held. (c, held, put_aside r at bytes c))
+
+pub write_any_at_ok : {T E : Type 0} (result : Result T E) (t : T) (r : Region) (at : ℕ) (block : Block) (old new : Record) → result ≡ Ok t → Adds (is_ok result) (Wrote r at block) old new → LeavesAny r at (left_now old) (left_now new)
+write_any_at_ok (Ok x) t r at block old new is adds = write_any r at block old new adds
+write_any_at_ok (Err x) t r at block old new is adds = cc
+
+-- a record that stayed leaves what it left
+pub stays_doubts : (old new : Record) → Stays old new → NoMore (left_now new) (left_now old)
+stays_doubts old new stays = along (λ b calls. NoMore (MayHold (with_stored b) calls) (left_now old)) false (Synced Image) old new stays (λ c now. now)
+
+pub failed_doubts : {T E : Type 0} (result : Result T E) (kept : Bool) (call : Call) (old new : Record) → is_ok result ≡ kept → Adds kept call old new → OnErr result (NoMore (left_now new) (left_now old))
+failed_doubts (Ok x) kept call old new exact adds = tt
+failed_doubts (Err e) kept call old new exact adds = stays_doubts old new (subst (λ (k : Bool). Adds k call old new) (sym exact) adds)

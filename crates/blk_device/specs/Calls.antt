@@ -6,12 +6,13 @@ use Rattle.blk_device.specs.Contents.{Contents, InDoubt, put, same_region}
 use Rattle.blk_device.specs.declared.device.Region.{Region}
 use Rattle.blk_device.specs.declared.device.Region.TheVariants.{Image, Redo}
 use Rattle.blk_device.specs.declared.record.Call.{Call}
-use Rattle.blk_device.specs.declared.record.Call.TheVariants.{Wrote, Synced}
+use Rattle.blk_device.specs.declared.record.Call.TheVariants.{Wrote, Doubted, Synced}
 
 -- what is read after these calls
 abbrev pub seen_after : Contents → List Call → Contents
 seen_after first [] = first
 seen_after first (Wrote r at block ∷ earlier) = put r at block.bytes (seen_after first earlier)
+seen_after first (Doubted r at block ∷ earlier) = seen_after first earlier
 seen_after first (Synced r ∷ earlier) = seen_after first earlier
 
 -- region r is as it is read, and the other as before
@@ -21,10 +22,11 @@ settle r read old s b = if same_region s r then read s b else old s b
 abbrev pub Settles : Region → Contents → Contents → Contents → Type 0
 Settles r read old new = (s : Region) (b : ℕ) → new s b ≡ settle r read old s b
 
--- a crash after these calls may leave this: each block as it was last synced, or in doubt
+-- a crash after these calls may leave this: each block as it was last synced, or in doubt since a write that was done or failed
 abbrev pub MayHold : Contents → List Call → Contents → Type 0
 MayHold first [] c = c ≡ first
 MayHold first (Wrote r at block ∷ earlier) c = (d : Contents) × MayHold first earlier d × InDoubt r at d c
+MayHold first (Doubted r at block ∷ earlier) c = (d : Contents) × MayHold first earlier d × InDoubt r at d c
 MayHold first (Synced r ∷ earlier) c = (d : Contents) × MayHold first earlier d × Settles r (seen_after first earlier) d c
 
 -- at some moment since t
@@ -63,6 +65,7 @@ settle_same r c s b = sym (either (same_region s r) (c s b) (c s b) (λ e. refl)
 pub seen_now : (first : Contents) (calls : List Call) → MayHold first calls (seen_after first calls)
 seen_now first [] = refl
 seen_now first (Wrote r at block ∷ earlier) = (seen_after first earlier, seen_now first earlier, put_aside r at block.bytes (seen_after first earlier))
+seen_now first (Doubted r at block ∷ earlier) = (seen_after first earlier, seen_now first earlier, λ s b out. refl)
 seen_now first (Synced r ∷ earlier) = (seen_after first earlier, seen_now first earlier, settle_same r (seen_after first earlier))
 
 both : (t : Bool) (x y u v : List ℕ) → x ≡ u → y ≡ v → (if t then x else y) ≡ (if t then u else v)
@@ -82,6 +85,11 @@ settled_now first (Wrote q at block ∷ earlier) r d (c, held, doubt) = (
   settle r (seen_after first earlier) c,
   settled_now first earlier r c held,
   λ s b out. both (same_region s r) _ _ _ _ (put_aside q at block.bytes (seen_after first earlier) s b out) (doubt s b out),
+)
+settled_now first (Doubted q at block ∷ earlier) r d (c, held, doubt) = (
+  settle r (seen_after first earlier) c,
+  settled_now first earlier r c held,
+  λ s b out. both (same_region s r) _ _ _ _ refl (doubt s b out),
 )
 settled_now first (Synced q ∷ earlier) r d (c, held, settles) = (
   settle r (seen_after first earlier) c,
@@ -111,4 +119,5 @@ seen_whole first whole (Wrote Image at block ∷ earlier) Image b = either_whole
 seen_whole first whole (Wrote Image at block ∷ earlier) Redo b = seen_whole first whole earlier Redo b
 seen_whole first whole (Wrote Redo at block ∷ earlier) Image b = seen_whole first whole earlier Image b
 seen_whole first whole (Wrote Redo at block ∷ earlier) Redo b = either_whole (b == at) _ _ block.whole (seen_whole first whole earlier Redo b)
+seen_whole first whole (Doubted q at block ∷ earlier) r b = seen_whole first whole earlier r b
 seen_whole first whole (Synced q ∷ earlier) r b = seen_whole first whole earlier r b

@@ -1,7 +1,7 @@
 -- What a crash may leave, now and at the moments since an earlier one.
-use Rattle.std.specs.Prelude.{◌≡◌, ◌≤◌, ◌⊎◌, ℕ, Option, IfSome}
+use Rattle.std.specs.Prelude.{◌≡◌, ◌≤◌, ◌⊎◌, ℕ, List, length, Option, IfSome}
 use Rattle.blk_device.specs.declared.device.Region.{Region}
-use Rattle.blk_device.specs.Contents.{Contents}
+use Rattle.blk_device.specs.Contents.{Contents, put}
 
 -- each new outcome of a crash is an old outcome after a step
 abbrev pub Follows : (Contents → Contents → Type 0) → (Contents → Type 0) → (Contents → Type 0) → Type 0
@@ -10,6 +10,10 @@ Follows step old new = (c : Contents) → new c → (d : Contents) × old d × s
 -- each new outcome is an old one
 abbrev pub NoMore : (Contents → Type 0) → (Contents → Type 0) → Type 0
 NoMore old new = (c : Contents) → new c → old c
+
+-- each old outcome is a new one, whatever 4,096 bytes it has in this block
+abbrev pub LeavesAny : Region → ℕ → (Contents → Type 0) → (Contents → Type 0) → Type 0
+LeavesAny r at old new = (c : Contents) (bytes : List ℕ) → length bytes ≡ 4096 → old c → new (put r at bytes c)
 
 -- in this region each outcome is what is read
 abbrev pub IsDurable : Region → Option Contents → (Contents → Type 0) → Type 0

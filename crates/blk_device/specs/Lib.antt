@@ -2,8 +2,10 @@ pub mod Calls
 pub mod Causes
 pub mod Contents
 pub mod Crash
+pub mod Fuse
 pub mod Memory
 pub mod Recorded
+pub mod Replay
 pub mod Stored
 pub mod Taken
 pub mod Tally

@@ -1,8 +1,11 @@
 -- What a device in memory tells beside what each device tells.
-use Rattle.std.specs.Prelude.{◌≡◌, ℕ, List, Bool, Contains, if◌then◌else◌}
+use Rattle.std.specs.Prelude.{◌≡◌, ℕ, List, Bool, Contains, reverse, if◌then◌else◌}
 use Rattle.blk_device.specs.Causes.{one_more}
-use Rattle.blk_device.specs.Contents.{same_region}
+use Rattle.blk_device.specs.Contents.{Contents, same_region}
 use Rattle.blk_device.specs.Recorded.{keeps_block, reads_kept, CountsRead, KeepsWritten, KeepsCounts}
+use Rattle.blk_device.specs.Replay.{left_by}
+use Rattle.blk_device.specs.Stored.{with_stored}
+use Rattle.blk_device.specs.declared.unsynced.Unsynced.{Unsynced}
 use Rattle.blk_device.specs.declared.device.Region.{Region}
 use Rattle.blk_device.specs.declared.device.Region.TheVariants.{Image}
 use Rattle.blk_device.specs.declared.memory.MemDevice.{MemDevice}
@@ -18,6 +21,14 @@ calls_asked d = d.asked
 -- the numbers of the calls that fail
 abbrev pub failing_calls : MemDevice → List ℕ
 failing_calls d = d.failing.items
+
+-- a write failed and there was no memory to keep in the record that its block is in doubt
+abbrev pub has_lost_doubt : MemDevice → Bool
+has_lost_doubt d = d.lost
+
+-- what a crash leaves, of each call that no sync followed as the choices say
+abbrev pub left_after_crash : List Unsynced → MemDevice → Contents
+left_after_crash choices d = left_by choices (with_stored d.log.base) (reverse d.log.calls.items)
 
 -- the next read, write or sync is one of those that fail
 abbrev pub FailsNext : MemDevice → Type 0

@@ -1,18 +1,20 @@
-ghost use Rattle.std.specs.Prelude.{◌≡◌, ◌≤◌, ◌↔◌, ℕ, List, Some, false, IsErr, IsTrue, OnErr, OnOk, IfOk, IfSome, Contains, is_ok};
+ghost use Rattle.std.specs.Prelude.{◌≡◌, [], ◌≤◌, ◌↔◌, ◌||◌, ℕ, List, Some, true, false, IsErr, IsTrue, OnErr, OnOk, IfOk, IfSome, Contains, is_ok};
 ghost use Rattle.blk_device.specs.Causes.{HasCause, one_more};
 ghost use Rattle.blk_device.specs.Contents.{InDoubt, Holds, Doubts, map_told, put};
-ghost use Rattle.blk_device.specs.Crash.{Follows, NoMore, Elapses, IsDurable};
+ghost use Rattle.blk_device.specs.Crash.{Follows, NoMore, Elapses, IsDurable, LeavesAny};
 
 use crate::counted::answer;
 use crate::device::{Device, DeviceFailed, Region};
 use crate::record::Record;
+use crate::unsynced::Unsynced;
 use byte_fields::Block;
 use std::alloc::{AllocError, Global};
 use std::collections::BTreeMap;
 
 /// A device in memory, by its first content and the list of what was asked of it since. Reads,
 /// writes and syncs are numbered from 0 in one count, and those of chosen numbers fail. A write
-/// or a sync for which no memory is left fails too. A call that fails changes no content.
+/// or a sync for which no memory is left fails too. A call that fails changes no content, but the
+/// block of a write that failed is in doubt like one that was written.
 #[derive(Drop)]
 pub struct MemDevice {
     log: Record,
@@ -22,12 +24,15 @@ pub struct MemDevice {
     asked: u64,
     faults: u64,
     reads: u64,
+    lost: bool,
 }
 
 impl MemDevice {
     ghost use Rattle.std.specs.Prelude.{if◌then◌else◌};
     ghost use Rattle.blk_device.specs.Contents.{Contents, same_region};
-    ghost use Rattle.blk_device.specs.Memory.{FailsNext, AskedOnce, calls_asked, failing_calls, holds_block, reads_of};
+    ghost use Rattle.blk_device.specs.Memory.{FailsNext, AskedOnce, calls_asked, failing_calls, has_lost_doubt, holds_block, left_after_crash, reads_of, size_of};
+    ghost use Rattle.blk_device.specs.Recorded.{Adds, KeepsCounts, KeepsWritten, seen, left_now, moment, left_since};
+    ghost use Rattle.blk_device.specs.declared.record.Call.TheVariants.{Wrote};
     ghost use Rattle.blk_device.specs.Stored.{blank, stored, with_stored};
     ghost use Rattle.blk_device.specs.Tally.{has};
     ghost use Rattle.blk_device.specs.declared.device.Region.{Region};
@@ -38,6 +43,7 @@ impl MemDevice {
         ensures sizes { (result.image ≡ image) × (result.redo ≡ redo) }
         ensures failing { result.failing.items ≡ failing.items }
         ensures counts { (result.asked ≡ 0) × (result.faults ≡ 0) × (result.reads ≡ 0) }
+        ensures kept { result.lost ≡ false }
     {
         MemDevice {
             log,
@@ -47,6 +53,7 @@ impl MemDevice {
             asked: 0,
             faults: 0,
             reads: 0,
+            lost: false,
         }
     }
 
@@ -62,6 +69,7 @@ impl MemDevice {
         ensures failing { failing_calls result ≡ failing.items }
         ensures none { (b : ℕ) → holds_block result b ≡ false }
         ensures unread { (b : ℕ) → reads_of result b ≡ 0 }
+        ensures kept { has_lost_doubt result ≡ false }
     {
         MemDevice::over(Record::blank(alloc), image, redo, failing)
     }
@@ -84,6 +92,7 @@ impl MemDevice {
         ensures failing { IfOk result (λ d. failing_calls d ≡ failing.items) }
         ensures there { IfOk result (λ d. (b : ℕ) → holds_block d b ≡ has blocks b) }
         ensures unread { IfOk result (λ d. (b : ℕ) → reads_of d b ≡ 0) }
+        ensures kept { IfOk result (λ d. has_lost_doubt d ≡ false) }
     {
         let log = Record::over(alloc, blocks)?;
         Ok(MemDevice::over(log, image, redo, failing))
@@ -112,12 +121,71 @@ impl MemDevice {
         self.faults
     }
 
+    /// A device that holds what a crash now may leave of this one. The calls asked of this one are
+    /// taken in order, the choices in turn: the write of the i-th call, done or failed, has the
+    /// i-th choice, where no sync of its region followed; with no choice it is absent. In the new
+    /// device all is durable. Fails for want of memory.
+    pub fn crash(&self, alloc: Global, choices: &[Unsynced]) -> Result<Self, AllocError>
+        ensures content { IfOk result (λ d. ⟦<MemDevice as Device>⟧.content d ≡ Some (left_after_crash choices.now self.now)) }
+        ensures may { ⟦<MemDevice as Device>⟧.may_hold_now self.now (left_after_crash choices.now self.now) }
+        ensures quiet { IfOk result (λ d. (c : Contents) → ⟦<MemDevice as Device>⟧.may_hold_now d c → c ≡ left_after_crash choices.now self.now) }
+        ensures sizes { IfOk result (λ d. ⟦<MemDevice as Device>⟧.blocks d ≡ ⟦<MemDevice as Device>⟧.blocks self.now) }
+        ensures counts { IfOk result (λ d. (⟦<MemDevice as Device>⟧.faults d ≡ 0) × (⟦<MemDevice as Device>⟧.reads d ≡ 0)) }
+        ensures calls { IfOk result (λ d. (calls_asked d ≡ 0) × (failing_calls d ≡ [])) }
+        ensures kept { IfOk result (λ d. has_lost_doubt d ≡ false) }
+    {
+        let log = self.log.crash(alloc, choices)?;
+        Ok(MemDevice::over(log, self.image, self.redo, Vec::new(alloc)))
+    }
+
+    /// Whether a write failed and there was no memory to keep in the record that its block is in
+    /// doubt. Once true, it stays so.
+    pub fn has_lost_doubt(&self) -> bool
+        ensures { result ≡ has_lost_doubt self.now }
+    {
+        self.lost
+    }
+
+    /// Puts a block in doubt, as a write that fails does: a crash may leave any bytes in it.
+    pub(crate) fn doubt(&mut self, region: Region, at: u64, from: &Block)
+        ensures same { seen self.new.log ≡ seen self.old.log }
+        ensures crash { Follows (InDoubt region at) (left_now self.old.log) (left_now self.new.log) }
+        ensures time { Elapses (moment self.old.log) (moment self.new.log) (left_since self.old.log) (left_since self.new.log) (left_now self.new.log) }
+        ensures left { has_lost_doubt self.new ≡ false → LeavesAny region at (left_now self.old.log) (left_now self.new.log) }
+        ensures lost { has_lost_doubt self.old ≡ true → has_lost_doubt self.new ≡ true }
+        ensures sizes { size_of self.new ≡ size_of self.old }
+        ensures faults { self.new.faults ≡ self.old.faults }
+        ensures reads { self.new.reads ≡ self.old.reads }
+        ensures asked { (calls_asked self.new ≡ calls_asked self.old) × (failing_calls self.new ≡ failing_calls self.old) }
+        ensures tally { KeepsCounts self.old.log self.new.log }
+    {
+        let is_kept = self.log.doubt(region, at, from);
+        self.lost = self.lost || !is_kept;
+    }
+
+    // Writes a block, unless this call is to fail or memory is refused.
+    fn try_write(&mut self, region: Region, at: u64, from: &Block) -> Result<(), DeviceFailed>
+        ensures log { Adds (is_ok result) (Wrote region at from.now) self.old.log self.new.log }
+        ensures lost { self.new.lost ≡ self.old.lost }
+        ensures sizes { size_of self.new ≡ size_of self.old }
+        ensures cause { HasCause self.old.faults self.new.faults result }
+        ensures reads { self.new.reads ≡ self.old.reads }
+        ensures fails { FailsNext self.old → IsErr result }
+        ensures asked { AskedOnce self.old self.new }
+        ensures tally { KeepsWritten (is_ok result) region at self.old.log self.new.log }
+    {
+        self.ask()?;
+        let is_kept = self.log.write(region, at, from);
+        answer(is_kept, &mut self.faults)
+    }
+
     // Counts a call, and fails it if its number is one of those that fail.
     fn ask(&mut self) -> Result<(), DeviceFailed>
         ensures log { self.new.log ≡ self.old.log }
         ensures asked { AskedOnce self.old self.new }
         ensures sizes { (self.new.image ≡ self.old.image) × (self.new.redo ≡ self.old.redo) }
         ensures reads { self.new.reads ≡ self.old.reads }
+        ensures lost { self.new.lost ≡ self.old.lost }
         ensures cause { HasCause self.old.faults self.new.faults result }
         ensures fails { IsErr result ↔ FailsNext self.old }
     {
@@ -131,7 +199,7 @@ impl MemDevice {
 impl Device for MemDevice {
     ghost use Rattle.std.specs.Prelude.{reverse};
     ghost use Rattle.blk_device.specs.Calls.{held_now, only_held, seen_now, seen_whole};
-    ghost use Rattle.blk_device.specs.Memory.{FailsNext, AskedOnce, TalliesRead, TalliesWrite, SameTally, size_of};
+    ghost use Rattle.blk_device.specs.Memory.{FailsNext, AskedOnce, TalliesRead, TalliesWrite, SameTally, has_lost_doubt, size_of};
     ghost use Rattle.blk_device.specs.Recorded.{seen, left_now, moment, left_since};
     ghost use Rattle.blk_device.specs.Stored.{with_stored, stored_whole};
 
@@ -176,6 +244,8 @@ impl Device for MemDevice {
         ensures fails { IsErr result ↔ FailsNext self.old }
         ensures asked { AskedOnce self.old self.new }
         ensures tally { TalliesRead (is_ok result) region at self.old self.new }
+        ensures doubts { NoMore (left_now self.new.log) (left_now self.old.log) }
+        ensures lost { has_lost_doubt self.new ≡ has_lost_doubt self.old }
     {
         self.reads = self.reads.saturating_add(1);
         self.ask()?;
@@ -184,6 +254,9 @@ impl Device for MemDevice {
         Ok(())
     }
 
+    /// Fails where this call's number is one of those that fail, and where memory is refused.
+    /// After it a crash may leave any bytes in the block, whether it answers Ok or Failed, unless
+    /// there was no memory to keep that.
     fn write(&mut self, region: Region, at: u64, from: &Block) -> Result<(), DeviceFailed>
         ensures written { OnOk result (Some (seen self.new.log) ≡ Some (put region at from.now.bytes (seen self.old.log))) }
         ensures doubt { InDoubt region at (seen self.old.log) (seen self.new.log) }
@@ -196,12 +269,22 @@ impl Device for MemDevice {
         ensures asked { AskedOnce self.old self.new }
         ensures unwritten { OnErr result (seen self.new.log ≡ seen self.old.log) }
         ensures tally { TalliesWrite (is_ok result) region at self.old self.new }
+        ensures torn { OnOk result (LeavesAny region at (left_now self.old.log) (left_now self.new.log)) }
+        ensures torn_failed { OnErr result (has_lost_doubt self.new ≡ false → LeavesAny region at (left_now self.old.log) (left_now self.new.log)) }
+        ensures kept { OnOk result (has_lost_doubt self.new ≡ has_lost_doubt self.old) }
+        ensures lost { has_lost_doubt self.old ≡ true → has_lost_doubt self.new ≡ true }
     {
-        self.ask()?;
-        let is_kept = self.log.write(region, at, from);
-        answer(is_kept, &mut self.faults)
+        match self.try_write(region, at, from) {
+            Ok(()) => Ok(()),
+            Err(failed) => {
+                self.doubt(region, at, from);
+                Err(failed)
+            }
+        }
     }
 
+    /// Fails where this call's number is one of those that fail, and where memory is refused. A
+    /// sync that fails leaves each block in the doubt that it was in.
     fn sync(&mut self, region: Region) -> Result<(), DeviceFailed>
         ensures durable { OnOk result (IsDurable region (Some (seen self.old.log)) (left_now self.new.log)) }
         ensures same { Some (seen self.new.log) ≡ Some (seen self.old.log) }
@@ -213,6 +296,8 @@ impl Device for MemDevice {
         ensures fails { FailsNext self.old → IsErr result }
         ensures asked { AskedOnce self.old self.new }
         ensures tally { SameTally self.old self.new }
+        ensures doubts { OnErr result (NoMore (left_now self.new.log) (left_now self.old.log)) }
+        ensures lost { has_lost_doubt self.new ≡ has_lost_doubt self.old }
     {
         self.ask()?;
         let is_kept = self.log.sync(region);

@@ -1,20 +1,22 @@
 // What was asked of a device in memory, and what its blocks hold.
-ghost use Rattle.std.specs.Prelude.{◌≡◌, ◌++◌, [], ◌∷◌, ℕ, true, false, IfOk, reverse, if◌then◌else◌};
+ghost use Rattle.std.specs.Prelude.{◌≡◌, IsTrue, ◌++◌, [], ◌∷◌, ℕ, true, false, IfOk, reverse, if◌then◌else◌};
 ghost use Rattle.blk_device.specs.Calls.{seen_after};
 ghost use Rattle.blk_device.specs.Stored.{stored, with_stored};
 ghost use Rattle.blk_device.specs.declared.device.Region.TheVariants.{Image, Redo};
-ghost use Rattle.blk_device.specs.declared.record.Call.TheVariants.{Wrote, Synced};
+ghost use Rattle.blk_device.specs.declared.record.Call.TheVariants.{Wrote, Doubted, Synced};
 
 use crate::device::Region;
 use crate::tally::{Tally, block_or_zeros};
+use crate::unsynced::{Unsynced, choice_at, outcome_of, with_outcome};
 use byte_fields::Block;
 use std::alloc::{AllocError, Global};
 use std::collections::BTreeMap;
 
-/// What changed a device, or made it durable.
+/// What changed a device, put a block of it in doubt, or made it durable.
 #[derive(Clone, Copy, Debug, Drop)]
 pub enum Call {
     Wrote(Region, u64, Block),
+    Doubted(Region, u64, Block),
     Synced(Region),
 }
 
@@ -31,7 +33,10 @@ pub struct Record {
 }
 
 impl Record {
-    ghost use Rattle.blk_device.specs.Recorded.{Adds, Stays, KeepsWritten, CountsRead, KeepsCounts, keeps_block, reads_kept};
+    ghost use Rattle.blk_device.specs.Recorded.{Adds, Stays, KeepsWritten, CountsRead, KeepsCounts, keeps_block, reads_kept, seen, left_now};
+    ghost use Rattle.blk_device.specs.Contents.{Contents, put};
+    ghost use Rattle.blk_device.specs.Replay.{replayed, left_by, outcome};
+    ghost use Rattle.blk_device.specs.declared.device.Region.{Region as GhostRegion};
     ghost use Rattle.blk_device.specs.Tally.{has};
 
     /// A record of no calls, over zeros.
@@ -148,11 +153,63 @@ impl Record {
         }
     }
 
+    /// Whether a write that failed could be kept.
+    pub fn doubt(&mut self, region: Region, at: u64, from: &Block) -> bool
+        ensures calls { Adds result (Doubted region at from.now) self.old self.new }
+        ensures counts { KeepsCounts self.old self.new }
+    {
+        self.calls.push(Call::Doubted(region, at, *from)).is_ok()
+    }
+
     /// Whether the sync could be kept.
     pub fn sync(&mut self, region: Region) -> bool
         ensures calls { Adds result (Synced region) self.old self.new }
         ensures counts { KeepsCounts self.old self.new }
     {
         self.calls.push(Call::Synced(region)).is_ok()
+    }
+
+    fn put_left(&mut self, region: Region, at: u64, block: &Block, left: Unsynced) -> bool
+        ensures { IsTrue result → (s : GhostRegion) (b : ℕ) → seen self.new s b ≡ put region at (outcome left block.now.bytes (seen self.old region at)) (seen self.old) s b }
+    {
+        let old = self.latest(region, at);
+        self.write(region, at, &with_outcome(left, block, &old))
+    }
+
+    // Puts into the block what a crash leaves of a call; says whether that could be kept.
+    fn replay(&mut self, call: &Call, left: Unsynced) -> bool
+        ensures { IsTrue result → (s : GhostRegion) (b : ℕ) → seen self.new s b ≡ replayed left call.now (seen self.old) s b }
+    {
+        match call {
+            Call::Wrote(region, at, block) => self.put_left(*region, *at, block, left),
+            Call::Doubted(region, at, block) => self.put_left(*region, *at, block, left),
+            Call::Synced(_) => true,
+        }
+    }
+
+    // Both regions as they read made durable; says whether that could be kept.
+    fn settle(&mut self) -> bool
+        ensures same { seen self.new ≡ seen self.old }
+        ensures quiet { IsTrue result → (c : Contents) → left_now self.new c → c ≡ seen self.new }
+    {
+        self.sync(Region::Image) && self.sync(Region::Redo)
+    }
+
+    /// What a crash now leaves, of each call that no sync followed as the choices say, in turn.
+    pub fn crash(&self, alloc: Global, choices: &[Unsynced]) -> Result<Self, AllocError>
+        ensures content { IfOk result (λ r. seen r ≡ left_by choices.now (with_stored self.now.base) (reverse self.now.calls.items)) }
+        ensures quiet { IfOk result (λ r. (c : Contents) → left_now r c → c ≡ seen r) }
+    {
+        let mut log = Record::over(alloc, self.base.clone()?)?;
+        for (i, call) in self.calls.iter().enumerate() {
+            let left = outcome_of(call, &self.calls[i + 1..], choice_at(choices, i));
+            if !log.replay(call, left) {
+                return Err(AllocError);
+            }
+        }
+        if !log.settle() {
+            return Err(AllocError);
+        }
+        Ok(log)
     }
 }

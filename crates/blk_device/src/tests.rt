@@ -1,6 +1,6 @@
 use super::*;
 use byte_fields::Block;
-use std::alloc::Global;
+use std::alloc::{AllocError, Global};
 use std::fs::{File, Files, OpenFile};
 use std::test::Fail;
 use std::{fs, io};
@@ -87,6 +87,54 @@ fn only_the_chosen_calls_fail(rt: HostRuntime) -> Result<(), Fail> {
     let sixth = sync_of(&mut device, Region::Image);
     assert_eq!(rt; [first, second, fifth, sixth], [true, false, false, true]);
     assert_eq!(rt; [third, fourth], [Some((1, 1)), None]);
+    Ok(())
+}
+
+#[test]
+fn a_fuse_passes_two_calls_and_fails_the_rest(rt: HostRuntime) -> Result<(), Fail> {
+    let alloc = rt.alloc();
+    let mut fuse = FuseDevice::new(MemDevice::new(alloc, 2, 2, Vec::new(alloc)), 2);
+    let first = write_at(&mut fuse, Region::Image, 0, 1);
+    let second = sync_of(&mut fuse, Region::Image);
+    let third = write_at(&mut fuse, Region::Image, 0, 2);
+    let fourth = ends_at(&mut fuse, Region::Image, 0);
+    let fifth = sync_of(&mut fuse, Region::Image);
+    assert_eq!(rt; [first, second, third, fifth], [true, true, false, false]);
+    assert_eq!(rt; fourth, None);
+    assert_eq!(rt; fuse.fault_count(), 3);
+    let mut device = fuse.into_inner();
+    assert_eq!(rt; ends_at(&mut device, Region::Image, 0), Some((1, 1)));
+    assert!(rt; !device.has_lost_doubt());
+    let mut left = device.crash(alloc, &[Unsynced::Present])?;
+    assert_eq!(rt; ends_at(&mut left, Region::Image, 0), Some((2, 2)));
+    Ok(())
+}
+
+// What a crash leaves of a synced write, of one that wasn't synced, and of one that failed.
+fn left_by(alloc: Global, choices: &[Unsynced]) -> Result<[Option<(u8, u8)>; 3], AllocError> {
+    let mut device = MemDevice::new(alloc, 2, 2, [3u64].to_vec(alloc)?);
+    write_at(&mut device, Region::Image, 0, 1);
+    sync_of(&mut device, Region::Image);
+    write_at(&mut device, Region::Image, 1, 2);
+    write_at(&mut device, Region::Redo, 1, 3);
+    let mut left = device.crash(alloc, choices)?;
+    let synced = ends_at(&mut left, Region::Image, 0);
+    let unsynced = ends_at(&mut left, Region::Image, 1);
+    let failed = ends_at(&mut left, Region::Redo, 1);
+    Ok([synced, unsynced, failed])
+}
+
+#[test]
+fn a_crash_leaves_unsynced_writes_absent_present_or_torn(rt: HostRuntime) -> Result<(), Fail> {
+    let alloc = rt.alloc();
+    let absent = left_by(alloc, &[Unsynced::Absent])?;
+    let present = left_by(alloc, &[Unsynced::Present])?;
+    let torn = left_by(alloc, &[Unsynced::Torn])?;
+    let mixed = left_by(alloc, &[Unsynced::Present, Unsynced::Torn])?;
+    assert_eq!(rt; absent, [Some((1, 1)), Some((0, 0)), Some((0, 0))]);
+    assert_eq!(rt; present, [Some((1, 1)), Some((2, 2)), Some((3, 3))]);
+    assert_eq!(rt; torn, [Some((1, 1)), Some((2, 0)), Some((3, 0))]);
+    assert_eq!(rt; mixed, [Some((1, 1)), Some((2, 2)), Some((3, 0))]);
     Ok(())
 }
 

@@ -1,33 +1,22 @@
+use Rattle.std.proofs.Common.{true, ◌∙◌}
 use Rattle.blk_device.specs.declared.record.Call.TheVariants.{Wrote}
-use Rattle.blk_device.proofs.RecordLemmas.{stays_time, is_same, stays_follows, added_time, from_same, write_crash, write_told, write_refused}
+use Rattle.blk_device.proofs.RecordLemmas.{added_time, write_any, stays_seen, stayed_time, stayed_any}
 use Rattle.blk_device.proofs.memory.MemDeviceDevice.write.Goals as goal
 
-pub returns-in_err-ask-clause-crash : goal.returns-in_err-ask-clause-crash
-returns-in_err-ask-clause-crash c = stays_follows c.args.region c.args.at c.args.self.now.log c.ask.new.self.log (is_same c.args.self.now.log c.ask.new.self.log c.ask.ensures.log)
+pub returns-in-Ok-clause-time : goal.returns-in-Ok-clause-time
+returns-in-Ok-clause-time c = added_time true (Wrote c.args.region c.args.at c.args.from.now) c.args.self.now.log c.try_write.new.self.log c.in-Ok.ensures.log
 
-pub returns-in_err-ask-clause-time : goal.returns-in_err-ask-clause-time
-returns-in_err-ask-clause-time c = stays_time c.args.self.now.log c.ask.new.self.log (is_same c.args.self.now.log c.ask.new.self.log c.ask.ensures.log)
+pub returns-in-Ok-clause-torn : goal.returns-in-Ok-clause-torn
+returns-in-Ok-clause-torn c = write_any c.args.region c.args.at c.args.from.now c.args.self.now.log c.try_write.new.self.log c.in-Ok.ensures.log
 
-pub returns-clause-written : goal.returns-clause-written
-returns-clause-written c =
-    let call = Wrote c.args.region c.args.at c.args.from.now in
-    let adds = from_same c.write-is_kept.result call c.args.self.now.log c.ask.new.self.log c.write-is_kept.new.self c.ask.ensures.log c.write-is_kept.ensures.calls in
-    write_told c.answer.result c.write-is_kept.result c.args.region c.args.at c.args.from.now c.args.self.now.log c.write-is_kept.new.self c.answer.ensures.exact adds
+pub returns-in-Err-clause-doubt : goal.returns-in-Err-clause-doubt
+returns-in-Err-clause-doubt c =
+    let same = c.doubt.ensures.same ∙ stays_seen c.args.self.now.log c.try_write.new.self.log c.in-Err.ensures.log in
+    λ s b out i. same i s b
 
-pub returns-clause-crash : goal.returns-clause-crash
-returns-clause-crash c =
-    let call = Wrote c.args.region c.args.at c.args.from.now in
-    let adds = from_same c.write-is_kept.result call c.args.self.now.log c.ask.new.self.log c.write-is_kept.new.self c.ask.ensures.log c.write-is_kept.ensures.calls in
-    write_crash c.write-is_kept.result c.args.region c.args.at c.args.from.now c.args.self.now.log c.write-is_kept.new.self adds
+pub returns-in-Err-clause-time : goal.returns-in-Err-clause-time
+returns-in-Err-clause-time c = stayed_time c.args.self.now.log c.try_write.new.self.log c.doubt.new.self.log c.in-Err.ensures.log c.doubt.ensures.time
 
-pub returns-clause-time : goal.returns-clause-time
-returns-clause-time c =
-    let call = Wrote c.args.region c.args.at c.args.from.now in
-    let adds = from_same c.write-is_kept.result call c.args.self.now.log c.ask.new.self.log c.write-is_kept.new.self c.ask.ensures.log c.write-is_kept.ensures.calls in
-    added_time c.write-is_kept.result call c.args.self.now.log c.write-is_kept.new.self adds
-
-pub returns-clause-unwritten : goal.returns-clause-unwritten
-returns-clause-unwritten c =
-    let call = Wrote c.args.region c.args.at c.args.from.now in
-    let adds = from_same c.write-is_kept.result call c.args.self.now.log c.ask.new.self.log c.write-is_kept.new.self c.ask.ensures.log c.write-is_kept.ensures.calls in
-    write_refused c.answer.result c.write-is_kept.result call c.args.self.now.log c.write-is_kept.new.self c.answer.ensures.exact adds
+pub returns-in-Err-clause-torn_failed : goal.returns-in-Err-clause-torn_failed
+returns-in-Err-clause-torn_failed c =
+    λ kept. stayed_any c.args.region c.args.at c.args.self.now.log c.try_write.new.self.log c.doubt.new.self.log c.in-Err.ensures.log (c.doubt.ensures.left kept)
