@@ -1,0 +1,6 @@
+pub mod CoreLemmas
+pub mod EncodedLemmas
+pub mod InlineLemmas
+pub mod NumberLemmas
+pub mod PackedLemmas
+pub mod PieceLemmas

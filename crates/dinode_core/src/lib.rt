@@ -1,0 +1,23 @@
+//! Inodes: the core of one, its packed mappings, and the forks that it holds itself.
+#![tactic(auto)]
+
+mod decode;
+mod encode;
+mod inline;
+mod inode;
+mod mapping;
+mod packed;
+mod shape;
+
+pub use decode::decode_core;
+pub use encode::{encode_core, writes_back};
+pub use inline::{first_bad, inline_fork, inline_is_whole, is_in_btree};
+pub use inode::{Core3, CoreFault};
+pub use mapping::{Fork, ForkError, ForkFault, Mapping};
+pub use packed::{pack, unpack};
+pub use shape::{
+    Format, fork_area, fork_format, fork_room, fork_size, is_fork_absent, mapping_count,
+};
+
+#[cfg(test)]
+mod tests;
