@@ -1,0 +1,11 @@
+pub mod AgfLemmas
+pub mod AgflLemmas
+pub mod AgiLemmas
+pub mod HeadLemmas
+pub mod ListLemmas
+pub mod NumberLemmas
+pub mod RingLemmas
+pub mod SectorLemmas
+pub mod SpliceLemmas
+pub mod StampLemmas
+pub mod TableLemmas
