@@ -1,1 +1,5 @@
-pub mod LeafLemmas
+pub mod AreaLemmas
+pub mod BlockLemmas
+pub mod CountedLemmas
+pub mod FieldLemmas
+pub mod ListLemmas

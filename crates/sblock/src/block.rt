@@ -2,8 +2,9 @@ use crate::kind::Kind;
 use thiserror::Error;
 
 /// Why a block of a short-form btree is refused: the first of its ordered tests that fails
-/// (XFS Algorithms and Data Structures, "Short Format B+trees"). No test of a leaf answers Key,
-/// which is of the keys in nodes, or Later, which is of records in a form that isn't built.
+/// (XFS Algorithms and Data Structures, "Short Format B+trees"). No test of one block answers
+/// Key, which compares a node's key with the subtree below it; Later is of records in a form that
+/// isn't built.
 #[derive(Clone, Copy, Debug, PartialEq, Eq, Error)]
 pub enum BlockFault {
     #[error("magic")]
@@ -43,7 +44,7 @@ pub struct Bounds {
     pub agblklog: u8,
 }
 
-/// What a block is to be. `level` is 0 for a leaf, `root` allows fewer records than a leaf has
+/// What a block is to be. `level` is 0 for a leaf, `root` allows fewer records than a block has
 /// beside others, `left` is the group-relative block before it on its level (all ones for none),
 /// `place` its blkno field (in 512-byte units from the start of the device), `group` its owner
 /// field (XFS Algorithms and Data Structures, "Short Format B+trees").
@@ -68,5 +69,16 @@ pub struct Header {
     pub numrecs: u16,
     pub left: u32,
     pub right: u32,
+    pub lsn: u64,
+}
+
+/// What the header of a new block is made of: its group, the device block of that group's block 0
+/// (`first`), the file system's UUID and the log sequence number
+/// (XFS Algorithms and Data Structures, "Short Format B+trees").
+#[derive(Clone, Copy, Debug, PartialEq, Eq)]
+pub struct Frame {
+    pub group: u32,
+    pub first: u64,
+    pub uuid: [u8; 16],
     pub lsn: u64,
 }

@@ -1,9 +1,5 @@
-ghost use Rattle.std.specs.Prelude.{◌≡◌, ◌<◌, ℕ, List, length};
-ghost use Rattle.sblock.specs.declared.block.Bounds.{Bounds as GhostBounds};
-ghost use Rattle.sblock.specs.Form.{Form, IsLawful};
-ghost use Rattle.sblock.specs.Kinds.{magic_of, leaf_most_of, leaf_least_of};
-
-use crate::block::Bounds;
+ghost use Rattle.std.specs.Prelude.{◌≡◌};
+ghost use Rattle.sblock.specs.Kinds.{magic_of, record_width_of, key_width_of, leaf_most_of, leaf_least_of, node_most_of, node_least_of, has_high_keys_of};
 
 /// The six kinds of short-form btree of an allocation group: free space by start and by count,
 /// reverse mapping, reference counts, inode chunks, chunks with free inodes
@@ -33,6 +29,30 @@ impl Kind {
         }
     }
 
+    /// The bytes of a record in a leaf.
+    pub fn record_width(self) -> usize
+        ensures { result ≡ record_width_of self }
+    {
+        match self {
+            Kind::Bno | Kind::Cnt => 8,
+            Kind::Rmap => 24,
+            Kind::Refc => 12,
+            Kind::Ino | Kind::Fino => 16,
+        }
+    }
+
+    /// The bytes of a key in a node; where there are high keys, of the low and the high one
+    /// together.
+    pub fn key_width(self) -> usize
+        ensures { result ≡ key_width_of self }
+    {
+        match self {
+            Kind::Bno | Kind::Cnt => 8,
+            Kind::Rmap => 40,
+            Kind::Refc | Kind::Ino | Kind::Fino => 4,
+        }
+    }
+
     /// The greatest number of records in a leaf: 4,040 bytes divided by a record's.
     pub fn leaf_most(self) -> u16
         ensures { result ≡ leaf_most_of self }
@@ -56,35 +76,39 @@ impl Kind {
             Kind::Ino | Kind::Fino => 126,
         }
     }
-}
 
-/// A kind of tree: its records, their order and their range. Record `i` of a leaf is counted
-/// from 0.
-pub trait RecKind {
-    /// Its records.
-    type Rec: Copy;
+    /// The greatest number of keys and pointers in a node: 4,040 bytes divided by those of a
+    /// key and a pointer.
+    pub fn node_most(self) -> u16
+        ensures { result ≡ node_most_of self }
+    {
+        match self {
+            Kind::Bno | Kind::Cnt => 336,
+            Kind::Rmap => 91,
+            Kind::Refc | Kind::Ino | Kind::Fino => 505,
+        }
+    }
 
-    /// What the kind means.
-    ghost form: { Form Self.Rec };
+    /// The least number of keys and pointers in a node that isn't the root: half of the
+    /// greatest, rounded down.
+    pub fn node_least(self) -> u16
+        ensures { result ≡ node_least_of self }
+    {
+        match self {
+            Kind::Bno | Kind::Cnt => 168,
+            Kind::Rmap => 45,
+            Kind::Refc | Kind::Ino | Kind::Fino => 252,
+        }
+    }
 
-    /// Which kind it is.
-    fn kind() -> Kind
-        ensures { result ≡ form.kind };
-
-    /// Record `i` of a leaf's 4,096 bytes.
-    fn record_at(bytes: &[u8], i: usize) -> Self::Rec
-        requires whole { length bytes.now ≡ 4096 }
-        requires room { i < leaf_most_of form.kind }
-        ensures { result ≡ form.record_at bytes.now i };
-
-    /// Whether the first record comes before the second in key order.
-    fn is_before(a: &Self::Rec, b: &Self::Rec) -> bool
-        ensures { result ≡ form.is_before a.now b.now };
-
-    /// Whether the record's numbers are in range.
-    fn is_in_range(rec: &Self::Rec, bounds: &Bounds) -> bool
-        ensures { result ≡ form.is_in_range bounds.now rec.now };
-
-    /// The order is one.
-    ghost lawful: { IsLawful form };
+    /// Whether the nodes of the kind hold the greatest key of each subtree beside the least:
+    /// the reverse mapping btree alone, whose records may overlap.
+    pub fn has_high_keys(self) -> bool
+        ensures { result ≡ has_high_keys_of self }
+    {
+        match self {
+            Kind::Rmap => true,
+            Kind::Bno | Kind::Cnt | Kind::Refc | Kind::Ino | Kind::Fino => false,
+        }
+    }
 }

@@ -12,13 +12,14 @@ use Rattle.xscrub.specs.Stored.{Request}
 use Rattle.xscrub.specs.Outcome.{Outcome, is_calm, is_image_line, judged_status, judged_outcome, ended_outcome, outcome_of}
 use Rattle.xscrub.specs.declared.ending.Finding.{Finding}
 use Rattle.xscrub.specs.declared.ending.Finding.TheVariants as findings
-use Rattle.xscrub.specs.Report.{report_of, is_fixed}
+use Rattle.run_text.specs.Report.{report_of}
+use Rattle.xscrub.specs.LastLines.{is_fixed}
 use Rattle.xscrub.specs.Shown.{IsLineShown, EndsWith, last_text}
 use Rattle.xscrub.specs.declared.ending.Status.{Status}
 use Rattle.xscrub.specs.declared.ending.Status.TheVariants as statuses
-use Rattle.xscrub.specs.declared.entry.Entry.{Entry}
-use Rattle.xscrub.specs.declared.report.LastLine.{LastLine}
-use Rattle.xscrub.specs.declared.report.LastLine.TheVariants as lines
+use Rattle.fs_model.specs.declared.entry.Entry.{Entry}
+use Rattle.xscrub.specs.declared.last_line.LastLine.{LastLine}
+use Rattle.xscrub.specs.declared.last_line.LastLine.TheVariants as lines
 
 -- a journal that was told whole, without a line behind it
 pub shown_alone : (journal : List Entry) (f g : ℕ) (a b : Option (List ℕ)) → g ≡ f → Takes (report_of journal) a b → IsShown journal None f g a b

@@ -4,8 +4,8 @@ use Rattle.std.proofs.lemmas.Bool.{cases_lt, cases_eq}
 use Rattle.std.proofs.lemmas.Bool.Decides.{nat_tests}
 use Rattle.std.proofs.lemmas.List.{append-nil, get_or_default}
 use Rattle.std.proofs.lemmas.List.Folds.{list_any_none, list_any_at}
-use Rattle.xscrub.specs.declared.records.FreeRec.{FreeRec}
-use Rattle.xscrub.specs.declared.records.RmapRec.{RmapRec}
+use Rattle.span_recs.specs.declared.span.SpanRec.{SpanRec}
+use Rattle.rmap_recs.specs.declared.records.RmapRec.{RmapRec}
 use Rattle.xscrub.specs.Free.{StartsRise, EndWithin, covers, is_free, runs_from, free_runs}
 use Rattle.xscrub.specs.Order.{RisesByStart}
 use Rattle.xscrub.proofs.RunsLemmas.{runs_maximal, rises_if_maximal, runs_behind, runs_after_stretch, runs_after_skip}
@@ -85,12 +85,12 @@ passed_more rs i from to d lt le here passed k e front some = elim (cases_eq k i
 ]
 
 -- a found run joins those that were found
-joined : (old new rest all found : List FreeRec) (r : FreeRec) → found ≡ r ∷ rest → old ++ found ≡ all → new ≡ old ++ r ∷ [] → new ++ rest ≡ all
+joined : (old new rest all found : List SpanRec) (r : SpanRec) → found ≡ r ∷ rest → old ++ found ≡ all → new ≡ old ++ r ∷ [] → new ++ rest ≡ all
 joined old new rest all found r next so_far more =
-    rw more (append_assoc old (r ∷ []) rest ∙ (ap (λ (rs : List FreeRec). old ++ rs) (sym next) ∙ so_far))
+    rw more (append_assoc old (r ∷ []) rest ∙ (ap (λ (rs : List SpanRec). old ++ rs) (sym next) ∙ so_far))
 
 -- a record behind a gap
-pub turn_gap : (rs : List RmapRec) (i from to len : ℕ) (d : RmapRec) (old new all : List FreeRec) → StartsRise rs → i < length rs → Passed rs i from
+pub turn_gap : (rs : List RmapRec) (i from to len : ℕ) (d : RmapRec) (old new all : List SpanRec) → StartsRise rs → i < length rs → Passed rs i from
     → 0 < (get_or rs i d).count → to ≡ (get_or rs i d).start + (get_or rs i d).count → to ≤ len → from < (get_or rs i d).start
     → old ++ runs_from (is_free rs) from (len - from) ≡ all → new ≡ old ++ record { start = from; count = (get_or rs i d).start - from } ∷ []
     → new ++ runs_from (is_free rs) to (len - to) ≡ all
@@ -99,40 +99,40 @@ turn_gap rs i from to len d old new all rises lt passed some end within gap so_f
     let taken : is_free rs s ≡ false = taken_within rs i d s lt (omega arith) (omega (arith, some)) in
     let found = runs_after_stretch (is_free rs) from s len gap (omega (arith, end, within)) (free_before rs i from d rises lt passed) (runs_behind (is_free rs) s (len - s) taken) in
     let rest = runs_after_skip (is_free rs) s to len (omega (arith, end)) within (λ b low high. taken_within rs i d b lt low (omega (arith, end, high))) in
-    let next = found ∙ ap (λ (runs : List FreeRec). record { start = from; count = s - from } ∷ runs) rest in
+    let next = found ∙ ap (λ (runs : List SpanRec). record { start = from; count = s - from } ∷ runs) rest in
     joined old new (runs_from (is_free rs) to (len - to)) all (runs_from (is_free rs) from (len - from)) (record { start = from; count = s - from }) next so_far more
 
 -- a record that begins at the first block that isn't passed, or before it
-pub turn_on : (rs : List RmapRec) (i from to len : ℕ) (d : RmapRec) (old all : List FreeRec) → i < length rs
+pub turn_on : (rs : List RmapRec) (i from to len : ℕ) (d : RmapRec) (old all : List SpanRec) → i < length rs
     → from ≤ to → to ≤ len → (from < to → to ≡ (get_or rs i d).start + (get_or rs i d).count) → (get_or rs i d).start ≤ from
     → old ++ runs_from (is_free rs) from (len - from) ≡ all → old ++ runs_from (is_free rs) to (len - to) ≡ all
 turn_on rs i from to len d old all lt le within end begun so_far =
     let rest = runs_after_skip (is_free rs) from to len le within (λ b low high. let is = end (omega (arith, low, high)) in taken_within rs i d b lt (omega (arith, begun, low)) (omega (arith, is, high))) in
-    ap (λ (runs : List FreeRec). old ++ runs) (sym rest) ∙ so_far
+    ap (λ (runs : List SpanRec). old ++ runs) (sym rest) ∙ so_far
 
 -- ---- in front of the first record
 
-pub at_start : (rs : List RmapRec) (len : ℕ) (old : List FreeRec) → old ≡ [] → old ++ runs_from (is_free rs) 0 (len - 0) ≡ free_runs len rs
+pub at_start : (rs : List RmapRec) (len : ℕ) (old : List SpanRec) → old ≡ [] → old ++ runs_from (is_free rs) 0 (len - 0) ≡ free_runs len rs
 unfolding free_runs
 at_start rs len old none = let whole : len - 0 ≡ len = omega arith in rw (none, whole) refl
 
 -- ---- behind the last record
 
-pub last_gap : (rs : List RmapRec) (from len : ℕ) (old new all : List FreeRec) → Passed rs (length rs) from → from < len
+pub last_gap : (rs : List RmapRec) (from len : ℕ) (old new all : List SpanRec) → Passed rs (length rs) from → from < len
     → old ++ runs_from (is_free rs) from (len - from) ≡ all → new ≡ old ++ record { start = from; count = len - from } ∷ [] → new ≡ all
 last_gap rs from len old new all passed lt so_far more =
     let none : len - len ≡ 0 = omega arith in
     let over : runs_from (is_free rs) len (len - len) ≡ [] = rw none refl in
     let found = runs_after_stretch (is_free rs) from len len lt (omega arith) (λ b low high. free_behind_all rs from passed b low) (rw over tt) in
-    let next : runs_from (is_free rs) from (len - from) ≡ record { start = from; count = len - from } ∷ [] = found ∙ ap (λ (runs : List FreeRec). record { start = from; count = len - from } ∷ runs) over in
+    let next : runs_from (is_free rs) from (len - from) ≡ record { start = from; count = len - from } ∷ [] = found ∙ ap (λ (runs : List SpanRec). record { start = from; count = len - from } ∷ runs) over in
     sym (append-nil new) ∙ joined old new [] all (runs_from (is_free rs) from (len - from)) (record { start = from; count = len - from }) next so_far more
 
-pub nothing_left : (rs : List RmapRec) (from len : ℕ) (old all : List FreeRec) → len ≤ from → old ++ runs_from (is_free rs) from (len - from) ≡ all → old ≡ all
+pub nothing_left : (rs : List RmapRec) (from len : ℕ) (old all : List SpanRec) → len ≤ from → old ++ runs_from (is_free rs) from (len - from) ≡ all → old ≡ all
 nothing_left rs from len old all le so_far =
     let none : len - from ≡ 0 = omega (arith, le) in
     let over : runs_from (is_free rs) from (len - from) ≡ [] = rw none refl in
-    sym (append-nil old) ∙ (ap (λ (runs : List FreeRec). old ++ runs) (sym over) ∙ so_far)
+    sym (append-nil old) ∙ (ap (λ (runs : List SpanRec). old ++ runs) (sym over) ∙ so_far)
 
-pub free_runs_rise : (rs : List RmapRec) (len : ℕ) (runs : List FreeRec) → runs ≡ free_runs len rs → RisesByStart runs
+pub free_runs_rise : (rs : List RmapRec) (len : ℕ) (runs : List SpanRec) → runs ≡ free_runs len rs → RisesByStart runs
 unfolding free_runs
 free_runs_rise rs len runs is = rw is (rises_if_maximal 0 (free_runs len rs) (runs_maximal (is_free rs) 0 len))

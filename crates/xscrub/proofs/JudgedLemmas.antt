@@ -10,23 +10,25 @@ use Rattle.geom.specs.declared.fault.ImageFault.TheVariants.{DeviceShort}
 use Rattle.sblock.specs.Blocks.{AllInside}
 use Rattle.sblock.specs.declared.block.BlockFault.{BlockFault}
 use Rattle.sblock.specs.declared.block.Bounds.{Bounds}
-use Rattle.xscrub.specs.Forms.{bno_form, rmap_form}
-use Rattle.xscrub.specs.Heads.{agf_fault, agf_trees_of}
+use Rattle.rmap_recs.specs.Rmap.{rmap_form}
+use Rattle.span_recs.specs.Spans.{bno_form}
+use Rattle.ag_headers.specs.Agf.{agf_fault, agf_of}
 use Rattle.xscrub.specs.Image.{image_outcome, superblock_outcome, groups_outcome, head_outcome, trees_outcome, trees_journal, free_journal, refused, verdict_entry}
 use Rattle.xscrub.specs.Free.{EndWithin}
 use Rattle.xscrub.specs.Judged.{IsJudged, RisesIfRead, judgement_outcome}
 use Rattle.xscrub.specs.Leaf.{Reading, Readable, Unreadable, IsSoundReading, bounds_of, tree_of}
 use Rattle.xscrub.specs.Outcome.{judged_outcome}
-use Rattle.xscrub.specs.declared.entry.Entry.{Entry}
-use Rattle.xscrub.specs.declared.entry.Unit.TheVariants.{Rmap as RmapUnit}
-use Rattle.xscrub.specs.declared.entry.Verdict.TheVariants.{Skipped}
-use Rattle.xscrub.specs.declared.heads.AgfTrees.{AgfTrees}
-use Rattle.xscrub.specs.declared.heads.HeadFault.{HeadFault}
+use Rattle.fs_model.specs.declared.entry.Entry.{Entry}
+use Rattle.fs_model.specs.declared.unit.Head.TheVariants.{Agf as AgfHead}
+use Rattle.fs_model.specs.declared.unit.Unit.TheVariants.{Rmap as RmapUnit}
+use Rattle.fs_model.specs.declared.verdict.Verdict.TheVariants.{Skipped}
+use Rattle.ag_headers.specs.declared.agf.Agf.{Agf}
+use Rattle.ag_headers.specs.declared.fault.HeadFault.{HeadFault}
 use Rattle.xscrub.specs.declared.judging.Judgement.{Judgement}
 use Rattle.xscrub.specs.declared.judging.Judgement.TheVariants.{Refused}
-use Rattle.xscrub.specs.declared.records.FreeRec.{FreeRec}
-use Rattle.xscrub.specs.declared.records.RmapRec.{RmapRec}
-use Rattle.xscrub.specs.declared.report.LastLine.TheVariants as lines
+use Rattle.span_recs.specs.declared.span.SpanRec.{SpanRec}
+use Rattle.rmap_recs.specs.declared.records.RmapRec.{RmapRec}
+use Rattle.xscrub.specs.declared.last_line.LastLine.TheVariants as lines
 use Rattle.xscrub.proofs.ReadingLemmas.{rises_by_start, ends_within}
 
 -- what holds of told contents, from what else holds of them
@@ -78,56 +80,56 @@ module _ (size : ℕ) (image : ℕ → List ℕ) (bytes : List ℕ) (held : imag
           at_groups ∙ ap (λ (b : Bool). cond b (head_outcome at image (agf_fault at 0 (image 0))) (refused lines.UnbuiltGroups)) one
           ∙ ap (λ (b : List ℕ). head_outcome at image (agf_fault at 0 b)) held
 
-      pub bad_head : (fault : HeadFault) → agf_fault at 0 bytes ≡ Some fault → image_outcome size image ≡ refused (lines.Agf 0 fault)
+      pub bad_head : (fault : HeadFault) → agf_fault at 0 bytes ≡ Some fault → image_outcome size image ≡ refused (lines.Head 0 AgfHead fault)
       bad_head fault bad = at_head ∙ ap (head_outcome at image) bad
 
-      module _ (trees : AgfTrees) (whole : agf_fault at 0 bytes ≡ None) (found : trees ≡ agf_trees_of bytes) where
-        at_trees : image_outcome size image ≡ trees_outcome at image trees
+      module _ (agf : Agf) (whole : agf_fault at 0 bytes ≡ None) (found : agf ≡ agf_of bytes) where
+        at_trees : image_outcome size image ≡ trees_outcome at image agf
         at_trees =
-            at_head ∙ ap (head_outcome at image) whole ∙ ap (λ (b : List ℕ). trees_outcome at image (agf_trees_of b)) held
+            at_head ∙ ap (head_outcome at image) whole ∙ ap (λ (b : List ℕ). trees_outcome at image (agf_of b)) held
             ∙ ap (trees_outcome at image) (sym found)
 
-        pub more_levels : (eqb trees.bno_level 1 && eqb trees.rmap_level 1) ≡ false → image_outcome size image ≡ refused lines.UnbuiltLevels
+        pub more_levels : (eqb agf.bno_level 1 && eqb agf.rmap_level 1) ≡ false → image_outcome size image ≡ refused lines.UnbuiltLevels
         unfolding trees_outcome
-        more_levels more = at_trees ∙ ap (λ (b : Bool). cond b (judged_outcome (trees_journal at image trees)) (refused lines.UnbuiltLevels)) more
+        more_levels more = at_trees ∙ ap (λ (b : Bool). cond b (judged_outcome (trees_journal at image agf)) (refused lines.UnbuiltLevels)) more
 
-        pub single_leaves : (journal : List Entry) → (eqb trees.bno_level 1 && eqb trees.rmap_level 1) ≡ true → journal ≡ trees_journal at image trees → image_outcome size image ≡ judged_outcome journal
+        pub single_leaves : (journal : List Entry) → (eqb agf.bno_level 1 && eqb agf.rmap_level 1) ≡ true → journal ≡ trees_journal at image agf → image_outcome size image ≡ judged_outcome journal
         unfolding trees_outcome
         single_leaves journal single is =
-            at_trees ∙ ap (λ (b : Bool). cond b (judged_outcome (trees_journal at image trees)) (refused lines.UnbuiltLevels)) single
+            at_trees ∙ ap (λ (b : Bool). cond b (judged_outcome (trees_journal at image agf)) (refused lines.UnbuiltLevels)) single
             ∙ ap judged_outcome (sym is)
 
--- ---- the two trees
+-- ---- the two agf
 
-not_read : (at : Layout) (image : ℕ → List ℕ) (trees : AgfTrees) (block : ℕ) (fault : BlockFault) → Unreadable block fault ≡ tree_of rmap_form at 0 trees.rmap_root image
-    → verdict_entry (Skipped 0 RmapUnit) ∷ [] ≡ trees_journal at image trees
+not_read : (at : Layout) (image : ℕ → List ℕ) (agf : Agf) (block : ℕ) (fault : BlockFault) → Unreadable block fault ≡ tree_of rmap_form at 0 agf.rmap_root image
+    → verdict_entry (Skipped 0 RmapUnit) ∷ [] ≡ trees_journal at image agf
 unfolding trees_journal free_journal
-not_read at image trees block fault is = ap (λ (r : Reading RmapRec). free_journal (group_len_of at 0) r (tree_of bno_form at 0 trees.bno_root image)) is
+not_read at image agf block fault is = ap (λ (r : Reading RmapRec). free_journal (group_len_of at 0) r (tree_of bno_form at 0 agf.bno_root image)) is
 
-both_read : (at : Layout) (len : ℕ) (image : ℕ → List ℕ) (trees : AgfTrees) (journal : List Entry) (mappings : List RmapRec) (index : Reading FreeRec)
+both_read : (at : Layout) (len : ℕ) (image : ℕ → List ℕ) (agf : Agf) (journal : List Entry) (mappings : List RmapRec) (index : Reading SpanRec)
     → journal ≡ free_journal len (Readable mappings) index → len ≡ group_len_of at 0
-    → Readable mappings ≡ tree_of rmap_form at 0 trees.rmap_root image → index ≡ tree_of bno_form at 0 trees.bno_root image → journal ≡ trees_journal at image trees
+    → Readable mappings ≡ tree_of rmap_form at 0 agf.rmap_root image → index ≡ tree_of bno_form at 0 agf.bno_root image → journal ≡ trees_journal at image agf
 unfolding trees_journal
-both_read at len image trees journal mappings index is long first second =
+both_read at len image agf journal mappings index is long first second =
     is ∙ ap (λ (n : ℕ). free_journal n (Readable mappings) index) long ∙ ap (λ (r : Reading RmapRec). free_journal (group_len_of at 0) r index) first
-    ∙ ap (λ (r : Reading FreeRec). free_journal (group_len_of at 0) (tree_of rmap_form at 0 trees.rmap_root image) r) second
+    ∙ ap (λ (r : Reading SpanRec). free_journal (group_len_of at 0) (tree_of rmap_form at 0 agf.rmap_root image) r) second
 
-pub rises_if_read : (bounds : Bounds) (index : Reading FreeRec) → IsSoundReading bno_form bounds index → RisesIfRead index
+pub rises_if_read : (bounds : Bounds) (index : Reading SpanRec) → IsSoundReading bno_form bounds index → RisesIfRead index
 rises_if_read bounds (Readable records) sound = rises_by_start records sound.0
 rises_if_read bounds (Unreadable block fault) sound = tt
 
-pub told_both_read : (told : Option Contents) (at : Layout) (len : ℕ) (trees : AgfTrees) (journal : List Entry) (mappings : List RmapRec) (index : Reading FreeRec)
+pub told_both_read : (told : Option Contents) (at : Layout) (len : ℕ) (agf : Agf) (journal : List Entry) (mappings : List RmapRec) (index : Reading SpanRec)
     → journal ≡ free_journal len (Readable mappings) index → len ≡ group_len_of at 0
-    → IfSome told (λ m. Readable mappings ≡ tree_of rmap_form at 0 trees.rmap_root (m Image)) → IfSome told (λ m. index ≡ tree_of bno_form at 0 trees.bno_root (m Image))
-    → IfSome told (λ m. journal ≡ trees_journal at (m Image) trees)
-told_both_read None at len trees journal mappings index is long first second = tt
-told_both_read (Some m) at len trees journal mappings index is long first second = both_read at len (m Image) trees journal mappings index is long first second
+    → IfSome told (λ m. Readable mappings ≡ tree_of rmap_form at 0 agf.rmap_root (m Image)) → IfSome told (λ m. index ≡ tree_of bno_form at 0 agf.bno_root (m Image))
+    → IfSome told (λ m. journal ≡ trees_journal at (m Image) agf)
+told_both_read None at len agf journal mappings index is long first second = tt
+told_both_read (Some m) at len agf journal mappings index is long first second = both_read at len (m Image) agf journal mappings index is long first second
 
 pub ends_in_group : (at : Layout) (g len : ℕ) (records : List RmapRec) → len ≡ group_len_of at g → AllInside rmap_form (bounds_of at g) records → EndWithin len records
 unfolding bounds_of
 ends_in_group at g len records long inside = subst (λ (n : ℕ). EndWithin n records) (sym long) (ends_within (bounds_of at g) records inside)
 
-pub told_not_read : (told : Option Contents) (at : Layout) (trees : AgfTrees) (journal : List Entry) (block : ℕ) (fault : BlockFault) → journal ≡ verdict_entry (Skipped 0 RmapUnit) ∷ []
-    → IfSome told (λ m. Unreadable block fault ≡ tree_of rmap_form at 0 trees.rmap_root (m Image)) → IfSome told (λ m. journal ≡ trees_journal at (m Image) trees)
-told_not_read None at trees journal block fault is read = tt
-told_not_read (Some m) at trees journal block fault is read = is ∙ not_read at (m Image) trees block fault read
+pub told_not_read : (told : Option Contents) (at : Layout) (agf : Agf) (journal : List Entry) (block : ℕ) (fault : BlockFault) → journal ≡ verdict_entry (Skipped 0 RmapUnit) ∷ []
+    → IfSome told (λ m. Unreadable block fault ≡ tree_of rmap_form at 0 agf.rmap_root (m Image)) → IfSome told (λ m. journal ≡ trees_journal at (m Image) agf)
+told_not_read None at agf journal block fault is read = tt
+told_not_read (Some m) at agf journal block fault is read = is ∙ not_read at (m Image) agf block fault read

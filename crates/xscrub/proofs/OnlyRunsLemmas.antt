@@ -3,24 +3,24 @@ use Rattle.std.proofs.Common.{◌≡◌, ℕ, zero, suc, ◌+◌, ◌<◌, ◌�
 use Rattle.std.specs.Prelude.{nat_le, nat_lt}
 use Rattle.std.specs.List.{list_any}
 use Rattle.std.proofs.lemmas.Bool.{eq-eqb, ne_eqb, cases_eq, cases_lt, cases_order, true≢false, lt-ltb, le-ltb, le-leb, lt-leb, cases_Bool}
-use Rattle.xscrub.specs.declared.records.FreeRec.{FreeRec}
-use Rattle.xscrub.specs.declared.records.RmapRec.{RmapRec}
+use Rattle.span_recs.specs.declared.span.SpanRec.{SpanRec}
+use Rattle.rmap_recs.specs.declared.records.RmapRec.{RmapRec}
 use Rattle.xscrub.specs.Free.{in_front, runs_from, free_runs, is_free, is_within, AreMaximal, AreFreeRuns}
 use Rattle.xscrub.proofs.RunsLemmas.{runs_maximal}
 
-within_true : (b : ℕ) (r : FreeRec) → r.start ≤ b → b < r.start + r.count → is_within b r ≡ true
+within_true : (b : ℕ) (r : SpanRec) → r.start ≤ b → b < r.start + r.count → is_within b r ≡ true
 within_true b r low high = let p : nat_le r.start b ≡ true = le-leb r.start b low in let q : nat_lt b (r.start + r.count) ≡ true = lt-ltb b (r.start + r.count) high in rw (p, q) refl
 
-before_false : (b : ℕ) (r : FreeRec) → b < r.start → is_within b r ≡ false
+before_false : (b : ℕ) (r : SpanRec) → b < r.start → is_within b r ≡ false
 before_false b r h = let p : nat_le r.start b ≡ false = lt-leb r.start b h in rw p refl
 
-behind_false : (b : ℕ) (r : FreeRec) → r.start + r.count ≤ b → is_within b r ≡ false
+behind_false : (b : ℕ) (r : SpanRec) → r.start + r.count ≤ b → is_within b r ≡ false
 behind_false b r h = let p : nat_le r.start b ≡ true = le-leb r.start b (omega (arith, h)) in let q : nat_lt b (r.start + r.count) ≡ false = le-ltb b (r.start + r.count) h in rw (p, q) refl
 
 -- ---- the blocks that lie in the runs of a test
 
 -- nothing lies before the first run
-before : (from : ℕ) (rs : List FreeRec) (b : ℕ) → AreMaximal from rs → b < from → list_any (is_within b) rs ≡ false
+before : (from : ℕ) (rs : List SpanRec) (b : ℕ) → AreMaximal from rs → b < from → list_any (is_within b) rs ≡ false
 before from [] b m lt = refl
 before from (r ∷ rs) b m lt =
     let here = before_false b r (omega (arith, m.0, lt)) in
@@ -28,7 +28,7 @@ before from (r ∷ rs) b m lt =
     rw (here, rest) refl
 
 -- a block joined to runs lies in them, and no other does
-front_at : (a : ℕ) (rs : List FreeRec) → list_any (is_within a) (in_front a rs) ≡ true
+front_at : (a : ℕ) (rs : List SpanRec) → list_any (is_within a) (in_front a rs) ≡ true
 front_at a [] = rw (within_true a (record { start = a; count = 1 }) (omega arith) (omega arith)) refl
 front_at a (r ∷ rs) = elim (cases_eq r.start (a + 1)) [
   | inl is ↦ let here : eqb r.start (a + 1) ≡ true = eq-eqb r.start (a + 1) is in
@@ -37,7 +37,7 @@ front_at a (r ∷ rs) = elim (cases_eq r.start (a + 1)) [
       let first = within_true a (record { start = a; count = 1 }) (omega arith) (omega arith) in rw (here, first) refl
 ]
 
-front_behind : (a : ℕ) (rs : List FreeRec) (b : ℕ) → a < b → list_any (is_within b) (in_front a rs) ≡ list_any (is_within b) rs
+front_behind : (a : ℕ) (rs : List SpanRec) (b : ℕ) → a < b → list_any (is_within b) (in_front a rs) ≡ list_any (is_within b) rs
 front_behind a [] b lt = rw (behind_false b (record { start = a; count = 1 }) (omega (arith, lt))) refl
 front_behind a (r ∷ rs) b lt = elim (cases_eq r.start (a + 1)) [
   | inl is ↦ let here : eqb r.start (a + 1) ≡ true = eq-eqb r.start (a + 1) is in
@@ -85,15 +85,15 @@ are_free_runs len records = record {
 -- ---- two such lists are one
 
 -- the first block of a run lies in it
-first : (r : FreeRec) (rs : List FreeRec) → 0 < r.count → list_any (is_within r.start) (r ∷ rs) ≡ true
+first : (r : SpanRec) (rs : List SpanRec) → 0 < r.count → list_any (is_within r.start) (r ∷ rs) ≡ true
 first r rs some = let here = within_true r.start r (omega arith) (omega (arith, some)) in rw here refl
 
 -- where the second list begins later, the first block of the first tells them apart
-no_later : (from : ℕ) (r s : FreeRec) (rs ss : List FreeRec) → 0 < r.count → AreMaximal from (s ∷ ss) → ((b : ℕ) → list_any (is_within b) (r ∷ rs) ≡ list_any (is_within b) (s ∷ ss)) → r.start < s.start → ⊥
+no_later : (from : ℕ) (r s : SpanRec) (rs ss : List SpanRec) → 0 < r.count → AreMaximal from (s ∷ ss) → ((b : ℕ) → list_any (is_within b) (r ∷ rs) ≡ list_any (is_within b) (s ∷ ss)) → r.start < s.start → ⊥
 no_later from r s rs ss some m same lt = true≢false (sym (first r rs some) ∙ (same r.start ∙ before s.start (s ∷ ss) r.start (omega arith, m.1, m.2) lt))
 
 -- where the second run ends later, the end of the first tells them apart
-no_longer : (r s : FreeRec) (rs ss : List FreeRec) → r.start ≡ s.start → AreMaximal (r.start + r.count + 1) rs → ((b : ℕ) → list_any (is_within b) (r ∷ rs) ≡ list_any (is_within b) (s ∷ ss)) → r.count < s.count → ⊥
+no_longer : (r s : SpanRec) (rs ss : List SpanRec) → r.start ≡ s.start → AreMaximal (r.start + r.count + 1) rs → ((b : ℕ) → list_any (is_within b) (r ∷ rs) ≡ list_any (is_within b) (s ∷ ss)) → r.count < s.count → ⊥
 no_longer r s rs ss start m same lt =
     let e : ℕ = r.start + r.count in
     let out = behind_false e r (omega arith) in
@@ -104,19 +104,19 @@ no_longer r s rs ss start m same lt =
     true≢false (sym right ∙ (sym (same e) ∙ left))
 
 -- behind the first run the rests agree
-rests : (r : FreeRec) (rs ss : List FreeRec) → AreMaximal (r.start + r.count + 1) rs → AreMaximal (r.start + r.count + 1) ss → ((b : ℕ) → list_any (is_within b) (r ∷ rs) ≡ list_any (is_within b) (r ∷ ss)) → (b : ℕ) → list_any (is_within b) rs ≡ list_any (is_within b) ss
+rests : (r : SpanRec) (rs ss : List SpanRec) → AreMaximal (r.start + r.count + 1) rs → AreMaximal (r.start + r.count + 1) ss → ((b : ℕ) → list_any (is_within b) (r ∷ rs) ≡ list_any (is_within b) (r ∷ ss)) → (b : ℕ) → list_any (is_within b) rs ≡ list_any (is_within b) ss
 rests r rs ss m n same b = elim (cases_lt b (r.start + r.count + 1)) [
   | inl front ↦ before (r.start + r.count + 1) rs b m front ∙ sym (before (r.start + r.count + 1) ss b n front)
   | inr back ↦ let out = behind_false b r (omega (arith, back)) in rw out at (same b)
 ]
 
-same_record : (r s : FreeRec) → r.start ≡ s.start → r.count ≡ s.count → r ≡ s
+same_record : (r s : SpanRec) → r.start ≡ s.start → r.count ≡ s.count → r ≡ s
 same_record r s start count =
-    let from_start : (a : ℕ) → FreeRec = λ a. record { start = a; count = r.count } in
-    let from_count : (b : ℕ) → FreeRec = λ b. record { start = s.start; count = b } in
+    let from_start : (a : ℕ) → SpanRec = λ a. record { start = a; count = r.count } in
+    let from_count : (b : ℕ) → SpanRec = λ b. record { start = s.start; count = b } in
     ap from_start start ∙ ap from_count count
 
-only : (from : ℕ) (rs ss : List FreeRec) → AreMaximal from rs → AreMaximal from ss → ((b : ℕ) → list_any (is_within b) rs ≡ list_any (is_within b) ss) → rs ≡ ss
+only : (from : ℕ) (rs ss : List SpanRec) → AreMaximal from rs → AreMaximal from ss → ((b : ℕ) → list_any (is_within b) rs ≡ list_any (is_within b) ss) → rs ≡ ss
 only from [] [] m n same = refl
 only from [] (s ∷ ss) m n same = absurd (true≢false (sym (first s ss n.1) ∙ sym (same s.start)))
 only from (r ∷ rs) [] m n same = absurd (true≢false (sym (first r rs m.1) ∙ same r.start))
@@ -128,16 +128,16 @@ only from (r ∷ rs) (s ∷ ss) m n same = elim (cases_order r.start s.start) [
     | inr (inr gt) ↦ absurd (no_longer s r ss rs (sym start) n.2 (λ b. sym (same b)) gt)
     | inl count ↦
         let is : r ≡ s = same_record r s start count in
-        let n' : AreMaximal (r.start + r.count + 1) ss = subst (λ (x : FreeRec). AreMaximal (x.start + x.count + 1) ss) (sym is) n.2 in
-        let same' : (b : ℕ) → list_any (is_within b) (r ∷ rs) ≡ list_any (is_within b) (r ∷ ss) = λ b. same b ∙ ap (λ (x : FreeRec). list_any (is_within b) (x ∷ ss)) (sym is) in
-        ap (λ (x : FreeRec). x ∷ rs) is ∙ ap (λ (xs : List FreeRec). s ∷ xs) (only (r.start + r.count + 1) rs ss m.2 n' (rests r rs ss m.2 n' same'))
+        let n' : AreMaximal (r.start + r.count + 1) ss = subst (λ (x : SpanRec). AreMaximal (x.start + x.count + 1) ss) (sym is) n.2 in
+        let same' : (b : ℕ) → list_any (is_within b) (r ∷ rs) ≡ list_any (is_within b) (r ∷ ss) = λ b. same b ∙ ap (λ (x : SpanRec). list_any (is_within b) (x ∷ ss)) (sym is) in
+        ap (λ (x : SpanRec). x ∷ rs) is ∙ ap (λ (xs : List SpanRec). s ∷ xs) (only (r.start + r.count + 1) rs ss m.2 n' (rests r rs ss m.2 n' same'))
   ]
 ]
 
-pub only_free : (len : ℕ) (records : List RmapRec) (runs : List FreeRec) → AreFreeRuns len records runs → runs ≡ free_runs len records
+pub only_free : (len : ℕ) (records : List RmapRec) (runs : List SpanRec) → AreFreeRuns len records runs → runs ≡ free_runs len records
 only_free len records runs h =
     let own = are_free_runs len records in
     only 0 runs (free_runs len records) h.maximal own.maximal (λ b. h.exact b ∙ sym (own.exact b))
 
-pub free_if_only : (len : ℕ) (records : List RmapRec) (runs : List FreeRec) → runs ≡ free_runs len records → AreFreeRuns len records runs
-free_if_only len records runs is = subst (λ (rs : List FreeRec). AreFreeRuns len records rs) (sym is) (are_free_runs len records)
+pub free_if_only : (len : ℕ) (records : List RmapRec) (runs : List SpanRec) → runs ≡ free_runs len records → AreFreeRuns len records runs
+free_if_only len records runs is = subst (λ (rs : List SpanRec). AreFreeRuns len records rs) (sym is) (are_free_runs len records)

@@ -1,12 +1,12 @@
 -- Lists in order, from what holds of each record and the next.
 use Rattle.std.proofs.Common.{◌≡◌, ℕ, suc, ◌+◌, ◌<◌, ◌≤◌, List, [], ◌∷◌, length, get_or, subst, arith}
 use Rattle.std.specs.List.{All, AllAdjacentBelow}
-use Rattle.xscrub.specs.declared.records.FreeRec.{FreeRec}
-use Rattle.xscrub.specs.declared.records.RmapRec.{RmapRec}
+use Rattle.span_recs.specs.declared.span.SpanRec.{SpanRec}
+use Rattle.rmap_recs.specs.declared.records.RmapRec.{RmapRec}
 use Rattle.xscrub.specs.Order.{RisesByStart}
 use Rattle.xscrub.specs.Free.{StartsRise, EndWithin}
 
-pub rises_from_adjacent : (rs : List FreeRec) → AllAdjacentBelow (λ r s. r.start < s.start) rs (length rs) → RisesByStart rs
+pub rises_from_adjacent : (rs : List SpanRec) → AllAdjacentBelow (λ r s. r.start < s.start) rs (length rs) → RisesByStart rs
 rises_from_adjacent [] h = tt
 rises_from_adjacent (r ∷ []) h = tt
 rises_from_adjacent (r ∷ s ∷ rs) h = (

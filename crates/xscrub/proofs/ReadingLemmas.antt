@@ -4,16 +4,17 @@ use Rattle.std.specs.Prelude.{nat_lt, nat_le, ◌==◌}
 use Rattle.std.proofs.lemmas.Bool.Decides.{nat_tests}
 use Rattle.sblock.specs.Blocks.{IsRising, AllInside}
 use Rattle.sblock.specs.declared.block.Bounds.{Bounds}
-use Rattle.xscrub.specs.Forms.{bno_form, rmap_form, is_mapped_before}
+use Rattle.rmap_recs.specs.Rmap.{rmap_form, key_of, is_key_before}
+use Rattle.span_recs.specs.Spans.{bno_form}
 use Rattle.xscrub.specs.Free.{StartsRise, EndWithin}
 use Rattle.xscrub.specs.Order.{RisesByStart}
-use Rattle.xscrub.specs.declared.records.FreeRec.{FreeRec}
-use Rattle.xscrub.specs.declared.records.RmapRec.{RmapRec}
+use Rattle.span_recs.specs.declared.span.SpanRec.{SpanRec}
+use Rattle.rmap_recs.specs.declared.records.RmapRec.{RmapRec}
 
 below : (a b : ℕ) → nat_lt a b ≡ true → a < b
 below a b h = grind (arith, nat_tests)
 
-pub rises_by_start : (records : List FreeRec) → IsRising bno_form records → RisesByStart records
+pub rises_by_start : (records : List SpanRec) → IsRising bno_form records → RisesByStart records
 rises_by_start [] rising = tt
 rises_by_start (r ∷ []) rising = tt
 rises_by_start (r ∷ s ∷ rs) rising = (below r.start s.start rising.0, rises_by_start (s ∷ rs) rising.1)
@@ -21,8 +22,8 @@ rises_by_start (r ∷ s ∷ rs) rising = (below r.start s.start rising.0, rises_
 first_not_above : (a b : ℕ) (rest : Bool) → (nat_lt a b || (a == b && rest)) ≡ true → a ≤ b
 first_not_above a b rest h = grind (arith, nat_tests)
 
-not_above : (r s : RmapRec) → is_mapped_before r s ≡ true → r.start ≤ s.start
-unfolding is_mapped_before
+not_above : (r s : RmapRec) → is_key_before (key_of r) (key_of s) ≡ true → r.start ≤ s.start
+unfolding is_key_before
 not_above r s h = first_not_above r.start s.start _ h
 
 pub starts_rise : (records : List RmapRec) → IsRising rmap_form records → StartsRise records

@@ -1,17 +1,17 @@
 -- Maximal runs of the numbers that pass a test.
 use Rattle.std.proofs.Common.{◌≡◌, ℕ, zero, suc, ◌+◌, ◌-◌, ◌<◌, ◌≤◌, Bool, true, false, cond, eqb, List, [], ◌∷◌, refl, ap, subst, sym, ◌∙◌, arith, inl, inr}
 use Rattle.std.proofs.lemmas.Bool.{eq-eqb, ne_eqb, cases_eq}
-use Rattle.xscrub.specs.declared.records.FreeRec.{FreeRec}
+use Rattle.span_recs.specs.declared.span.SpanRec.{SpanRec}
 use Rattle.xscrub.specs.Order.{RisesByStart}
 use Rattle.xscrub.specs.Free.{in_front, runs_from, AreMaximal}
 
 -- ---- the runs are maximal
 
-later : (a b : ℕ) (rs : List FreeRec) → a ≤ b → AreMaximal b rs → AreMaximal a rs
+later : (a b : ℕ) (rs : List SpanRec) → a ≤ b → AreMaximal b rs → AreMaximal a rs
 later a b [] le h = tt
 later a b (r ∷ rs) le h = (omega (arith, h.0), h.1, h.2)
 
-front_maximal : (a : ℕ) (rs : List FreeRec) → AreMaximal (a + 1) rs → AreMaximal a (in_front a rs)
+front_maximal : (a : ℕ) (rs : List SpanRec) → AreMaximal (a + 1) rs → AreMaximal a (in_front a rs)
 front_maximal a [] h = (omega arith, omega arith, tt)
 front_maximal a (r ∷ rs) h = elim (cases_eq r.start (a + 1)) [
   | inl is ↦
@@ -35,14 +35,14 @@ pub runs_behind : (p : ℕ → Bool) (a n : ℕ) → p a ≡ false → AreMaxima
 runs_behind p a zero h = tt
 runs_behind p a (suc n) h = rw h (runs_maximal p (a + 1) n)
 
-pub rises_if_maximal : (a : ℕ) (rs : List FreeRec) → AreMaximal a rs → RisesByStart rs
+pub rises_if_maximal : (a : ℕ) (rs : List SpanRec) → AreMaximal a rs → RisesByStart rs
 rises_if_maximal a [] h = tt
 rises_if_maximal a (r ∷ []) h = tt
 rises_if_maximal a (r ∷ s ∷ rs) h = (omega (arith, h.2.0), rises_if_maximal (r.start + r.count + 1) (s ∷ rs) h.2)
 
 -- ---- a stretch that passes, and one that doesn't
 
-front_apart : (a : ℕ) (rs : List FreeRec) → AreMaximal (a + 1 + 1) rs → in_front a rs ≡ record { start = a; count = 1 } ∷ rs
+front_apart : (a : ℕ) (rs : List SpanRec) → AreMaximal (a + 1 + 1) rs → in_front a rs ≡ record { start = a; count = 1 } ∷ rs
 front_apart a [] h = refl
 front_apart a (r ∷ rs) h = let here : eqb r.start (a + 1) ≡ false = ne_eqb r.start (a + 1) (λ e. omega (arith, e, h.0)) in rw here refl
 

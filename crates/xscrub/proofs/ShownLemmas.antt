@@ -5,8 +5,8 @@ use Rattle.std.proofs.lemmas.Grind.{flat_map-append}
 use Rattle.std.proofs.lemmas.List.Concat.{flat_map-cons}
 use Rattle.blk_device.specs.Taken.{Takes, TakesFront}
 use Rattle.blk_device.proofs.TakenLemmas.{then, then_front, front_of_more, takes_nothing}
-use Rattle.xscrub.specs.Report.{line_of, report_of}
-use Rattle.xscrub.specs.declared.entry.Entry.{Entry}
+use Rattle.run_text.specs.Report.{line_of, report_of}
+use Rattle.fs_model.specs.declared.entry.Entry.{Entry}
 
 -- the journal's lines are those of its front, that of the next entry, and those of the rest
 report_parts : (journal : List Entry) (i : ℕ) (d : Entry) → i < length journal

@@ -6,7 +6,8 @@ use Rattle.blk_device.specs.Taken.{Takes, IsFront}
 use Rattle.xscrub.specs.Command.{Job, check_of, unbuilt, usage}
 use Rattle.xscrub.specs.Image.{image_outcome}
 use Rattle.xscrub.specs.Outcome.{Outcome, code_of, is_calm, is_image_line, judged_outcome, ended_outcome}
-use Rattle.xscrub.specs.Report.{report_of, is_fixed}
+use Rattle.run_text.specs.Report.{report_of}
+use Rattle.xscrub.specs.LastLines.{is_fixed}
 use Rattle.xscrub.specs.Shown.{TakesFronts, last_text}
 use Rattle.xscrub.specs.Stored.{Stored, Request}
 use Rattle.xscrub.specs.declared.ending.Finding.{Finding}
@@ -14,10 +15,10 @@ use Rattle.xscrub.specs.declared.ending.Finding.TheVariants as findings
 use Rattle.xscrub.specs.declared.ending.Status.{Status}
 use Rattle.xscrub.specs.declared.ending.Status.TheVariants as statuses
 use Rattle.xscrub.specs.declared.ending.Told.{Told}
-use Rattle.xscrub.specs.declared.entry.Entry.{Entry}
+use Rattle.fs_model.specs.declared.entry.Entry.{Entry}
 use Rattle.xscrub.specs.declared.host.Purpose.TheVariants.{Check as ForCheck}
-use Rattle.xscrub.specs.declared.report.LastLine.{LastLine}
-use Rattle.xscrub.specs.declared.report.LastLine.TheVariants as lines
+use Rattle.xscrub.specs.declared.last_line.LastLine.{LastLine}
+use Rattle.xscrub.specs.declared.last_line.LastLine.TheVariants as lines
 use Rattle.xscrub.specs.declared.top.RunEnd.{RunEnd}
 
 -- ---- what words and bytes decide

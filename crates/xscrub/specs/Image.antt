@@ -6,25 +6,27 @@ use Rattle.geom.specs.Superblock.{first_fault}
 use Rattle.geom.specs.declared.fault.ImageFault.{ImageFault}
 use Rattle.sblock.specs.declared.kind.Kind.TheVariants.{Bno}
 use Rattle.xscrub.specs.Differences.{differences}
-use Rattle.xscrub.specs.Forms.{bno_form, rmap_form}
+use Rattle.span_recs.specs.Spans.{bno_form}
+use Rattle.rmap_recs.specs.Rmap.{rmap_form}
 use Rattle.xscrub.specs.Free.{free_runs}
-use Rattle.xscrub.specs.Heads.{agf_fault, agf_trees_of}
+use Rattle.ag_headers.specs.Agf.{agf_fault, agf_of}
 use Rattle.xscrub.specs.Leaf.{Reading, Readable, Unreadable, tree_of}
 use Rattle.xscrub.specs.Outcome.{Outcome, judged_outcome, ended_outcome}
 use Rattle.xscrub.specs.declared.ending.Status.TheVariants as statuses
-use Rattle.xscrub.specs.declared.entry.Entry.{Entry}
-use Rattle.xscrub.specs.declared.entry.Entry.TheVariants.{Fault as FaultEntry, Verdict as VerdictEntry}
-use Rattle.xscrub.specs.declared.entry.Fault.{Fault}
-use Rattle.xscrub.specs.declared.entry.Fault.TheVariants.{Block}
-use Rattle.xscrub.specs.declared.entry.Unit.TheVariants.{Free as FreeUnit, Rmap as RmapUnit}
-use Rattle.xscrub.specs.declared.entry.Verdict.{Verdict}
-use Rattle.xscrub.specs.declared.entry.Verdict.TheVariants.{Good, Faulty, Skipped}
-use Rattle.xscrub.specs.declared.heads.AgfTrees.{AgfTrees}
-use Rattle.xscrub.specs.declared.heads.HeadFault.{HeadFault}
-use Rattle.xscrub.specs.declared.records.FreeRec.{FreeRec}
-use Rattle.xscrub.specs.declared.records.RmapRec.{RmapRec}
-use Rattle.xscrub.specs.declared.report.LastLine.{LastLine}
-use Rattle.xscrub.specs.declared.report.LastLine.TheVariants as lines
+use Rattle.fs_model.specs.declared.entry.Entry.{Entry}
+use Rattle.fs_model.specs.declared.entry.Entry.TheVariants.{Fault as FaultEntry, Verdict as VerdictEntry}
+use Rattle.fs_model.specs.declared.fault.Fault.{Fault}
+use Rattle.fs_model.specs.declared.fault.Fault.TheVariants.{Block}
+use Rattle.fs_model.specs.declared.unit.Head.TheVariants.{Agf as AgfHead}
+use Rattle.fs_model.specs.declared.unit.Unit.TheVariants.{Free as FreeUnit, Rmap as RmapUnit}
+use Rattle.fs_model.specs.declared.verdict.Verdict.{Verdict}
+use Rattle.fs_model.specs.declared.verdict.Verdict.TheVariants.{Good, Faulty, Skipped}
+use Rattle.ag_headers.specs.declared.agf.Agf.{Agf}
+use Rattle.ag_headers.specs.declared.fault.HeadFault.{HeadFault}
+use Rattle.span_recs.specs.declared.span.SpanRec.{SpanRec}
+use Rattle.rmap_recs.specs.declared.records.RmapRec.{RmapRec}
+use Rattle.xscrub.specs.declared.last_line.LastLine.{LastLine}
+use Rattle.xscrub.specs.declared.last_line.LastLine.TheVariants as lines
 
 -- ---- the unit of free space of group 0
 
@@ -44,7 +46,7 @@ faults_journal faults = map fault_entry faults ++ verdict_entry (verdict_of (len
 
 -- Without readable reverse mappings the unit is skipped; an index that can't be read has its one
 -- fault.
-unfoldable pub free_journal : ℕ → Reading RmapRec → Reading FreeRec → List Entry
+unfoldable pub free_journal : ℕ → Reading RmapRec → Reading SpanRec → List Entry
 free_journal len (Unreadable block fault) index = verdict_entry (Skipped 0 RmapUnit) ∷ []
 free_journal len (Readable mappings) (Unreadable block fault) = faults_journal (Block Bno block fault ∷ [])
 free_journal len (Readable mappings) (Readable index) = faults_journal (differences (free_runs len mappings) index)
@@ -55,17 +57,17 @@ abbrev pub refused : LastLine → Outcome
 refused line = ended_outcome statuses.Refused line
 
 -- the trees of both kinds, of one leaf each
-unfoldable pub trees_journal : Layout → (ℕ → List ℕ) → AgfTrees → List Entry
-trees_journal at image trees =
-    free_journal (group_len_of at 0) (tree_of rmap_form at 0 trees.rmap_root image) (tree_of bno_form at 0 trees.bno_root image)
+unfoldable pub trees_journal : Layout → (ℕ → List ℕ) → Agf → List Entry
+trees_journal at image agf =
+    free_journal (group_len_of at 0) (tree_of rmap_form at 0 agf.rmap_root image) (tree_of bno_form at 0 agf.bno_root image)
 
-unfoldable pub trees_outcome : Layout → (ℕ → List ℕ) → AgfTrees → Outcome
-trees_outcome at image trees =
-    if (trees.bno_level == 1) && (trees.rmap_level == 1) then judged_outcome (trees_journal at image trees) else refused lines.UnbuiltLevels
+unfoldable pub trees_outcome : Layout → (ℕ → List ℕ) → Agf → Outcome
+trees_outcome at image agf =
+    if (agf.bno_level == 1) && (agf.rmap_level == 1) then judged_outcome (trees_journal at image agf) else refused lines.UnbuiltLevels
 
 abbrev pub head_outcome : Layout → (ℕ → List ℕ) → Option HeadFault → Outcome
-head_outcome at image (Some fault) = refused (lines.Agf 0 fault)
-head_outcome at image None = trees_outcome at image (agf_trees_of (image 0))
+head_outcome at image (Some fault) = refused (lines.Head 0 AgfHead fault)
+head_outcome at image None = trees_outcome at image (agf_of (image 0))
 
 unfoldable pub groups_outcome : Layout → (ℕ → List ℕ) → Outcome
 groups_outcome at image = if at.agcount == 1 then head_outcome at image (agf_fault at 0 (image 0)) else refused lines.UnbuiltGroups

@@ -8,7 +8,7 @@ use Rattle.xscrub.specs.Leaf.{Reading, Readable, Unreadable}
 use Rattle.xscrub.specs.Order.{RisesByStart}
 use Rattle.xscrub.specs.declared.ending.Status.TheVariants as statuses
 use Rattle.xscrub.specs.declared.judging.Judgement.{Judgement}
-use Rattle.xscrub.specs.declared.records.FreeRec.{FreeRec}
+use Rattle.span_recs.specs.declared.span.SpanRec.{SpanRec}
 use Rattle.xscrub.specs.declared.judging.Judgement.TheVariants.{Judged, Refused}
 
 abbrev pub judgement_outcome : Judgement → Outcome
@@ -25,6 +25,6 @@ abbrev pub IsJudged : Option Contents → ℕ → Judgement → Type 0
 IsJudged content size found = IfSome content (λ m. judgement_outcome found ≡ image_outcome size (m Image))
 
 -- the records of an index that could be read rise
-abbrev pub RisesIfRead : Reading FreeRec → Type 0
+abbrev pub RisesIfRead : Reading SpanRec → Type 0
 RisesIfRead (Readable records) = RisesByStart records
 RisesIfRead (Unreadable block fault) = ⊤

@@ -2,7 +2,7 @@
 use Rattle.std.specs.Prelude.{⊤, ℕ, ◌+◌, ◌-◌, ◌*◌, ◌^◌, ◌==◌, nat_lt, nat_le, true, ◌&&◌, if◌then◌else◌, List, Option, Some, None}
 use Rattle.byte_fields.specs.Fields.{field}
 use Rattle.geom.specs.Layout.{Layout, group_len_of}
-use Rattle.sblock.specs.Blocks.{leaf_fault, records_of, IsRising, AllInside}
+use Rattle.sblock.specs.Blocks.{block_fault, records_of, IsRising, AllInside}
 use Rattle.sblock.specs.Form.{Form}
 use Rattle.sblock.specs.declared.block.BlockFault.{BlockFault}
 use Rattle.sblock.specs.declared.block.BlockFault.TheVariants.{Range, Sibling}
@@ -49,11 +49,11 @@ want_of kind at g root = record {
   uuid = at.uuid;
 }
 
-module _ {R : Type 0} (form : Form R) where
+module _ {R K : Type 0} (form : Form R K) where
   -- a fault of the block, or, after all its tests, that it has a right sibling
   unfoldable pub whole_fault : List ℕ → Want → Option BlockFault
   whole_fault bytes want =
-      elim (leaf_fault form bytes want) [
+      elim (block_fault form bytes want) [
         | Some fault ↦ Some fault
         | None ↦ if field 4 bytes 12 == no_block then None else Some Sibling
       ]

@@ -1,15 +1,16 @@
 -- How a run ends: its status, its journal, and the line that comes last.
 use Rattle.std.specs.Prelude.{ℕ, Bool, true, false, if◌then◌else◌, List, [], Option, Some, None}
 use Rattle.std.specs.List.{list_all}
-use Rattle.xscrub.specs.declared.entry.Entry.{Entry}
-use Rattle.xscrub.specs.declared.entry.Entry.TheVariants.{Fault as FaultEntry, Verdict as VerdictEntry}
-use Rattle.xscrub.specs.declared.entry.Verdict.TheVariants.{Good, Faulty, Skipped}
+use Rattle.fs_model.specs.declared.entry.Entry.{Entry}
+use Rattle.fs_model.specs.declared.entry.Entry.TheVariants as entries
+use Rattle.fs_model.specs.declared.verdict.Verdict.{Verdict}
+use Rattle.fs_model.specs.declared.verdict.Verdict.TheVariants as verdicts
 use Rattle.xscrub.specs.declared.ending.Finding.{Finding}
 use Rattle.xscrub.specs.declared.ending.Finding.TheVariants as findings
 use Rattle.xscrub.specs.declared.ending.Status.{Status}
 use Rattle.xscrub.specs.declared.ending.Status.TheVariants as statuses
-use Rattle.xscrub.specs.declared.report.LastLine.{LastLine}
-use Rattle.xscrub.specs.declared.report.LastLine.TheVariants as lines
+use Rattle.xscrub.specs.declared.last_line.LastLine.{LastLine}
+use Rattle.xscrub.specs.declared.last_line.LastLine.TheVariants as lines
 
 pub record Outcome : Type 0 where
   pub status : Status
@@ -25,14 +26,22 @@ code_of statuses.Refused = 4
 code_of statuses.Failed = 5
 code_of statuses.Memory = 8
 
+-- the verdict doesn't speak against the image
+abbrev pub is_calm_verdict : Verdict → Bool
+is_calm_verdict verdicts.Good = true
+is_calm_verdict (verdicts.Faulty n) = false
+is_calm_verdict verdicts.Rebuilt = true
+is_calm_verdict (verdicts.Skipped of cause) = false
+is_calm_verdict (verdicts.GaveUp reason) = false
+
 -- the entry doesn't speak against the image
 abbrev pub is_calm : Entry → Bool
-is_calm (FaultEntry group unit fault) = false
-is_calm (VerdictEntry group unit Good) = true
-is_calm (VerdictEntry group unit (Faulty n)) = false
-is_calm (VerdictEntry group unit (Skipped of cause)) = false
+is_calm (entries.Fault group unit fault) = false
+is_calm (entries.Marked group kind cause) = false
+is_calm (entries.Verdict group unit verdict) = is_calm_verdict verdict
+is_calm entry = true
 
--- clean where every unit is good, else faulty
+-- clean where nothing speaks against the image, else faulty
 abbrev pub judged_status : List Entry → Status
 judged_status journal = if list_all is_calm journal then statuses.Clean else statuses.Faulty
 
@@ -46,7 +55,7 @@ ended_outcome status line = record { status = status; journal = []; last = Some 
 -- a line that tells of an image
 abbrev pub is_image_line : LastLine → Bool
 is_image_line (lines.Image fault) = true
-is_image_line (lines.Agf group fault) = true
+is_image_line (lines.Head group head fault) = true
 is_image_line lines.UnbuiltGroups = true
 is_image_line lines.UnbuiltLevels = true
 is_image_line lines.Usage = false

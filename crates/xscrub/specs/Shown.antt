@@ -2,12 +2,13 @@
 use Rattle.std.specs.Prelude.{◌≡◌, ◌≤◌, ℕ, List, [], length, take, Option, Some, None, ◌⊎◌, false}
 use Rattle.blk_device.specs.Causes.{Rose}
 use Rattle.blk_device.specs.Taken.{Takes, TakesFront}
-use Rattle.xscrub.specs.Report.{report_of, last_line_of, is_fixed}
-use Rattle.xscrub.specs.declared.entry.Entry.{Entry}
+use Rattle.run_text.specs.Report.{report_of}
+use Rattle.xscrub.specs.LastLines.{last_line_of, is_fixed}
+use Rattle.fs_model.specs.declared.entry.Entry.{Entry}
 use Rattle.xscrub.specs.declared.ending.Status.{Status}
 use Rattle.xscrub.specs.declared.ending.Status.TheVariants as statuses
-use Rattle.xscrub.specs.declared.report.LastLine.{LastLine}
-use Rattle.xscrub.specs.declared.report.LastLine.TheVariants as lines
+use Rattle.xscrub.specs.declared.last_line.LastLine.{LastLine}
+use Rattle.xscrub.specs.declared.last_line.LastLine.TheVariants as lines
 use Rattle.xscrub.specs.declared.telling.TellStop.{TellStop}
 use Rattle.xscrub.specs.declared.telling.TellStop.TheVariants as stops
 

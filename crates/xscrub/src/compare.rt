@@ -1,11 +1,11 @@
 ghost use Rattle.std.specs.Prelude.{◌≡◌, ◌++◌, IfOk, map};
 ghost use Rattle.xscrub.specs.Order.{RisesByStart};
 ghost use Rattle.xscrub.specs.Differences.{differences, NoneExactlyIfEqual};
-ghost use Rattle.xscrub.specs.declared.entry.AnyRec.TheVariants as recs;
-ghost use Rattle.xscrub.specs.declared.entry.Fault.TheVariants as fault_of;
+ghost use Rattle.fs_model.specs.declared.record.AnyRec.TheVariants as recs;
+ghost use Rattle.fs_model.specs.declared.fault.Fault.TheVariants as fault_of;
 
-use crate::entry::{AnyRec, Fault};
-use crate::records::FreeRec;
+use fs_model::{AnyRec, Fault};
+use span_recs::SpanRec;
 use std::alloc::{AllocError, Global};
 
 /// Where an index of free space differs from its derivation, in key order: what is only derived is
@@ -14,8 +14,8 @@ use std::alloc::{AllocError, Global};
 /// (XFS Online Fsck Design, "Cross-Referencing Space Metadata").
 pub fn compare(
     alloc: Global,
-    derived: &[FreeRec],
-    index: &[FreeRec],
+    derived: &[SpanRec],
+    index: &[SpanRec],
 ) -> Result<Vec<Fault>, AllocError>
     requires derived { RisesByStart derived.now }
     requires index { RisesByStart index.now }
@@ -43,7 +43,7 @@ pub fn compare(
     Ok(faults)
 }
 
-fn push_missing(faults: &mut Vec<Fault>, rest: &[FreeRec]) -> Result<(), AllocError>
+fn push_missing(faults: &mut Vec<Fault>, rest: &[SpanRec]) -> Result<(), AllocError>
     ensures { IfOk result (λ _.
         faults.new.items ≡ faults.old.items ++ map (λ r. fault_of.Missing (recs.Bno r)) rest.now) }
 {
@@ -53,7 +53,7 @@ fn push_missing(faults: &mut Vec<Fault>, rest: &[FreeRec]) -> Result<(), AllocEr
     Ok(())
 }
 
-fn push_extra(faults: &mut Vec<Fault>, rest: &[FreeRec]) -> Result<(), AllocError>
+fn push_extra(faults: &mut Vec<Fault>, rest: &[SpanRec]) -> Result<(), AllocError>
     ensures { IfOk result (λ _.
         faults.new.items ≡ faults.old.items ++ map (λ r. fault_of.Extra (recs.Bno r)) rest.now) }
 {

@@ -1,8 +1,8 @@
 ghost use Rattle.std.specs.Prelude.{◌≡◌};
 ghost use Rattle.std.specs.List.{list_all};
 
-use crate::entry::{Entry, Verdict};
-use crate::report::LastLine;
+use crate::last_line::LastLine;
+use fs_model::{Entry, Verdict};
 
 /// How a run ended; its number is the status of the process.
 #[derive(Clone, Copy, Debug, PartialEq, Eq)]

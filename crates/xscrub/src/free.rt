@@ -2,7 +2,8 @@ ghost use Rattle.std.specs.Prelude.{◌≡◌, IfOk};
 ghost use Rattle.xscrub.specs.Order.{RisesByStart};
 ghost use Rattle.xscrub.specs.Free.{StartsRise, EndWithin, OnlyFreeRuns, free_runs as free_runs_of};
 
-use crate::records::{FreeRec, RmapRec};
+use rmap_recs::RmapRec;
+use span_recs::SpanRec;
 use std::alloc::{AllocError, Global};
 
 /// The free space of a group of `length` blocks, as maximal runs: what the records of its reverse
@@ -12,7 +13,7 @@ pub fn free_runs(
     alloc: Global,
     length: u32,
     records: &[RmapRec],
-) -> Result<Vec<FreeRec>, AllocError>
+) -> Result<Vec<SpanRec>, AllocError>
     requires rising { StartsRise records.now }
     requires within { EndWithin length records.now }
     ensures exact { IfOk result (λ runs. runs.items ≡ free_runs_of length records.now) }
@@ -25,7 +26,7 @@ pub fn free_runs(
             continue;
         }
         if from < rec.start {
-            runs.push(FreeRec {
+            runs.push(SpanRec {
                 start: from,
                 count: rec.start - from,
             })?;
@@ -33,7 +34,7 @@ pub fn free_runs(
         from = from.max(rec.start + rec.count);
     }
     if from < length {
-        runs.push(FreeRec {
+        runs.push(SpanRec {
             start: from,
             count: length - from,
         })?;

@@ -7,17 +7,17 @@ ghost use Rattle.xscrub.specs.Leaf.{Readable, reading_of};
 ghost use Rattle.xscrub.specs.Judged.{IsJudged, RisesIfRead, TellsOfImage};
 
 use crate::compare::compare;
-use crate::entry::{Entry, Fault, Unit, Verdict};
 use crate::free::free_runs;
-use crate::heads::{AgfTrees, read_agf};
-use crate::kinds::{BnoKind, RmapKind};
+use crate::last_line::LastLine;
 use crate::leaf::{ReadError, TreeRead, read_leaf};
-use crate::records::{FreeRec, RmapRec};
-use crate::report::LastLine;
+use ag_headers::{Agf, decode_agf};
 use blk_device::{Device, Region};
 use byte_fields::Block;
+use fs_model::{Entry, Fault, Head, Unit, Verdict};
 use geom::{Geometry, ImageFault, try_geometry};
+use rmap_recs::{RmapKind, RmapRec};
 use sblock::Kind;
+use span_recs::{BnoKind, SpanRec};
 use std::alloc::{AllocError, Global};
 
 /// What a device holds: an image that was judged, with its journal, or one that is refused, with
@@ -72,7 +72,7 @@ fn judge_index(
     alloc: Global,
     length: u32,
     mappings: &[RmapRec],
-    index: &TreeRead<FreeRec>,
+    index: &TreeRead<SpanRec>,
 ) -> Result<Vec<Entry>, AllocError>
     requires mappings { StartsRise mappings.now }
     requires within { EndWithin length mappings.now }
@@ -96,41 +96,41 @@ fn judge_index(
     }
 }
 
-// The journal of the unit of free space of group 0, whose two trees have one leaf each.
+// The journal of the unit of free space of group 0, whose two btrees have one leaf each.
 fn judge_free<D: Device>(
     alloc: Global,
     dev: &mut D,
     geo: &Geometry,
-    trees: &AgfTrees,
+    agf: &Agf,
 ) -> Result<Vec<Entry>, ReadError>
     requires group { 0 < geo.now.agcount }
     requires room { geo.now.dblocks ≤ D.blocks dev.old Region.Image }
     ensures told { IfOk result (λ journal. IfSome (D.content dev.old)
-        (λ m. journal.items ≡ trees_journal (layout geo.now) (m Region.Image) trees.now)) }
+        (λ m. journal.items ≡ trees_journal (layout geo.now) (m Region.Image) agf.now)) }
     ensures same { D.content dev.new ≡ D.content dev.old }
     ensures sizes { D.blocks dev.new ≡ D.blocks dev.old }
     ensures failed { result ≡ Err ReadError.Device → Rose (D.faults dev.old) (D.faults dev.new) }
     ensures calm { OnOk result (D.faults dev.new ≡ D.faults dev.old) }
 {
-    let mappings = match read_leaf::<RmapKind, D>(alloc, dev, geo, 0, trees.rmap_root)? {
+    let mappings = match read_leaf::<RmapKind, D>(alloc, dev, geo, 0, agf.rmap_root)? {
         TreeRead::Readable(mappings) => mappings,
         TreeRead::Unreadable { .. } => return Ok(skipped(alloc)?),
     };
-    let index = read_leaf::<BnoKind, D>(alloc, dev, geo, 0, trees.bno_root)?;
+    let index = read_leaf::<BnoKind, D>(alloc, dev, geo, 0, agf.bno_root)?;
     let length = geo.group_len(0);
     let journal = judge_index(alloc, length, mappings.as_slice(), &index)?;
     Ok(journal)
 }
 
-fn are_single_leaves(trees: &AgfTrees) -> bool
-    ensures { result ≡ ((trees.now.bno_level == 1) && (trees.now.rmap_level == 1)) }
+fn are_single_leaves(agf: &Agf) -> bool
+    ensures { result ≡ ((agf.now.bno_level == 1) && (agf.now.rmap_level == 1)) }
 {
-    trees.bno_level == 1 && trees.rmap_level == 1
+    agf.bno_level == 1 && agf.rmap_level == 1
 }
 
 /// Judges the image of a device: its superblock, the AGF of its one group, and the free space
 /// btree of that group against its reverse mapping btree. The first fault of superblock or AGF,
-/// several groups, and trees of several levels are refused. Nothing is written.
+/// several groups, and btrees of several levels are refused. Nothing is written.
 pub fn judge<D: Device>(alloc: Global, dev: &mut D) -> Result<Judgement, ReadError>
     ensures told { IfOk result (λ found. IsJudged (D.content dev.old) (D.blocks dev.old Region.Image) found) }
     ensures line { IfOk result TellsOfImage }
@@ -152,12 +152,16 @@ pub fn judge<D: Device>(alloc: Global, dev: &mut D) -> Result<Judgement, ReadErr
     if geo.agcount != 1 {
         return Ok(Judgement::Refused(LastLine::UnbuiltGroups));
     }
-    let trees = match read_agf(&heads, &geo, 0) {
-        Ok(trees) => trees,
-        Err(fault) => return Ok(Judgement::Refused(LastLine::Agf { group: 0, fault })),
+    let agf = match decode_agf(&heads, &geo, 0) {
+        Ok(agf) => agf,
+        Err(fault) => return Ok(Judgement::Refused(LastLine::Head {
+            group: 0,
+            head: Head::Agf,
+            fault,
+        })),
     };
-    if !are_single_leaves(&trees) {
+    if !are_single_leaves(&agf) {
         return Ok(Judgement::Refused(LastLine::UnbuiltLevels));
     }
-    Ok(Judgement::Judged(judge_free(alloc, dev, &geo, &trees)?))
+    Ok(Judgement::Judged(judge_free(alloc, dev, &geo, &agf)?))
 }

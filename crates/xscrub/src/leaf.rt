@@ -1,7 +1,7 @@
 ghost use Rattle.std.specs.Prelude.{◌≡◌, ◌+◌, ◌<◌, ◌≤◌, length, Some, None, IfOk, IfSome, OnOk, Err, nat_le, nat_lt, ◌&&◌, if◌then◌else◌};
 ghost use Rattle.blk_device.specs.Causes.{Rose, one_more};
 ghost use Rattle.geom.specs.Places.{layout, group_len};
-ghost use Rattle.sblock.specs.Blocks.{leaf_fault, records_of, IsRising, AllInside};
+ghost use Rattle.sblock.specs.Blocks.{block_fault, records_of, IsRising, AllInside};
 ghost use Rattle.xscrub.specs.Leaf.{reading_of, bounds_of as bounds_of_layout, want_of as want_of_layout, whole_fault, judged, tree_of, IsSoundReading};
 
 use blk_device::{Device, DeviceFailed, Region};

@@ -5,17 +5,13 @@ mod asked;
 mod command;
 mod compare;
 mod ending;
-mod entry;
 mod file_host;
 mod free;
-mod heads;
 mod host;
 mod judging;
-mod kinds;
+mod last_line;
 mod leaf;
 mod mem_host;
-mod records;
-mod report;
 mod telling;
 #[cfg(test)]
 mod tests;

@@ -4,14 +4,16 @@ ghost use Rattle.std.specs.List.{list_all};
 ghost use Rattle.blk_device.specs.Causes.{Rose};
 ghost use Rattle.blk_device.specs.Taken.{Takes};
 ghost use Rattle.xscrub.specs.Ending.{IsShown, IsToldOf, told_outcome};
-ghost use Rattle.xscrub.specs.Outcome.{is_calm as is_calm_entry, judged_status, judged_outcome, outcome_of};
-ghost use Rattle.xscrub.specs.Report.{report_of, is_fixed, last_line_of};
+ghost use Rattle.xscrub.specs.Outcome.{is_calm as is_calm_entry, is_calm_verdict as is_calm_verdict_of, judged_status, judged_outcome, outcome_of};
+ghost use Rattle.run_text.specs.Report.{report_of};
+ghost use Rattle.xscrub.specs.LastLines.{is_fixed, last_line_of};
 ghost use Rattle.xscrub.specs.Shown.{StopsAt, IsLineShown, EndsWith, last_text};
 
 use crate::ending::{Finding, Status, Told};
-use crate::entry::{Entry, Verdict};
-use crate::report::{LastLine, fixed_line, last_line, line};
+use crate::last_line::{LastLine, fixed_line, last_line};
 use blk_device::{Sink, SinkFailed, put_all};
+use fs_model::{Entry, Verdict};
+use run_text::line;
 use std::alloc::Global;
 
 /// Why a journal wasn't told whole: the sink failed, or there was no memory for the line of entry
@@ -99,10 +101,17 @@ fn is_calm(entry: &Entry) -> bool
     ensures { result ≡ is_calm_entry entry.now }
 {
     match entry {
-        Entry::Verdict {
-            verdict: Verdict::Good,
-            ..
-        } => true,
+        Entry::Verdict { verdict, .. } => is_calm_verdict(verdict),
+        Entry::Fault { .. } | Entry::Marked { .. } => false,
+        _ => true,
+    }
+}
+
+fn is_calm_verdict(verdict: &Verdict) -> bool
+    ensures { result ≡ is_calm_verdict_of verdict.now }
+{
+    match verdict {
+        Verdict::Good | Verdict::Rebuilt => true,
         _ => false,
     }
 }

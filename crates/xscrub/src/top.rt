@@ -6,12 +6,12 @@ ghost use Rattle.xscrub.specs.Stored.{Stored};
 
 use crate::command::{Command, command_of};
 use crate::ending::Finding;
-use crate::entry::Entry;
 use crate::host::{Host, OpenFault, Purpose};
 use crate::judging::{Judgement, judge};
+use crate::last_line::LastLine;
 use crate::leaf::ReadError;
-use crate::report::LastLine;
 use crate::telling::tell;
+use fs_model::Entry;
 use std::alloc::Global;
 
 /// How a run ended: the status of the process, the journal, and the journal's lengths at which

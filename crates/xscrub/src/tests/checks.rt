@@ -3,8 +3,8 @@ use super::fresh::{
     with_free, with_mappings,
 };
 use super::runs::{expect_check, expect_end, run_words};
-use crate::entry::{Entry, Unit, Verdict};
 use crate::host::Purpose;
+use fs_model::{Entry, Unit, Verdict};
 use std::test::Fail;
 
 const USAGE: &str =

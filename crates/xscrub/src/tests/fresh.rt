@@ -1,8 +1,9 @@
 //! Images for tests. The small one has one group of 256 blocks, whose free space is (19, 5) and
 //! (32, 224); only the three blocks that a check reads are there.
 use crate::mem_host::MemImage;
-use crate::records::{FreeRec, RmapRec};
 use byte_fields::{Block, put_sum, put_u16, put_u32, put_u64, sum_at};
+use rmap_recs::RmapRec;
+use span_recs::SpanRec;
 use std::alloc::{AllocError, Global};
 use std::collections::BTreeMap;
 
@@ -11,8 +12,8 @@ const UUID_HIGH: u64 = 0x0102_0304_0506_0708;
 
 const UUID_LOW: u64 = 0x090a_0b0c_0d0e_0f10;
 
-pub(super) fn run(start: u32, count: u32) -> FreeRec {
-    FreeRec { start, count }
+pub(super) fn run(start: u32, count: u32) -> SpanRec {
+    SpanRec { start, count }
 }
 
 /// Blocks of an owner that isn't an inode, by its number below zero: 3 for the heads, 5 for the
@@ -38,7 +39,7 @@ pub(super) fn mapped(start: u32, count: u32, inode: u64, word: u64) -> RmapRec {
 }
 
 /// The free space of the small image.
-pub(super) fn small_free() -> [FreeRec; 2] {
+pub(super) fn small_free() -> [SpanRec; 2] {
     [run(19, 5), run(32, 224)]
 }
 
@@ -151,7 +152,7 @@ fn root_leaf(magic: u32, at: u64, records: u16) -> Block {
 }
 
 // Writes a record of free space, where a leaf has room for it.
-fn put_run(block: &mut Block, i: usize, record: &FreeRec) {
+fn put_run(block: &mut Block, i: usize, record: &SpanRec) {
     if i < 505 {
         put_u32(&mut block.bytes, 56 + 8 * i, record.start);
         put_u32(&mut block.bytes, 60 + 8 * i, record.count);
@@ -159,7 +160,7 @@ fn put_run(block: &mut Block, i: usize, record: &FreeRec) {
 }
 
 /// Block 1: the leaf of free space by start, with these records, of which it has room for 505.
-pub(super) fn free_leaf(records: &[FreeRec]) -> Block {
+pub(super) fn free_leaf(records: &[SpanRec]) -> Block {
     let mut block = root_leaf(0x4142_3342, 1, records.len().min(505) as u16);
     for (i, record) in records.iter().enumerate() {
         put_run(&mut block, i, record);

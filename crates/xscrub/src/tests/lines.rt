@@ -1,61 +1,9 @@
 use crate::command::{Command, command_of};
-use crate::entry::{AnyRec, Entry, Fault, Unit, Verdict};
-use crate::heads::HeadFault;
-use crate::records::FreeRec;
-use crate::report::{LastLine, fixed_line, last_line, line};
+use crate::last_line::{LastLine, fixed_line, last_line};
+use ag_headers::HeadFault;
+use fs_model::Head;
 use geom::ImageFault;
-use sblock::{BlockFault, Kind};
 use std::test::Fail;
-
-const fn of_free(fault: Fault) -> Entry {
-    Entry::Fault {
-        group: 0,
-        unit: Unit::Free,
-        fault,
-    }
-}
-
-const fn ends(verdict: Verdict) -> Entry {
-    Entry::Verdict {
-        group: 0,
-        unit: Unit::Free,
-        verdict,
-    }
-}
-
-#[test]
-fn each_entry_has_its_line(rt: HostRuntime) -> Result<(), Fail> {
-    let rec = FreeRec {
-        start: 32,
-        count: 224,
-    };
-    let unreadable = Fault::Block {
-        kind: Kind::Bno,
-        block: 1,
-        fault: BlockFault::Checksum,
-    };
-    let cases = [
-        (of_free(unreadable), "0 bno block 1 checksum\n"),
-        (
-            of_free(Fault::Missing(AnyRec::Bno(rec))),
-            "0 bno missing 32 224\n",
-        ),
-        (
-            of_free(Fault::Extra(AnyRec::Bno(rec))),
-            "0 bno extra 32 224\n",
-        ),
-        (ends(Verdict::Good), "0 free good\n"),
-        (ends(Verdict::Faulty(2)), "0 free faulty 2\n"),
-        (
-            ends(Verdict::Skipped(0, Unit::Rmap)),
-            "0 free skipped 0 rmap\n",
-        ),
-    ];
-    for (entry, expected) in &cases {
-        assert_eq!(rt; line(rt.alloc(), entry)?.as_str(), *expected);
-    }
-    Ok(())
-}
 
 #[test]
 fn last_lines_name_the_cause(rt: HostRuntime) -> Result<(), Fail> {
@@ -65,13 +13,23 @@ fn last_lines_name_the_cause(rt: HostRuntime) -> Result<(), Fail> {
         "image feature 40\n"
     );
     assert_eq!(rt; fixed_line(&feature), None);
-    let head = LastLine::Agf {
+    let head = LastLine::Head {
         group: 0,
+        head: Head::Agf,
         fault: HeadFault::Seqno,
     };
     assert_eq!(rt;
         last_line(rt.alloc(), &head)?.as_str(),
         "group 0 agf seqno\n"
+    );
+    let list = LastLine::Head {
+        group: 0,
+        head: Head::Agfl,
+        fault: HeadFault::FreeList(3),
+    };
+    assert_eq!(rt;
+        last_line(rt.alloc(), &list)?.as_str(),
+        "group 0 agfl freelist 3\n"
     );
     let short = LastLine::Image(ImageFault::DeviceShort);
     assert_eq!(rt;

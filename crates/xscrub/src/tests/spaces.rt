@@ -1,11 +1,12 @@
 use crate::compare::{compare, none_exactly_if_equal};
-use crate::entry::{AnyRec, Fault};
 use crate::free::{free_runs, only_free_runs};
-use crate::records::{FreeRec, RmapRec};
+use fs_model::{AnyRec, Fault};
+use rmap_recs::RmapRec;
+use span_recs::SpanRec;
 use std::test::Fail;
 
-const fn run(start: u32, count: u32) -> FreeRec {
-    FreeRec { start, count }
+const fn run(start: u32, count: u32) -> SpanRec {
+    SpanRec { start, count }
 }
 
 #[test]
@@ -33,21 +34,21 @@ fn blocks_without_a_record_are_free(rt: HostRuntime) -> Result<(), Fail> {
 #[test]
 fn a_run_of_another_length_is_missing_and_extra(rt: HostRuntime) -> Result<(), Fail> {
     let derived = [
-        FreeRec {
+        SpanRec {
             start: 19,
             count: 5,
         },
-        FreeRec {
+        SpanRec {
             start: 32,
             count: 224,
         },
     ];
     let index = [
-        FreeRec {
+        SpanRec {
             start: 19,
             count: 5,
         },
-        FreeRec {
+        SpanRec {
             start: 32,
             count: 223,
         },

@@ -1,6 +1,6 @@
 use Rattle.std.proofs.Common.{◌≡◌}
-use Rattle.sblock.specs.Blocks.{records_from}
+use Rattle.sblock.specs.Lists.{items_from}
 use Rattle.sblock.proofs.leaf.leaf_records.Given as goal
 
 abbrev pub invariant-loop-i : goal.invariant-loop-i
-invariant-loop-i g l = l.records.items ≡ records_from g.K.RecKind.form l.i l.bytes 0
+invariant-loop-i g l = l.records.items ≡ items_from (g.K.RecKind.form.record_at l.area) l.i 0

@@ -1,12 +1,12 @@
 use Rattle.std.proofs.Common.{◌≡◌, ◌⊎◌, [], ◌∙◌, sym, arith, drop, inl, inr}
 use Rattle.std.proofs.lemmas.List.{drop_all, take_rest}
-use Rattle.xscrub.specs.declared.records.FreeRec.{FreeRec}
+use Rattle.span_recs.specs.declared.span.SpanRec.{SpanRec}
 use Rattle.xscrub.proofs.DifferencesLemmas.{turn_same, turn_extra, turn_missing, ended}
 use Rattle.xscrub.proofs.compare.compare.Goals as goal
 use Rattle.xscrub.proofs.compare.compare.Goals.{then-both-test+else-j-index, else-both-test}
 
 -- what a place past the end reads as
-abbrev none : FreeRec
+abbrev none : SpanRec
 none = record { start = 0; count = 0 }
 
 pub both-preserved-then-eq : goal.both-preserved-then-eq

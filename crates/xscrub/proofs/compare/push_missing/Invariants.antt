@@ -1,6 +1,6 @@
 use Rattle.std.proofs.Common.{◌≡◌, ◌++◌, map, take}
-use Rattle.xscrub.specs.declared.entry.AnyRec.TheVariants as recs
-use Rattle.xscrub.specs.declared.entry.Fault.TheVariants as fault_of
+use Rattle.fs_model.specs.declared.record.AnyRec.TheVariants as recs
+use Rattle.fs_model.specs.declared.fault.Fault.TheVariants as fault_of
 use Rattle.xscrub.proofs.compare.push_missing.Given as goal
 
 abbrev pub invariant-loop-rec : goal.invariant-loop-rec

@@ -1,6 +1,6 @@
 use Rattle.std.proofs.Common.{◌≡◌, ℕ, ◌+◌, ◌<◌, ◌≤◌, ◌∙◌, ap, arith, length, get_or, max, Vec, Global}
-use Rattle.xscrub.specs.declared.records.FreeRec.{FreeRec}
-use Rattle.xscrub.specs.declared.records.RmapRec.{RmapRec}
+use Rattle.span_recs.specs.declared.span.SpanRec.{SpanRec}
+use Rattle.rmap_recs.specs.declared.records.RmapRec.{RmapRec}
 use Rattle.xscrub.proofs.FreeLemmas.{Passed, ends_within, passed_more, turn_gap, turn_on, at_start, last_gap, nothing_left, free_runs_rise}
 use Rattle.xscrub.proofs.free.free_runs.Goals as goal
 use Rattle.xscrub.proofs.free.free_runs.Goals.{then-from-rec+in_ok-push, else-from-rec, then-from-length+in_ok-push-2, else-from-length}
@@ -39,7 +39,7 @@ loop-rec-preserved c =
             let gap : c.loop-rec.from < rec.start = w.if-from-rec.true in
             turn_gap c.args.records.now i c.loop-rec.from c.max-from.result c.args.length none c.loop-rec.runs.items _ _ c.requires.rising c.loop-rec-test.true c.loop-rec.invariant.passed
             some (omega (arith, next, gap)) (omega (arith, next, inside, within)) gap c.loop-rec.invariant.found
-            (ap (λ (v : Vec FreeRec Global). v.items) w.runs-is ∙ w.in_ok-push.ensures.items)
+            (ap (λ (v : Vec SpanRec Global). v.items) w.runs-is ∙ w.in_ok-push.ensures.items)
         | else-from-rec w ↦
             let on : rec.start ≤ c.loop-rec.from = w.if-from-rec.false in
             turn_on c.args.records.now i c.loop-rec.from c.max-from.result c.args.length none c.if-from-rec.runs.items _ c.loop-rec-test.true
@@ -59,7 +59,7 @@ returns-clause-exact c =
     elim c.if-from-length.branch [
       | then-from-length+in_ok-push-2 w ↦
           last_gap c.args.records.now c.loop-rec.from c.args.length c.loop-rec.runs.items _ _ passed w.if-from-length.true c.loop-rec.invariant.found
-          (ap (λ (v : Vec FreeRec Global). v.items) w.runs-is ∙ w.in_ok-push-2.ensures.items)
+          (ap (λ (v : Vec SpanRec Global). v.items) w.runs-is ∙ w.in_ok-push-2.ensures.items)
       | else-from-length w ↦
           nothing_left c.args.records.now c.loop-rec.from c.args.length _ _ w.if-from-length.false (rw w.runs-is c.loop-rec.invariant.found)
     ]

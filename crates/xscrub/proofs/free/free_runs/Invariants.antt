@@ -1,5 +1,5 @@
 use Rattle.std.proofs.Common.{◌≡◌, ℕ, ◌+◌, ◌-◌, ◌<◌, ◌≤◌, ◌++◌, get_or}
-use Rattle.xscrub.specs.declared.records.RmapRec.{RmapRec}
+use Rattle.rmap_recs.specs.declared.records.RmapRec.{RmapRec}
 use Rattle.xscrub.specs.Free.{free_runs, runs_from, is_free}
 use Rattle.xscrub.proofs.free.free_runs.Given as goal
 

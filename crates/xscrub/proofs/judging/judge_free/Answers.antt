@@ -7,7 +7,7 @@ use Rattle.xscrub.proofs.judging.judge_free.Goals as goal
 pub returns-in-Unreadable-clause-told : goal.returns-in-Unreadable-clause-told
 returns-in-Unreadable-clause-told g c =
     let read = rw c.in-Unreadable.is at c.in_ok-mappings.ensures.told in
-    told_not_read (g.D.Device.content c.args.dev.now) (layout c.args.geo.now) c.args.trees.now c.in_ok-skipped-in-Unreadable.field-0.items c.in-Unreadable.block c.in-Unreadable.fault
+    told_not_read (g.D.Device.content c.args.dev.now) (layout c.args.geo.now) c.args.agf.now c.in_ok-skipped-in-Unreadable.field-0.items c.in-Unreadable.block c.in-Unreadable.fault
     c.in_ok-skipped-in-Unreadable.ensures read
 
 pub judge_index-requires-clause-mappings : goal.judge_index-requires-clause-mappings
@@ -27,4 +27,4 @@ pub returns-clause-told : goal.returns-clause-told
 returns-clause-told g c =
     let read = rw c.in-Readable.is at c.in_ok-mappings.ensures.told in
     let index = rw c.in_ok-mappings.ensures.same at c.in_ok-index.ensures.told in
-    told_both_read (g.D.Device.content c.args.dev.now) (layout c.args.geo.now) c.group_len-length.result c.args.trees.now c.in_ok-journal.journal.items c.in-Readable.mappings.items (reading_of c.in_ok-index.index) (rw c.as_slice.ensures.value at c.in_ok-journal.ensures) c.group_len-length.ensures read index
+    told_both_read (g.D.Device.content c.args.dev.now) (layout c.args.geo.now) c.group_len-length.result c.args.agf.now c.in_ok-journal.journal.items c.in-Readable.mappings.items (reading_of c.in_ok-index.index) (rw c.as_slice.ensures.value at c.in_ok-journal.ensures) c.group_len-length.ensures read index

@@ -1,6 +1,6 @@
 use Rattle.std.proofs.Common.{◌≡◌, take}
 use Rattle.blk_device.specs.Taken.{Takes}
-use Rattle.xscrub.specs.Report.{report_of}
+use Rattle.run_text.specs.Report.{report_of}
 use Rattle.xscrub.proofs.telling.put_journal.Given as goal
 
 -- the lines of the entries so far were taken

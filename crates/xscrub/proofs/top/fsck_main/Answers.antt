@@ -1,6 +1,6 @@
 use Rattle.std.proofs.Common.{ℕ, List, ◌∷◌, [], ◌≡◌, length, refl, ap, arith}
 use Rattle.xscrub.specs.Ending.{told_outcome}
-use Rattle.xscrub.specs.declared.entry.Entry.{Entry}
+use Rattle.fs_model.specs.declared.entry.Entry.{Entry}
 use Rattle.xscrub.proofs.EndingLemmas.{told_cause, told_decided, told_by_words, asked_so}
 use Rattle.xscrub.proofs.top.fsck_main.Goals as goal
 

@@ -1,0 +1,19 @@
+//! Reverse mapping records: their owners and offset words, their place in the blocks of their
+//! btree, and the maximal runs of who owns which block.
+#![tactic(auto)]
+
+mod kind;
+mod laws;
+mod owner;
+mod records;
+mod tuples;
+mod words;
+
+pub use kind::RmapKind;
+pub use laws::one_list;
+pub use owner::Owner;
+pub use records::{Key, RmapRec};
+pub use tuples::{Memory, Tuple, runs};
+
+#[cfg(test)]
+mod tests;

@@ -1,0 +1,5 @@
+pub mod Lines
+pub mod Masks
+pub mod Names
+pub mod Owners
+pub mod Report

@@ -1,0 +1,136 @@
+-- What the tests of a block say of its records, or of its keys and pointers.
+use Rattle.std.proofs.Common.{◌≡◌, ℕ, zero, suc, ◌+◌, ◌<◌, ◌≤◌, Bool, true, false, List, [], ◌∷◌, Option, Some, None, refl, arith, inl, inr}
+use Rattle.std.proofs.lemmas.Bool.{cases_lt, and_parts, eqb-true, leb-true}
+use Rattle.std.proofs.lemmas.Bool.Decides.{nat_tests}
+use Rattle.std.specs.Prelude.{⊤, ◌==◌, not, ◌||◌, if◌then◌else◌}
+use Rattle.byte_fields.specs.Below.{all_below}
+use Rattle.byte_fields.specs.Fields.{field}
+use Rattle.byte_fields.specs.FirstFailing.{first_failing}
+use Rattle.sblock.specs.Area.{area_of, child_of}
+use Rattle.sblock.specs.Form.{Form}
+use Rattle.sblock.specs.Blocks.{numrecs, level_fits, most_of, count_fits, key_in, rises_at, is_rising, is_child_inside, is_record_inside, is_inside, are_inside, is_built_at, are_built, block_tests, block_fault, records_of, keys_of, children_of, AreKeysRising, IsRising, AllInside, AllBuilt, AreBlocks}
+use Rattle.sblock.specs.declared.block.Want.{Want}
+use Rattle.sblock.proofs.ListLemmas.{items_rise, items_each}
+
+-- each test passes
+abbrev pub AllPass : {F : Type 0} → List (Bool × F) → Type 0
+AllPass [] = ⊤
+AllPass (test ∷ tests) = (test.0 ≡ true) × AllPass tests
+
+passes : {F : Type 0} (test : Bool) (fault : F) (rest : Option F) → (if test then rest else Some fault) ≡ None → (test ≡ true) × (rest ≡ None)
+passes true fault rest h = (refl, h)
+passes false fault rest h = cc
+
+-- where no test fails, each passes
+pub all_pass : {F : Type 0} (tests : List (Bool × F)) → first_failing tests ≡ None → AllPass tests
+all_pass [] h = tt
+all_pass (test ∷ tests) h =
+    let first = passes test.0 test.1 (first_failing tests) h in
+    (first.0, all_pass tests first.1)
+
+-- and the other way round
+pub none_fails : {F : Type 0} (tests : List (Bool × F)) → AllPass tests → first_failing tests ≡ None
+none_fails [] h = refl
+none_fails (test ∷ tests) h = rw h.0 (none_fails tests h.1)
+
+pub each_below : (p : ℕ → Bool) (n i : ℕ) → all_below n p ≡ true → i < n → p i ≡ true
+unfolding all_below
+each_below p zero i h lt = absurd (omega arith)
+each_below p (suc n) i h lt =
+    let parts = and_parts (all_below n p) (p n) h in
+    elim (cases_lt i n) [
+      | inl below ↦ each_below p n i parts.0 below
+      | inr above ↦ let e : i ≡ n = omega arith in rw e parts.1
+    ]
+
+-- what the tests say that passed
+pub record Passed {R K : Type 0} (form : Form R K) (bytes : List ℕ) (want : Want) : Type 0 where
+  pub level : level_fits want.level (field 2 bytes 4) ≡ true
+  pub fits : count_fits want.kind (want.level == 0) want.root (numrecs bytes) ≡ true
+  pub rising : is_rising form (want.level == 0) (area_of bytes) (numrecs bytes) ≡ true
+  pub inside : are_inside form (want.level == 0) want.bounds (area_of bytes) (numrecs bytes) ≡ true
+  pub built : are_built form (want.level == 0) (area_of bytes) (numrecs bytes) ≡ true
+
+pub passed : {R K : Type 0} (form : Form R K) (bytes : List ℕ) (want : Want) → block_fault form bytes want ≡ None → Passed form bytes want
+unfolding block_fault
+passed form bytes want h =
+    let all = all_pass (block_tests form bytes want) h in
+    let from_level = all.1 in
+    let from_count = from_level.1 in
+    let from_order = from_count.1.1.1.1.1.1 in
+    record { level = from_level.0; fits = from_count.0; rising = from_order.0; inside = from_order.1.0; built = from_order.1.1.0 }
+
+pub has_level : {R K : Type 0} (form : Form R K) (bytes : List ℕ) (want : Want) → block_fault form bytes want ≡ None → (field 2 bytes 4 ≡ want.level) × (want.level ≤ 8)
+unfolding level_fits
+has_level form bytes want h =
+    let parts = and_parts _ _ (passed form bytes want h).level in
+    (eqb-true _ _ parts.1, leb-true _ _ parts.0)
+
+pub has_room : {R K : Type 0} (form : Form R K) (bytes : List ℕ) (want : Want) → block_fault form bytes want ≡ None → numrecs bytes ≤ most_of want.kind (want.level == 0)
+unfolding count_fits
+has_room form bytes want h = leb-true _ _ (and_parts _ _ (passed form bytes want h).fits).1
+
+is_zero : (n : ℕ) → n ≡ 0 → (n == 0) ≡ true
+is_zero n h = grind (arith, nat_tests)
+
+not_zero : (n : ℕ) → 0 < n → (n == 0) ≡ false
+not_zero n h = grind (arith, nat_tests)
+
+-- a record that is built and inside is in range
+in_range : (built inside : Bool) → (not built || inside) ≡ true → built ≡ true → inside ≡ true
+in_range true inside h b = h
+in_range false inside h b = cc
+
+-- for a leaf
+module _ {R K : Type 0} (form : Form R K) (bytes : List ℕ) (want : Want) (pass : block_fault form bytes want ≡ None) (leaf : want.level ≡ 0) where
+  rises : (k : ℕ) → k + 1 < numrecs bytes → form.is_before (form.key_of (form.record_at (area_of bytes) k)) (form.key_of (form.record_at (area_of bytes) (k + 1))) ≡ true
+  unfolding is_rising rises_at key_in
+  rises k lt =
+      let all = rw (is_zero want.level leaf) at ((passed form bytes want pass).rising) in
+      each_below _ _ k all (omega arith)
+
+  is_built : (k : ℕ) → k < numrecs bytes → form.is_built (form.record_at (area_of bytes) k) ≡ true
+  unfolding are_built is_built_at
+  is_built k lt =
+      let all = rw (is_zero want.level leaf) at ((passed form bytes want pass).built) in
+      each_below _ _ k all lt
+
+  lies_inside : (k : ℕ) → k < numrecs bytes → form.is_in_range want.bounds (form.record_at (area_of bytes) k) ≡ true
+  unfolding are_inside is_inside is_record_inside
+  lies_inside k lt =
+      let all = rw (is_zero want.level leaf) at ((passed form bytes want pass).inside) in
+      in_range _ _ (each_below _ _ k all lt) (is_built k lt)
+
+  pub records_rise : IsRising form (records_of form bytes)
+  unfolding records_of
+  records_rise = items_rise _ (form.record_at (area_of bytes)) (numrecs bytes) 0 (λ k low high. rises k (omega arith))
+
+  pub records_lie_inside : AllInside form want.bounds (records_of form bytes)
+  unfolding records_of
+  records_lie_inside = items_each _ (form.record_at (area_of bytes)) (numrecs bytes) 0 (λ k low high. lies_inside k (omega arith))
+
+  pub records_are_built : AllBuilt form (records_of form bytes)
+  unfolding records_of
+  records_are_built = items_each _ (form.record_at (area_of bytes)) (numrecs bytes) 0 (λ k low high. is_built k (omega arith))
+
+-- for a node
+module _ {R K : Type 0} (form : Form R K) (bytes : List ℕ) (want : Want) (pass : block_fault form bytes want ≡ None) (node : 0 < want.level) where
+  key_rises : (k : ℕ) → k + 1 < numrecs bytes → form.is_before (form.key_at (area_of bytes) k) (form.key_at (area_of bytes) (k + 1)) ≡ true
+  unfolding is_rising rises_at key_in
+  key_rises k lt =
+      let all = rw (not_zero want.level node) at ((passed form bytes want pass).rising) in
+      each_below _ _ k all (omega arith)
+
+  child_lies_inside : (k : ℕ) → k < numrecs bytes → is_child_inside form.kind want.bounds (area_of bytes) k ≡ true
+  unfolding are_inside is_inside
+  child_lies_inside k lt =
+      let all = rw (not_zero want.level node) at ((passed form bytes want pass).inside) in
+      each_below _ _ k all lt
+
+  pub keys_rise : AreKeysRising form (keys_of form bytes)
+  unfolding keys_of
+  keys_rise = items_rise _ (form.key_at (area_of bytes)) (numrecs bytes) 0 (λ k low high. key_rises k (omega arith))
+
+  pub children_lie_inside : AreBlocks want.bounds.length (children_of form bytes)
+  unfolding children_of is_child_inside
+  children_lie_inside = items_each _ (child_of form.kind (area_of bytes)) (numrecs bytes) 0 (λ k low high. child_lies_inside k (omega arith))

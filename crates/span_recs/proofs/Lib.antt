@@ -1,0 +1,3 @@
+pub mod RefcountLemmas
+pub mod SpanLemmas
+pub mod WrittenLemmas

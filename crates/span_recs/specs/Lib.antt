@@ -1,0 +1,4 @@
+pub mod RefcountLaws
+pub mod Refcounts
+pub mod SpanLaws
+pub mod Spans

@@ -1,0 +1,58 @@
+-- The line that a run ends with.
+use Rattle.std.specs.Prelude.{ℕ, List, ◌∷◌, [], Bool, true, false, codes}
+use Rattle.std.specs.Fmt.{decimal}
+use Rattle.ag_headers.specs.declared.fault.HeadFault.{HeadFault}
+use Rattle.ag_headers.specs.declared.fault.HeadFault.TheVariants as heads
+use Rattle.fs_model.specs.declared.unit.Head.{Head as GroupHead}
+use Rattle.fs_model.specs.declared.unit.Head.TheVariants.{Agf, Agi, Agfl}
+use Rattle.geom.specs.declared.fault.ImageFault.{ImageFault}
+use Rattle.geom.specs.declared.fault.ImageFault.TheVariants as images
+use Rattle.run_text.specs.Lines.{line_from, spaced}
+use Rattle.xscrub.specs.declared.last_line.LastLine.{LastLine}
+use Rattle.xscrub.specs.declared.last_line.LastLine.TheVariants.{Usage, UnbuiltJob, UnbuiltGroups, UnbuiltLevels, Image, Head, DeviceFailed, HostFailed, Memory}
+
+abbrev pub head_name : GroupHead → List ℕ
+head_name Agf = codes "agf"
+head_name Agi = codes "agi"
+head_name Agfl = codes "agfl"
+
+-- a wrong free list goes with the place in it
+abbrev pub head_fault_text : HeadFault → List ℕ
+head_fault_text heads.Magic = codes "magic"
+head_fault_text heads.Version = codes "version"
+head_fault_text heads.Seqno = codes "seqno"
+head_fault_text heads.Length = codes "length"
+head_fault_text heads.Checksum = codes "checksum"
+head_fault_text heads.Uuid = codes "uuid"
+head_fault_text (heads.FreeList place) = spaced (codes "freelist") (decimal place)
+
+-- a feature goes with its bit
+abbrev pub image_fault_words : ImageFault → List (List ℕ)
+image_fault_words images.Magic = codes "magic" ∷ []
+image_fault_words images.Version = codes "version" ∷ []
+image_fault_words images.Sizes = codes "sizes" ∷ []
+image_fault_words (images.Feature bit) = codes "feature" ∷ decimal bit ∷ []
+image_fault_words images.Realtime = codes "realtime" ∷ []
+image_fault_words images.Checksum = codes "checksum" ∷ []
+image_fault_words images.Counts = codes "counts" ∷ []
+image_fault_words images.DeviceShort = codes "deviceshort" ∷ []
+
+abbrev pub last_words : LastLine → List (List ℕ)
+last_words Usage = codes "usage: xscrub JOB TARGET [--redo FILE] [--script FILE] [--rebuild] [--turns N]" ∷ []
+last_words UnbuiltJob = codes "unbuilt job" ∷ []
+last_words UnbuiltGroups = codes "unbuilt groups" ∷ []
+last_words UnbuiltLevels = codes "unbuilt levels" ∷ []
+last_words (Image fault) = codes "image" ∷ image_fault_words fault
+last_words (Head group head fault) = codes "group" ∷ decimal group ∷ head_name head ∷ head_fault_text fault ∷ []
+last_words DeviceFailed = codes "device failed" ∷ []
+last_words HostFailed = codes "host failed" ∷ []
+last_words Memory = codes "memory" ∷ []
+
+unfoldable pub last_line_of : LastLine → List ℕ
+last_line_of last = line_from (last_words last)
+
+-- no number stands in it
+abbrev pub is_fixed : LastLine → Bool
+is_fixed (Image (images.Feature bit)) = false
+is_fixed (Head group head fault) = false
+is_fixed last = true
