@@ -1,0 +1,5 @@
+pub mod Area
+pub mod Counts
+pub mod Recover
+pub mod Stages
+pub mod Table

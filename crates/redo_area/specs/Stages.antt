@@ -1,0 +1,60 @@
+-- The stages of a commit, each with nothing pending on the device.
+use Rattle.std.specs.Prelude.{◌≡◌, ℕ, true, false, None}
+use Rattle.blk_device.specs.declared.device.Region.TheVariants.{Image, Redo}
+use Rattle.blk_device.specs.Contents.{Contents}
+use Rattle.redo_area.specs.Area.{Blocks, Batch, after_crash, is_open, waiting_batch, with_batch}
+use Rattle.redo_area.specs.Table.{table_fault}
+
+-- a crash leaves what is read
+abbrev pub IsQuiet : (Contents → Type 0) → Contents → Type 0
+IsQuiet may_hold m = (c : Contents) → may_hold c → c ≡ m
+
+-- the table that stands there has no fault
+abbrev pub IsSound : ℕ → Contents → Type 0
+IsSound size c = table_fault size (c Redo 1) ≡ None
+
+-- A recovery of these contents finds no fault, and gives this image.
+pub record StandsFor (size : ℕ) (blocks : Blocks) (c : Contents) : Type 0 where
+  pub image : after_crash c ≡ blocks
+  pub sound : is_open c ≡ true → IsSound size c
+
+-- nothing waits
+pub record AtRest (may_hold : Contents → Type 0) (m : Contents) : Type 0 where
+  pub quiet : IsQuiet may_hold m
+  pub shut : is_open m ≡ false
+
+-- table and copies of this batch stand there, whatever the gate
+pub record IsReady (size : ℕ) (batch : Batch) (may_hold : Contents → Type 0) (m : Contents) : Type 0 where
+  pub quiet : IsQuiet may_hold m
+  pub stands : waiting_batch m ≡ batch
+  pub sound : IsSound size m
+
+-- this batch waits
+pub record IsWaiting (size : ℕ) (batch : Batch) (may_hold : Contents → Type 0) (m : Contents) : Type 0 where
+  pub ready : IsReady size batch may_hold m
+  pub opened : is_open m ≡ true
+
+-- the batch that stands there is written in the image
+pub record IsInstalled (size : ℕ) (may_hold : Contents → Type 0) (m : Contents) : Type 0 where
+  pub quiet : IsQuiet may_hold m
+  pub same : with_batch (waiting_batch m) (m Image) ≡ m Image
+  pub sound : IsSound size m
+
+-- What each call makes of m: the image after it, and its stage.
+
+pub record Prepares (size : ℕ) (batch : Batch) (may_hold : Contents → Type 0) (m n : Contents) : Type 0 where
+  pub image : n Image ≡ m Image
+  pub shut : is_open n ≡ false
+  pub ready : IsReady size batch may_hold n
+
+pub record Opens (size : ℕ) (batch : Batch) (may_hold : Contents → Type 0) (m n : Contents) : Type 0 where
+  pub image : n Image ≡ m Image
+  pub waits : IsWaiting size batch may_hold n
+
+pub record Installs (size : ℕ) (batch : Batch) (may_hold : Contents → Type 0) (m n : Contents) : Type 0 where
+  pub image : n Image ≡ with_batch batch (m Image)
+  pub installed : IsInstalled size may_hold n
+
+pub record Ends (blocks : Blocks) (may_hold : Contents → Type 0) (n : Contents) : Type 0 where
+  pub image : n Image ≡ blocks
+  pub rest : AtRest may_hold n
