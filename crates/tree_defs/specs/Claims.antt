@@ -1,0 +1,45 @@
+-- The blocks that a tree still claims where it can't be read.
+use Rattle.std.specs.Prelude.{◌≡◌, ℕ, zero, suc, ◌-◌, ◌*◌, ◌+◌, ◌==◌, ◌<◌, ◌≤◌, Bool, true, ◌&&◌, List, is_none}
+use Rattle.byte_fields.specs.Fields.{field, has_uuid}
+use Rattle.sblock.specs.Area.{area_of, child_of}
+use Rattle.sblock.specs.Blocks.{numrecs, block_fault}
+use Rattle.sblock.specs.Form.{Form}
+use Rattle.sblock.specs.Kinds.{magic_of}
+use Rattle.sblock.specs.declared.kind.Kind.{Kind}
+use Rattle.tree_defs.specs.Tree.{left_of, want_of, top_of}
+use Rattle.tree_defs.specs.declared.site.Site.{Site}
+
+-- the block says of itself that it is this block, of a tree of this kind
+unfoldable pub is_named : Kind → Site → ℕ → List ℕ → Bool
+is_named kind site p bytes =
+    field 4 bytes 0 == magic_of kind
+    && field 8 bytes 16 == 8 * (site.first + p)
+    && field 4 bytes 48 == site.group
+    && has_uuid bytes 32 site.uuid
+
+module _ {R K : Type 0} (form : Form R K) (site : Site) where
+  -- a block passes its own tests, but for that of its left sibling
+  unfoldable pub opens : ℕ → Bool → ℕ → List ℕ → Bool
+  opens level root p bytes = is_none (block_fault form bytes (want_of form.kind site level root (left_of bytes) p))
+
+  -- block q, a node of this level with these bytes, passes, and block p is the child of an entry
+  pub record Leads (level : ℕ) (root : Bool) (q : ℕ) (bytes : List ℕ) (p : ℕ) : Type 0 where
+    pub above : 0 < level
+    pub passes : opens level root q bytes ≡ true
+    pub entry : ℕ
+    pub within : entry < numrecs bytes
+    pub child : child_of form.kind (area_of bytes) entry ≡ p
+
+  module _ (m : ℕ → List ℕ) (root levels : ℕ) where
+    -- the block is reached from the root through nodes that pass, so many levels below it
+    abbrev pub IsReached : ℕ → ℕ → Type 0
+    IsReached zero p = p ≡ root
+    IsReached (suc depth) p = (q : ℕ) × IsReached depth q × Leads (top_of levels - depth) (depth == 0) q (m q) p
+
+    -- the block is reached from a root in the group, and named as the tree's
+    pub record IsClaimed (p : ℕ) : Type 0 where
+      pub some : 1 ≤ root
+      pub inside : root < site.bounds.length
+      pub depth : ℕ
+      pub reached : IsReached depth p
+      pub named : is_named form.kind site p (m p) ≡ true

@@ -1,0 +1,5 @@
+pub mod Claims
+pub mod Frame
+pub mod Levels
+pub mod Sites
+pub mod Tree
