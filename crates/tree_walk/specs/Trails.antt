@@ -1,0 +1,16 @@
+-- What the code keeps of a walk, as a trail.
+use Rattle.std.specs.Prelude.{List}
+use Rattle.sblock.specs.Blocks.{IsRising, AllInside, AllBuilt}
+use Rattle.sblock.specs.Form.{Form}
+use Rattle.sblock.specs.declared.block.Bounds.{Bounds}
+use Rattle.tree_defs.specs.Tree.{Trail}
+use Rattle.tree_walk.specs.declared.seen.Seen.{Seen}
+
+abbrev pub trail_of : {R : Type 0} → Seen R → Trail R
+trail_of seen = record { before = seen.before; next = seen.next; recs = seen.recs.items; blocks = seen.blocks.items }
+
+-- records that rise by their keys, each built and in range
+pub record AreSound {R K : Type 0} (form : Form R K) (bounds : Bounds) (recs : List R) : Type 0 where
+  pub rising : IsRising form recs
+  pub inside : AllInside form bounds recs
+  pub built : AllBuilt form recs

@@ -1,0 +1,14 @@
+//! Walks over the short-form btrees of a group: what a tree holds, or its first fault.
+#![tactic(auto)]
+
+mod enter;
+mod leaf;
+mod seen;
+mod tree;
+mod walker;
+
+pub use tree::{TreeAt, TreeRead, WalkFault};
+pub use walker::walk;
+
+#[cfg(test)]
+mod tests;
