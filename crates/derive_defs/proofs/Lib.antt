@@ -1,0 +1,5 @@
+pub mod ByCountLemmas
+pub mod ConditionLemmas
+pub mod FreeLemmas
+pub mod SharedLemmas
+pub mod SpaceLemmas

@@ -1,0 +1,4 @@
+pub mod ByCount
+pub mod Free
+pub mod Mappings
+pub mod Shared

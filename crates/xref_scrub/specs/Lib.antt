@@ -1,0 +1,5 @@
+pub mod Cursors
+pub mod Differences
+pub mod Merging
+pub mod Shown
+pub mod ShownLaws
