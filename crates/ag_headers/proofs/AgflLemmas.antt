@@ -6,13 +6,15 @@ use Rattle.std.proofs.lemmas.Bool.{and_parts, and_from, leb-true, ltb-true, le-l
 use Rattle.std.proofs.lemmas.List.{get_or_default}
 use Rattle.byte_fields.specs.Below.{all_below}
 use Rattle.byte_fields.specs.FirstFailing.{first_failing}
+use Rattle.byte_fields.proofs.BelowLemmas.{each_below}
+use Rattle.byte_fields.proofs.TestLemmas.{AllPass, all_pass, none_fails}
 use Rattle.geom.specs.Layout.{Layout, group_len_of}
 use Rattle.ag_headers.specs.Fields.{sector}
 use Rattle.ag_headers.specs.Ring.{FreeRing, IsRing, IsFreeList, place_at, entries, ring_fits, differ, is_new, entry_fits}
 use Rattle.ag_headers.specs.Agfl.{own_tests, entry_tests, ring_tests, ring_in, agfl_of, own_fault, entry_fault, ring_fault, agfl_fault, IsListOf}
 use Rattle.ag_headers.specs.declared.fault.HeadFault.{HeadFault}
 use Rattle.ag_headers.specs.declared.fault.HeadFault.TheVariants.{FreeList}
-use Rattle.ag_headers.proofs.HeadLemmas.{AllPass, all_pass, none_fails, uuid_is}
+use Rattle.ag_headers.proofs.HeadLemmas.{uuid_is}
 use Rattle.ag_headers.proofs.RingLemmas.{length_of_entries}
 
 -- the test of entry i
@@ -97,16 +99,6 @@ each_pass f (suc n) a h =
       ap (λ (k : ℕ). (f k).0) first ∙ h 0 (omega arith),
       each_pass f n (a + 1) (λ i below. let e : (a + 1) + i ≡ a + (i + 1) = omega arith in ap (λ (k : ℕ). (f k).0) e ∙ h (i + 1) (omega arith)),
     )
-
-each_below : (p : ℕ → Bool) (n i : ℕ) → all_below n p ≡ true → i < n → p i ≡ true
-unfolding all_below
-each_below p zero i h lt = absurd (omega arith)
-each_below p (suc n) i h lt =
-    let parts = and_parts (all_below n p) (p n) h in
-    elim (cases_lt i n) [
-      | inl below ↦ each_below p n i parts.0 below
-      | inr above ↦ let e : i ≡ n = omega arith in rw e parts.1
-    ]
 
 below_each : (p : ℕ → Bool) (n : ℕ) → ((i : ℕ) → i < n → p i ≡ true) → all_below n p ≡ true
 unfolding all_below

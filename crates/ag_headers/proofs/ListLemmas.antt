@@ -13,7 +13,8 @@ use Rattle.ag_headers.specs.Agfl.{agfl_form, agfl_fault, agfl_of, agfl_table, ag
 use Rattle.ag_headers.specs.Fields.{sector, uuid_at, numbers_in, numbers_at, with_numbers, with_table, stamped, AllFit}
 use Rattle.ag_headers.specs.Ring.{FreeRing, IsRing}
 use Rattle.ag_headers.proofs.AgflLemmas.{ring_fault_next, ring_passes, ring_test, tests_from_free_list}
-use Rattle.ag_headers.proofs.HeadLemmas.{none_fails, is_uuid}
+use Rattle.byte_fields.proofs.TestLemmas.{none_fails}
+use Rattle.ag_headers.proofs.HeadLemmas.{is_uuid}
 use Rattle.ag_headers.proofs.NumberLemmas.{length_of_row, row_again}
 use Rattle.ag_headers.proofs.SpliceLemmas.{Written, splice_length, part_there}
 use Rattle.ag_headers.proofs.StampLemmas.{Laid, stamped_part, stamped_uuid, stamped_lsn}

@@ -6,7 +6,7 @@ ghost use Rattle.blk_cache.specs.Entries.{in_front, KeepsIn};
 use byte_fields::Block;
 use lru::LruCache;
 
-// Copies a block that is kept, and makes it the most recently used.
+/// Copies a block that is kept, and makes it the most recently used.
 pub fn copy_kept(blocks: &mut LruCache<u64, Block>, at: u64) -> Option<Block>
     ensures value { result ≡ lookup (nat_eq at) blocks.old.entries }
     ensures capacity { blocks.new.cap ≡ blocks.old.cap }
@@ -16,7 +16,7 @@ pub fn copy_kept(blocks: &mut LruCache<u64, Block>, at: u64) -> Option<Block>
     blocks.get(&at).copied()
 }
 
-// Keeps a block in front. Without memory, one of which nothing is kept stays so.
+/// Keeps a block in front. Without memory, one of which nothing is kept stays so.
 pub fn keep(blocks: &mut LruCache<u64, Block>, at: u64, block: &Block)
     ensures capacity { blocks.new.cap ≡ blocks.old.cap }
     ensures front { KeepsIn at block.now blocks.old.cap blocks.old.entries blocks.new.entries }

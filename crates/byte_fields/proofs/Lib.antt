@@ -1,3 +1,4 @@
 pub mod BelowLemmas
 pub mod ChecksumLemmas
 pub mod TableLemmas
+pub mod TestLemmas

@@ -12,7 +12,7 @@ use Rattle.dinode_core.specs.declared.inode.Core3.{Core3}
 use Rattle.dinode_core.specs.Core.{core_of, core_tests, core_fault}
 use Rattle.dinode_core.specs.Pieces.{with_pieces}
 use Rattle.dinode_core.specs.Encoded.{kind_pieces, count_pieces, change_pieces, name_pieces, core_pieces, filled, encoded, IsSpare, KindsFit, CountsFit, ChangesFit, NamesFit}
-use Rattle.dinode_core.proofs.CoreLemmas.{all_pass, none_failing}
+use Rattle.byte_fields.proofs.TestLemmas.{all_pass, none_fails}
 use Rattle.dinode_core.proofs.PieceLemmas.{pieces_append, AreWithin, are_apart, is_apart, AllStand, length_pieces, length_splice, outside_pieces, outside_splice, all_stand, all_stand_in, reads_number, reads_byte, reads_bytes, same_splice, same_pieces, number_stands, byte_stands, bytes_stand, low_stands}
 
 pub filled_in_parts : (core : Core3) (bytes : List ℕ) → filled core bytes ≡ with_pieces (name_pieces core) (with_pieces (change_pieces core) (with_pieces (count_pieces core) (with_pieces (kind_pieces core) bytes)))
@@ -210,7 +210,7 @@ sound_again core bytes len fit sum_fits =
     let long : length xs ≡ 512 = length_encoded core bytes len fit.names in
     let s = stand_encoded core bytes len fit.names in
     let s16 = s.1.1.1.1.1.1.1.1.1.1.1.1.1.1.1.1.1 in
-    none_failing (core_tests xs core.ino core.uuid) (
+    none_fails (core_tests xs core.ino core.uuid) (
       eq-eqb _ _ (reads_number 2 0 0x494e xs (omega arith) s.0),
       (
         eq-eqb _ _ (reads_byte 4 3 xs (omega arith) s.1.1.0),

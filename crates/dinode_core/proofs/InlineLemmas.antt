@@ -15,7 +15,7 @@ use Rattle.dinode_core.specs.declared.shape.Format.TheVariants.{Dev, Local, Exte
 use Rattle.dinode_core.specs.Packed.{unpacked}
 use Rattle.dinode_core.specs.Shape.{size_of, area_of, room_of, is_absent, count_of, format_of}
 use Rattle.dinode_core.specs.Inline.{has_form, has_room, is_extents, mappings_fit, form_tests, form_fault, mappings_in, mapping_fault, first_bad}
-use Rattle.dinode_core.proofs.CoreLemmas.{all_pass}
+use Rattle.byte_fields.proofs.TestLemmas.{all_pass}
 
 pub eight_bytes : (core : Core3) (fork : Fork) → core.forkoff < 42 → is_absent core fork ≡ false → 8 ≤ size_of core fork
 eight_bytes core Data h present = grind (arith, nat_tests)

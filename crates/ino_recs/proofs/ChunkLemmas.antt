@@ -12,7 +12,7 @@ use Rattle.ino_recs.specs.declared.chunk.InoRec.{InoRec}
 use Rattle.ino_recs.specs.declared.chunk.InoKey.{InoKey}
 use Rattle.ino_recs.specs.Chunks.{ino_form, fino_form, ino_at, startino_at, holemask_at, count_at, freecount_at, free_at, with_ino, ino_key_at, key_startino_at, with_ino_key}
 use Rattle.ino_recs.specs.ChunkLaws.{strict_nat}
-use Rattle.ino_recs.proofs.WrittenLemmas.{width, written, written_beside, written_first}
+use Rattle.sblock.proofs.WrittenLemmas.{width, written, written_beside, written_first}
 
 module _ (area : List ℕ) (i : ℕ) (r : InoRec) (whole : length area ≡ 4040) (room : i < 252) where
   -- the fields of the record, each right behind the one before it

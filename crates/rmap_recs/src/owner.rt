@@ -3,7 +3,8 @@ ghost use Rattle.rmap_recs.specs.Owners.{number_of, owner_of, is_owner, is_inode
 
 use std::fmt;
 
-// The numbers of the owners that aren't inodes.
+/// The number of the superblock and heads as an owner, -3 in two's complement; the numbers of the
+/// other owners that aren't inodes are the six below it.
 pub const OWN_FS: u64 = 0xffff_ffff_ffff_fffd;
 
 const OWN_LOG: u64 = 0xffff_ffff_ffff_fffc;

@@ -6,6 +6,7 @@ use dinode_core::{CoreFault, ForkFault};
 use fs_model::{Counter, Unit};
 use sblock::{BlockFault, Kind};
 
+/// A tree as a line of the report names it.
 pub fn kind_name(kind: Kind) -> &'static str
     ensures { result.now ≡ kind_name_of kind }
 {
@@ -19,6 +20,7 @@ pub fn kind_name(kind: Kind) -> &'static str
     }
 }
 
+/// A unit as a line of the report names it.
 pub fn unit_name(unit: Unit) -> &'static str
     ensures { result.now ≡ unit_name_of unit }
 {
@@ -30,6 +32,7 @@ pub fn unit_name(unit: Unit) -> &'static str
     }
 }
 
+/// A fault of a block of a tree as the report names it.
 pub fn block_fault_name(fault: BlockFault) -> &'static str
     ensures { result.now ≡ block_fault_name_of fault }
 {
@@ -49,6 +52,7 @@ pub fn block_fault_name(fault: BlockFault) -> &'static str
     }
 }
 
+/// A fault of an inode's core as the report names it.
 pub fn core_fault_name(fault: CoreFault) -> &'static str
     ensures { result.now ≡ core_fault_name_of fault }
 {
@@ -61,6 +65,7 @@ pub fn core_fault_name(fault: CoreFault) -> &'static str
     }
 }
 
+/// A fault of an inode's fork as the report names it.
 pub fn fork_fault_name(fault: ForkFault) -> &'static str
     ensures { result.now ≡ fork_fault_name_of fault }
 {
@@ -74,6 +79,7 @@ pub fn fork_fault_name(fault: ForkFault) -> &'static str
     }
 }
 
+/// A counter of a head as the report names it.
 pub fn counter_name(counter: Counter) -> &'static str
     ensures { result.now ≡ counter_name_of counter }
 {

@@ -6,42 +6,13 @@ use Rattle.std.specs.Prelude.{⊤, ◌==◌, not, ◌||◌, if◌then◌else◌}
 use Rattle.byte_fields.specs.Below.{all_below}
 use Rattle.byte_fields.specs.Fields.{field}
 use Rattle.byte_fields.specs.FirstFailing.{first_failing}
+use Rattle.byte_fields.proofs.BelowLemmas.{each_below}
+use Rattle.byte_fields.proofs.TestLemmas.{all_pass}
 use Rattle.sblock.specs.Area.{area_of, child_of}
 use Rattle.sblock.specs.Form.{Form}
 use Rattle.sblock.specs.Blocks.{numrecs, level_fits, most_of, count_fits, key_in, rises_at, is_rising, is_child_inside, is_record_inside, is_inside, are_inside, is_built_at, are_built, block_tests, block_fault, records_of, keys_of, children_of, AreKeysRising, IsRising, AllInside, AllBuilt, AreBlocks}
 use Rattle.sblock.specs.declared.block.Want.{Want}
 use Rattle.sblock.proofs.ListLemmas.{items_rise, items_each}
-
--- each test passes
-abbrev pub AllPass : {F : Type 0} → List (Bool × F) → Type 0
-AllPass [] = ⊤
-AllPass (test ∷ tests) = (test.0 ≡ true) × AllPass tests
-
-passes : {F : Type 0} (test : Bool) (fault : F) (rest : Option F) → (if test then rest else Some fault) ≡ None → (test ≡ true) × (rest ≡ None)
-passes true fault rest h = (refl, h)
-passes false fault rest h = cc
-
--- where no test fails, each passes
-pub all_pass : {F : Type 0} (tests : List (Bool × F)) → first_failing tests ≡ None → AllPass tests
-all_pass [] h = tt
-all_pass (test ∷ tests) h =
-    let first = passes test.0 test.1 (first_failing tests) h in
-    (first.0, all_pass tests first.1)
-
--- and the other way round
-pub none_fails : {F : Type 0} (tests : List (Bool × F)) → AllPass tests → first_failing tests ≡ None
-none_fails [] h = refl
-none_fails (test ∷ tests) h = rw h.0 (none_fails tests h.1)
-
-pub each_below : (p : ℕ → Bool) (n i : ℕ) → all_below n p ≡ true → i < n → p i ≡ true
-unfolding all_below
-each_below p zero i h lt = absurd (omega arith)
-each_below p (suc n) i h lt =
-    let parts = and_parts (all_below n p) (p n) h in
-    elim (cases_lt i n) [
-      | inl below ↦ each_below p n i parts.0 below
-      | inr above ↦ let e : i ≡ n = omega arith in rw e parts.1
-    ]
 
 -- what the tests say that passed
 pub record Passed {R K : Type 0} (form : Form R K) (bytes : List ℕ) (want : Want) : Type 0 where

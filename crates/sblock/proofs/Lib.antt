@@ -3,3 +3,4 @@ pub mod BlockLemmas
 pub mod CountedLemmas
 pub mod FieldLemmas
 pub mod ListLemmas
+pub mod WrittenLemmas

@@ -1,3 +1,2 @@
 pub mod RefcountLemmas
 pub mod SpanLemmas
-pub mod WrittenLemmas

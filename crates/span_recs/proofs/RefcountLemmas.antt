@@ -12,7 +12,7 @@ use Rattle.span_recs.specs.declared.refcount.RefcRec.{RefcRec}
 use Rattle.span_recs.specs.declared.refcount.RefcKey.{RefcKey}
 use Rattle.span_recs.specs.Refcounts.{refc_form, refc_at, start_at, count_at, refcount_at, with_refc, refc_key_at, key_start_at, with_refc_key}
 use Rattle.span_recs.specs.SpanLaws.{strict_nat}
-use Rattle.span_recs.proofs.WrittenLemmas.{written, written_beside, written_first}
+use Rattle.sblock.proofs.WrittenLemmas.{written, written_beside, written_first}
 
 module _ (area : List ℕ) (i : ℕ) (r : RefcRec) (whole : length area ≡ 4040) (room : i < 336) where
   fields : List (ℕ × ℕ)

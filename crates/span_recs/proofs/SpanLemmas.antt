@@ -10,7 +10,7 @@ use Rattle.sblock.specs.FieldLaws.{field_length}
 use Rattle.span_recs.specs.declared.span.SpanRec.{SpanRec}
 use Rattle.span_recs.specs.Spans.{bno_form, cnt_form, span_at, start_at, count_at, with_span}
 use Rattle.span_recs.specs.SpanLaws.{lawful_bno, lawful_cnt}
-use Rattle.span_recs.proofs.WrittenLemmas.{written_beside, written_first, children_stay}
+use Rattle.sblock.proofs.WrittenLemmas.{written_beside, written_first, children_stay}
 
 module _ (area : List ℕ) (i : ℕ) (r : SpanRec) (whole : length area ≡ 4040) (room : i < 505) where
   start_taken : r.start < 2 ^ 32 → start_at (with_span area i r) i ≡ r.start

@@ -9,7 +9,8 @@ use Rattle.sblock.specs.Form.{Form}
 use Rattle.sblock.specs.Lists.{items_from}
 use Rattle.sblock.specs.declared.block.BlockFault.{BlockFault}
 use Rattle.sblock.specs.declared.block.BlockFault.TheVariants.{Sibling, Order}
-use Rattle.sblock.proofs.BlockLemmas.{all_pass, none_fails, records_rise}
+use Rattle.byte_fields.proofs.TestLemmas.{all_pass, none_fails}
+use Rattle.sblock.proofs.BlockLemmas.{records_rise}
 use Rattle.tree_defs.specs.Levels.{RisesAfter, IsRight}
 use Rattle.tree_defs.specs.Tree.{Trail, no_block, left_of, want_of, sibling_fault, order_fault, fault_here, comes_after}
 use Rattle.tree_defs.specs.declared.site.Site.{Site}

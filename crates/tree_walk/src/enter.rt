@@ -84,7 +84,7 @@ fn fault_in_place<K: RecKind>(
     sooner_of(own, sooner_of(sibling, order))
 }
 
-// Reads block `p` of the group.
+/// Reads block `p` of the group.
 pub fn load<D: Device, L: Ledger>(
     dev: &mut D,
     cache: &mut BlkCache,
@@ -112,7 +112,7 @@ pub fn load<D: Device, L: Ledger>(
     }
 }
 
-// Reads block `p` of the group and tests it in its place; it is then the last one of its level.
+/// Reads block `p` of the group and tests it in its place; it is then the last one of its level.
 #[tactic(auto, unfolding(tree_defs::specs::Tree::noted))]
 pub fn enter<K: RecKind, D: Device, L: Ledger>(
     dev: &mut D,

@@ -23,7 +23,7 @@ fn span_of_record<K: RecKind>(rec: &K::Rec, bounds: &Bounds) -> Span<K::Key>
     }
 }
 
-// Takes the records of a leaf, and answers their keys.
+/// Takes the records of a leaf, and answers their keys.
 pub fn take_leaf<K: RecKind>(
     block: &Block,
     bounds: &Bounds,

@@ -6,7 +6,7 @@ use sblock::{BlockFault, RecKind};
 use std::alloc::Global;
 use tree_defs::Span;
 
-// What a sibling is where there is none.
+/// What a sibling is where there is none.
 pub const NO_BLOCK: u32 = 0xffff_ffff;
 
 /// What a walk has read so far; on each level, the block that was read last and its right sibling.
@@ -18,7 +18,7 @@ pub struct Seen<R> {
     pub blocks: Vec<u32>,
 }
 
-// Nothing is read yet.
+/// Nothing is read yet.
 pub fn fresh_seen<R>(alloc: Global) -> Seen<R>
     ensures { trail_of result ≡ fresh {R = R} }
 {
@@ -56,7 +56,7 @@ fn sooner_of_two(a: BlockFault, b: BlockFault) -> Option<BlockFault>
     if turn(b) < turn(a) { Some(b) } else { Some(a) }
 }
 
-// The fault whose test comes first.
+/// The fault whose test comes first.
 pub fn sooner_of(a: Option<BlockFault>, b: Option<BlockFault>) -> Option<BlockFault>
     ensures { result ≡ sooner a b }
 {
@@ -67,7 +67,7 @@ pub fn sooner_of(a: Option<BlockFault>, b: Option<BlockFault>) -> Option<BlockFa
     }
 }
 
-// Whether the record comes after the last of these.
+/// Whether the record comes after the last of these.
 pub fn does_come_after<K: RecKind>(recs: &[K::Rec], rec: &K::Rec) -> bool
     ensures { result ≡ comes_after K.form (slice_get recs.now (length recs.now - 1)) rec.now }
 {
@@ -77,7 +77,7 @@ pub fn does_come_after<K: RecKind>(recs: &[K::Rec], rec: &K::Rec) -> bool
     }
 }
 
-// Whether the block read before on this level doesn't name this one as its right sibling.
+/// Whether the block read before on this level doesn't name this one as its right sibling.
 #[tactic(auto, unfolding(tree_defs::specs::Tree::sibling_fault))]
 pub fn sibling_fault_of<R>(seen: &Seen<R>, level: u8, p: u32) -> Option<BlockFault>
     requires { level < 9 }
@@ -91,7 +91,7 @@ pub fn sibling_fault_of<R>(seen: &Seen<R>, level: u8, p: u32) -> Option<BlockFau
     }
 }
 
-// The last block of the lowest level where it has a right sibling.
+/// The last block of the lowest level where it has a right sibling.
 pub fn open_end_of<R>(seen: &Seen<R>, levels: u32) -> Option<u32>
     requires { levels ≤ 9 }
     ensures { result ≡ open_end (trail_of seen.now) 0 levels }
@@ -116,7 +116,7 @@ fn joined_two<K: RecKind>(a: Span<K::Key>, b: Span<K::Key>) -> Option<Span<K::Ke
     Some(Span { low: a.low, high })
 }
 
-// The keys of two parts, one behind the other.
+/// The keys of two parts, one behind the other.
 pub fn joined<K: RecKind>(a: Option<Span<K::Key>>, b: Option<Span<K::Key>>) -> Option<Span<K::Key>>
     ensures { result ≡ join K.form a b }
 {
