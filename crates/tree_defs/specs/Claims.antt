@@ -1,10 +1,11 @@
 -- The blocks that a tree still claims where it can't be read.
-use Rattle.std.specs.Prelude.{◌≡◌, ℕ, zero, suc, ◌-◌, ◌*◌, ◌+◌, ◌==◌, ◌<◌, ◌≤◌, Bool, true, ◌&&◌, List, is_none}
+use Rattle.std.specs.Prelude.{◌≡◌, ℕ, zero, suc, ◌-◌, ◌*◌, ◌+◌, ◌==◌, ◌<◌, ◌≤◌, Bool, true, ◌&&◌, List, Option, is_none}
 use Rattle.byte_fields.specs.Fields.{field, has_uuid}
 use Rattle.sblock.specs.Area.{area_of, child_of}
 use Rattle.sblock.specs.Blocks.{numrecs, block_fault}
 use Rattle.sblock.specs.Form.{Form}
 use Rattle.sblock.specs.Kinds.{magic_of}
+use Rattle.sblock.specs.declared.block.BlockFault.{BlockFault}
 use Rattle.sblock.specs.declared.kind.Kind.{Kind}
 use Rattle.tree_defs.specs.Tree.{left_of, want_of, top_of}
 use Rattle.tree_defs.specs.declared.site.Site.{Site}
@@ -18,9 +19,13 @@ is_named kind site p bytes =
     && has_uuid bytes 32 site.uuid
 
 module _ {R K : Type 0} (form : Form R K) (site : Site) where
-  -- a block passes its own tests, but for that of its left sibling
+  -- the first of a block's own tests that fails, but for that of its left sibling
+  unfoldable pub lone_fault : ℕ → Bool → ℕ → List ℕ → Option BlockFault
+  lone_fault level root p bytes = block_fault form bytes (want_of form.kind site level root (left_of bytes) p)
+
+  -- a block passes these tests
   unfoldable pub opens : ℕ → Bool → ℕ → List ℕ → Bool
-  opens level root p bytes = is_none (block_fault form bytes (want_of form.kind site level root (left_of bytes) p))
+  opens level root p bytes = is_none (lone_fault level root p bytes)
 
   -- block q, a node of this level with these bytes, passes, and block p is the child of an entry
   pub record Leads (level : ℕ) (root : Bool) (q : ℕ) (bytes : List ℕ) (p : ℕ) : Type 0 where

@@ -14,7 +14,7 @@ use Rattle.tree_defs.specs.declared.site.Site.{Site}
 use Rattle.tree_defs.proofs.Blocks.{stands, leaf_rises}
 use Rattle.tree_defs.proofs.Parts.{sooner_none, last_rec, rising_join, to_rising, from_rising}
 use Rattle.tree_walk.specs.Trails.{AreSound}
-use Rattle.tree_walk.proofs.EachLemmas.{each_item, each_append}
+use Rattle.tree_blocks.proofs.EachLemmas.{each_item, each_append}
 
 pub noted_blocks : {R : Type 0} (t u : Trail R) (level p : ℕ) (bytes : List ℕ) → u ≡ noted t level p bytes → length u.blocks ≡ length t.blocks + 1
 unfolding noted

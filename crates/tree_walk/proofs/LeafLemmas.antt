@@ -7,7 +7,7 @@ use Rattle.sblock.specs.Form.{Form, IsLawful}
 use Rattle.sblock.specs.declared.block.Bounds.{Bounds}
 use Rattle.tree_defs.specs.Tree.{Trail, with_recs, join, span_of}
 use Rattle.tree_defs.proofs.Spans.{span_append}
-use Rattle.tree_walk.proofs.EachLemmas.{each_item}
+use Rattle.tree_blocks.proofs.EachLemmas.{each_item}
 use Rattle.std.proofs.Common.{true}
 
 pub in_range : {R K : Type 0} (form : Form R K) (bounds : Bounds) (bytes : List ℕ) (i : ℕ) → AllInside form bounds (records_of form bytes) → i < numrecs bytes → form.is_in_range bounds (form.record_at (area_of bytes) i) ≡ true

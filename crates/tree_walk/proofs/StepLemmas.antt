@@ -12,9 +12,10 @@ use Rattle.tree_defs.specs.declared.site.Site.{Site}
 use Rattle.tree_defs.specs.declared.span.Span.{Span}
 use Rattle.tree_walk.specs.Trails.{AreSound}
 use Rattle.tree_walk.proofs.BlockFacts.{noted_recs, with_more, sound_more}
-use Rattle.tree_walk.specs.Meets.{Refuses, RefusesBlock, MeetsNode, IsMemory}
-use Rattle.tree_walk.specs.declared.tree.WalkFault.{WalkFault}
-use Rattle.tree_walk.specs.declared.tree.WalkFault.TheVariants.{Bad, Failed, Memory}
+use Rattle.tree_blocks.specs.Meets.{Refuses, RefusesBlock, IsMemory}
+use Rattle.tree_walk.specs.Meets.{MeetsNode}
+use Rattle.tree_blocks.specs.declared.tree.WalkFault.{WalkFault}
+use Rattle.tree_blocks.specs.declared.tree.WalkFault.TheVariants.{Bad, Failed, Memory}
 
 module _ {R K : Type 0} (form : Form R K) (site : Site) (m : ℕ → List ℕ) where
   node_refused : (level : ℕ) (root : Bool) (p : ℕ) (t : Trail R) (fault : BlockFault) → fault_here form site t level root p (m p) ≡ Some fault → read_node form site m level root p t ≡ Err (p, fault)

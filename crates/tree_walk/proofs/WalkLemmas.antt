@@ -10,10 +10,11 @@ use Rattle.sblock.specs.declared.block.BlockFault.{BlockFault}
 use Rattle.sblock.specs.declared.block.BlockFault.TheVariants.{Magic, Level, Sibling, Range}
 use Rattle.tree_defs.specs.Tree.{Trail, fresh, top_of, sooner, sibling_fault, order_fault, fault_here, closed, read_node, read_tree}
 use Rattle.tree_defs.specs.declared.site.Site.{Site}
-use Rattle.tree_walk.specs.Meets.{Refuses, MeetsTree}
-use Rattle.tree_walk.specs.declared.tree.TreeRead.{TreeRead}
-use Rattle.tree_walk.specs.declared.tree.WalkFault.{WalkFault}
-use Rattle.tree_walk.specs.declared.tree.WalkFault.TheVariants.{Bad, Failed, Memory}
+use Rattle.tree_blocks.specs.Meets.{Refuses}
+use Rattle.tree_walk.specs.Meets.{MeetsTree}
+use Rattle.tree_blocks.specs.declared.tree.TreeRead.{TreeRead}
+use Rattle.tree_blocks.specs.declared.tree.WalkFault.{WalkFault}
+use Rattle.tree_blocks.specs.declared.tree.WalkFault.TheVariants.{Bad, Failed, Memory}
 
 -- what holds of each content that is told holds where it is told
 pub told : {C : Type 0} (o : Option C) (P : C → Type 0) → ((c : C) → o ≡ Some c → P c) → IfSome o P

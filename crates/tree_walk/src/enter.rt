@@ -2,51 +2,20 @@ ghost use Rattle.std.specs.Prelude.{◌≡◌, ◌+◌, ◌*◌, ◌^◌, ◌<�
 ghost use Rattle.blk_cache.specs.Cache.{AgreesTold};
 ghost use Rattle.blk_device.specs.Contents.{Contents};
 ghost use Rattle.blk_device.specs.declared.device.Region.TheVariants.{Image};
-ghost use Rattle.sblock.specs.Blocks.{block_fault};
 ghost use Rattle.tree_defs.specs.Sites.{group_blocks};
-ghost use Rattle.tree_defs.specs.Tree.{want_of, order_fault, fault_here, noted};
-ghost use Rattle.tree_walk.specs.Meets.{RefusesBlock};
-ghost use Rattle.tree_walk.specs.Reading.{OnlyRead, HasCause};
+ghost use Rattle.tree_defs.specs.Tree.{order_fault, fault_here, noted};
+ghost use Rattle.tree_blocks.specs.Meets.{RefusesBlock};
+ghost use Rattle.tree_blocks.specs.Reading.{OnlyRead, HasCause};
 ghost use Rattle.tree_walk.specs.Trails.{trail_of};
 
 use crate::seen::{Seen, does_come_after, sibling_fault_of, sooner_of};
-use crate::tree::WalkFault;
 use blk_cache::BlkCache;
 use blk_device::Device;
 use byte_fields::{Block, Steps, get_u16, get_u32};
-use sblock::{BlockFault, RecKind, Want, data_area, verify};
+use sblock::{BlockFault, RecKind, data_area};
 use std::sync::ledger::Ledger;
+use tree_blocks::{WalkFault, load, own_fault, want_at};
 use tree_defs::Site;
-
-// What block `p` of the group is to be.
-fn want_at<K: RecKind>(site: &Site, level: u8, root: bool, left: u32, p: u32) -> Want
-    requires fits { 8 * (site.now.first + p) < 2 ^ 64 }
-    ensures { result ≡ want_of K.form.kind site.now level root left p }
-{
-    let uuid = site.uuid;
-    let bounds = site.bounds;
-    Want {
-        kind: K::kind(),
-        level,
-        root,
-        left,
-        place: 8 * (site.first + u64::from(p)),
-        group: site.group,
-        bounds,
-        uuid,
-    }
-}
-
-// The first test of the block by itself that fails.
-fn own_fault<K: RecKind>(block: &Block, want: &Want) -> Option<BlockFault>
-    requires { want.now.kind ≡ K.form.kind }
-    ensures { result ≡ block_fault K.form block.now.bytes want.now }
-{
-    match verify::<K>(block, want) {
-        Ok(_) => None,
-        Err(fault) => Some(fault),
-    }
-}
 
 // Whether a leaf's first record doesn't come after the last one of the leaf read before.
 #[tactic(auto, unfolding(tree_defs::specs::Tree::order_fault))]
@@ -82,34 +51,6 @@ fn fault_in_place<K: RecKind>(
     let sibling = sibling_fault_of(seen, level, p);
     let order = order_fault_of::<K>(block, seen, level);
     sooner_of(own, sooner_of(sibling, order))
-}
-
-/// Reads block `p` of the group.
-pub fn load<D: Device, L: Ledger>(
-    dev: &mut D,
-    cache: &mut BlkCache,
-    site: &Site,
-    p: u32,
-    steps: &mut Steps<L>,
-) -> Result<Block, WalkFault>
-    requires inside { p < site.now.bounds.length }
-    requires room { site.now.first + site.now.bounds.length ≤ D.blocks dev.old Image }
-    requires fits { 8 * (site.now.first + site.now.bounds.length) < 2 ^ 64 }
-    requires agreed { AgreesTold cache.old (D.content dev.old) }
-    ensures told { IfOk result (λ block. (c : Contents) → D.content dev.old ≡ Some c → block.bytes ≡ group_blocks site.now (c Image) p) }
-    ensures failed { IfErr result (λ fault. fault ≡ WalkFault.Failed) }
-    ensures reading { OnlyRead D.content D.blocks D.faults D.reads D.clock D.may_have_held_since D.may_hold_now dev.old dev.new steps.old steps.new }
-    ensures cause { HasCause (D.faults dev.old) (D.faults dev.new) result }
-    ensures agrees { AgreesTold cache.new (D.content dev.new) }
-    ensures one { steps.new.reads ≡ steps.old.reads + 1 }
-{
-    let mut block = Block::zeroed();
-    steps.block_read();
-    let at = site.first + u64::from(p);
-    match cache.get(dev, at, &mut block) {
-        Ok(()) => Ok(block),
-        Err(_) => Err(WalkFault::Failed),
-    }
 }
 
 /// Reads block `p` of the group and tests it in its place; it is then the last one of its level.

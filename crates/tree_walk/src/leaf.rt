@@ -2,13 +2,13 @@ ghost use Rattle.std.specs.Prelude.{◌≡◌, ◌≤◌, true, IfOk, IfErr, OnO
 ghost use Rattle.sblock.specs.Blocks.{numrecs, records_of, AllInside};
 ghost use Rattle.sblock.specs.Kinds.{leaf_most_of};
 ghost use Rattle.tree_defs.specs.Tree.{with_recs, span_of};
-ghost use Rattle.tree_walk.specs.Meets.{IsMemory};
+ghost use Rattle.tree_blocks.specs.Meets.{IsMemory};
 ghost use Rattle.tree_walk.specs.Trails.{trail_of};
 
 use crate::seen::{Seen, joined};
-use crate::tree::WalkFault;
 use byte_fields::{Block, get_u16};
 use sblock::{Bounds, RecKind, data_area};
+use tree_blocks::WalkFault;
 use tree_defs::Span;
 
 // The keys of one record.

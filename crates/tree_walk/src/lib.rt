@@ -4,10 +4,9 @@
 mod enter;
 mod leaf;
 mod seen;
-mod tree;
 mod walker;
 
-pub use tree::{TreeAt, TreeRead, WalkFault};
+pub use tree_blocks::{TreeAt, TreeRead, WalkFault};
 pub use walker::walk;
 
 #[cfg(test)]

@@ -6,14 +6,14 @@ ghost use Rattle.geom.specs.Places.{layout};
 ghost use Rattle.sblock.specs.Kinds.{node_most_of};
 ghost use Rattle.tree_defs.specs.Sites.{bounds_of, site_of, group_blocks};
 ghost use Rattle.tree_defs.specs.Tree.{entry_at, agrees, fresh, closed, read_node, read_tree};
-ghost use Rattle.tree_walk.specs.Meets.{Refuses, MeetsNode, MeetsTree};
-ghost use Rattle.tree_walk.specs.Reading.{OnlyRead, HasCause, CauseOf};
+ghost use Rattle.tree_blocks.specs.Meets.{Refuses};
+ghost use Rattle.tree_walk.specs.Meets.{MeetsNode, MeetsTree};
+ghost use Rattle.tree_blocks.specs.Reading.{OnlyRead, HasCause, CauseOf};
 ghost use Rattle.tree_walk.specs.Trails.{trail_of, AreSound};
 
-use crate::enter::{enter, load};
+use crate::enter::enter;
 use crate::leaf::take_leaf;
 use crate::seen::{Seen, fresh_seen, joined, open_end_of};
-use crate::tree::{TreeAt, TreeRead, WalkFault};
 use blk_cache::BlkCache;
 use blk_device::Device;
 use byte_fields::{Steps, get_u16, get_u32};
@@ -21,6 +21,7 @@ use geom::Geometry;
 use sblock::{BlockFault, RecKind, child_at, data_area};
 use std::alloc::Global;
 use std::sync::ledger::Ledger;
+use tree_blocks::{TreeAt, TreeRead, WalkFault, load};
 use tree_defs::{Site, Span};
 
 fn do_keys_agree<K: RecKind>(low: &K::Key, high: &K::Key, span: &Span<K::Key>) -> bool

@@ -6,7 +6,7 @@ use Rattle.tree_defs.specs.Sites.{group_blocks}
 use Rattle.tree_defs.specs.Tree.{read_node}
 use Rattle.tree_walk.specs.Trails.{trail_of}
 use Rattle.tree_walk.proofs.BlockFacts.{noted_blocks, noted_recs, leaf_room, leaf_inside, node_room, children_inside, child_inside}
-use Rattle.tree_walk.proofs.ReadingLemmas.{read_on}
+use Rattle.tree_blocks.proofs.ReadingLemmas.{read_on}
 use Rattle.tree_walk.proofs.StepLemmas.{node_taken, refused_node, leaf_meets, leaf_sound, step_read, step_wrong, step_bad, all_read, on_ok}
 use Rattle.tree_walk.proofs.walker.+walk_node.Goals as goal
 

@@ -7,7 +7,7 @@ use Rattle.sblock.specs.Kinds.{node_most_of}
 use Rattle.sblock.specs.Lists.{items_from}
 use Rattle.tree_defs.specs.Sites.{group_blocks}
 use Rattle.tree_defs.specs.Tree.{entry_at, read_children, read_node}
-use Rattle.tree_walk.specs.Reading.{OnlyRead}
+use Rattle.tree_blocks.specs.Reading.{OnlyRead}
 use Rattle.tree_walk.specs.Trails.{trail_of, AreSound}
 use Rattle.tree_walk.proofs.walker.+walk_node.Given as goal
 

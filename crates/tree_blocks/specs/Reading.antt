@@ -5,8 +5,8 @@ use Rattle.blk_device.specs.Causes.{Rose}
 use Rattle.blk_device.specs.Contents.{Contents}
 use Rattle.blk_device.specs.Crash.{Keeps}
 use Rattle.blk_device.specs.declared.device.Region.{Region}
-use Rattle.tree_walk.specs.declared.tree.WalkFault.{WalkFault}
-use Rattle.tree_walk.specs.declared.tree.WalkFault.TheVariants.{Bad, Failed, Memory}
+use Rattle.tree_blocks.specs.declared.tree.WalkFault.{WalkFault}
+use Rattle.tree_blocks.specs.declared.tree.WalkFault.TheVariants.{Bad, Failed, Memory}
 
 -- each block, in either region
 abbrev pub EachBlock : Region → ℕ → Type 0

@@ -4,7 +4,7 @@ use Rattle.byte_fields.specs.Steps.{StepCount}
 use Rattle.blk_device.specs.Contents.{Contents}
 use Rattle.blk_device.specs.declared.device.Region.{Region}
 use Rattle.blk_device.proofs.Moments.{then_keeps, no_call}
-use Rattle.tree_walk.specs.Reading.{EachBlock, OnlyRead}
+use Rattle.tree_blocks.specs.Reading.{EachBlock, OnlyRead}
 
 module _ {D : Type 0} (content : D → Option Contents) (blocks : D → Region → ℕ) (faults reads clock : D → ℕ) (held_since : D → ℕ → Contents → Type 0) (may_hold : D → Contents → Type 0) (only_now : (d : D) (c : Contents) → held_since d (clock d) c → may_hold d c) (counts_now : (d : D) (t : ℕ) (c : Contents) → t ≤ clock d → may_hold d c → held_since d t c) where
   pub nothing_read : (d : D) (steps : StepCount) → OnlyRead content blocks faults reads clock held_since may_hold d d steps steps

@@ -1,0 +1,20 @@
+-- A refusal beside what the definition gives.
+use Rattle.std.specs.Prelude.{◌≡◌, ℕ, Option, Some, Result, Err, ⊤}
+use Rattle.sblock.specs.declared.block.BlockFault.{BlockFault}
+use Rattle.tree_blocks.specs.declared.tree.WalkFault.{WalkFault}
+use Rattle.tree_blocks.specs.declared.tree.WalkFault.TheVariants.{Bad, Failed, Memory}
+
+-- a fault of the tree is the one that is read; the others have causes outside of it
+abbrev pub Refuses : {A : Type 0} → Result A (ℕ × BlockFault) → WalkFault → Type 0
+Refuses read (Bad block fault) = read ≡ Err (block, fault)
+Refuses read Failed = ⊤
+Refuses read Memory = ⊤
+
+-- a block is refused for the first of its tests that fails
+abbrev pub RefusesBlock : ℕ → Option BlockFault → WalkFault → Type 0
+RefusesBlock p first (Bad block fault) = (block ≡ p) × (first ≡ Some fault)
+RefusesBlock p first Failed = ⊤
+RefusesBlock p first Memory = ⊤
+
+abbrev pub IsMemory : WalkFault → Type 0
+IsMemory fault = fault ≡ Memory
