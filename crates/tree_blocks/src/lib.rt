@@ -7,3 +7,6 @@ mod tree;
 
 pub use block::{load, lone_fault_of, open_block, own_fault, want_at};
 pub use tree::{TreeAt, TreeRead, WalkFault};
+
+#[cfg(test)]
+mod tests;
