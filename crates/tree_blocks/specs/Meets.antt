@@ -18,3 +18,9 @@ RefusesBlock p first Memory = ⊤
 
 abbrev pub IsMemory : WalkFault → Type 0
 IsMemory fault = fault ≡ Memory
+
+-- no memory was asked for
+abbrev pub IsNoMemory : WalkFault → Type 0
+IsNoMemory (Bad block fault) = ⊤
+IsNoMemory Failed = ⊤
+IsNoMemory Memory = ⊥

@@ -6,7 +6,7 @@ ghost use Rattle.sblock.specs.Blocks.{block_fault};
 ghost use Rattle.tree_defs.specs.Sites.{group_blocks};
 ghost use Rattle.tree_defs.specs.Tree.{want_of};
 ghost use Rattle.tree_defs.specs.Claims.{lone_fault};
-ghost use Rattle.tree_blocks.specs.Meets.{RefusesBlock};
+ghost use Rattle.tree_blocks.specs.Meets.{RefusesBlock, IsNoMemory};
 ghost use Rattle.tree_blocks.specs.Reading.{OnlyRead, HasCause};
 
 use crate::tree::WalkFault;
@@ -93,7 +93,7 @@ pub fn lone_fault_of<K: RecKind>(
 }
 
 /// Reads block `p` of the group and tests it by itself, whatever its left sibling is; a block that
-/// fails is told with the first test that it fails.
+/// fails is told with the first test that it fails. It takes no memory.
 pub fn open_block<K: RecKind, D: Device, L: Ledger>(
     dev: &mut D,
     cache: &mut BlkCache,
@@ -110,6 +110,7 @@ pub fn open_block<K: RecKind, D: Device, L: Ledger>(
     ensures passes { IfOk result (λ block. lone_fault K.form site.now level root p block.bytes ≡ None) }
     ensures told { IfOk result (λ block. (c : Contents) → D.content dev.old ≡ Some c → block.bytes ≡ group_blocks site.now (c Image) p) }
     ensures refused { IfErr result (λ fault. (c : Contents) → D.content dev.old ≡ Some c → RefusesBlock p (lone_fault K.form site.now level root p (group_blocks site.now (c Image) p)) fault) }
+    ensures no_memory { IfErr result IsNoMemory }
     ensures reading { OnlyRead D.content D.blocks D.faults D.reads D.clock D.may_have_held_since D.may_hold_now dev.old dev.new steps.old steps.new }
     ensures cause { HasCause (D.faults dev.old) (D.faults dev.new) result }
     ensures agrees { AgreesTold cache.new (D.content dev.new) }

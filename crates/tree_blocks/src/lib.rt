@@ -6,7 +6,7 @@ mod block;
 mod tree;
 
 pub use block::{load, lone_fault_of, open_block, own_fault, want_at};
-pub use tree::{TreeAt, TreeRead, WalkFault};
+pub use tree::{TreeAt, TreeRead, WalkFault, top_level};
 
 #[cfg(test)]
 mod tests;

@@ -16,11 +16,6 @@ use Rattle.tree_blocks.specs.declared.tree.TreeRead.{TreeRead}
 use Rattle.tree_blocks.specs.declared.tree.WalkFault.{WalkFault}
 use Rattle.tree_blocks.specs.declared.tree.WalkFault.TheVariants.{Bad, Failed, Memory}
 
--- what holds of each content that is told holds where it is told
-pub told : {C : Type 0} (o : Option C) (P : C → Type 0) → ((c : C) → o ≡ Some c → P c) → IfSome o P
-told None P h = tt
-told (Some c) P h = h c refl
-
 magic_first : (b : Bool) → sooner (Some Magic) (sooner (if b then None else Some Sibling) None) ≡ Some Magic
 magic_first true = refl
 magic_first false = refl

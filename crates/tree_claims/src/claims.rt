@@ -1,0 +1,146 @@
+ghost use Rattle.std.specs.Prelude.{◌≡◌, ℕ, ◌+◌, ◌*◌, ◌^◌, ◌<◌, ◌≤◌, ◌==◌, ◌↔◌, true, if◌then◌else◌, IfOk, IfErr, IfSome, OnOk, Some};
+ghost use Rattle.blk_cache.specs.Cache.{AgreesTold};
+ghost use Rattle.blk_device.specs.Contents.{Contents};
+ghost use Rattle.blk_device.specs.declared.device.Region.TheVariants.{Image};
+ghost use Rattle.geom.specs.Layout.{group_len_of};
+ghost use Rattle.geom.specs.Places.{layout};
+ghost use Rattle.run_sets.specs.Runs.{most};
+ghost use Rattle.run_sets.specs.Sets.{has};
+ghost use Rattle.tree_defs.specs.Claims.{IsClaimed};
+ghost use Rattle.tree_defs.specs.Sites.{site_of, group_blocks};
+ghost use Rattle.tree_blocks.specs.Reading.{OnlyRead, HasCause};
+ghost use Rattle.tree_claims.specs.Looks.{IsOutside, LieBelow};
+ghost use Rattle.tree_claims.specs.Rows.{ReadsRows};
+
+use crate::frontier::look_level;
+use crate::listed::{empty_set, one_block, set_of};
+use blk_cache::BlkCache;
+use blk_device::Device;
+use byte_fields::Steps;
+use geom::Geometry;
+use run_sets::RunSet;
+use sblock::RecKind;
+use std::alloc::Global;
+use std::sync::ledger::Ledger;
+use tree_blocks::{TreeAt, WalkFault, top_level};
+use tree_defs::Site;
+
+// How many levels there are to look at, from this one down. No block passes on level 9.
+fn levels_below(top: u8) -> u8
+    requires low { top ≤ 9 }
+    ensures exact { result ≡ (if top == 9 then 1 else top + 1) }
+{
+    if top == 9 { 1 } else { top + 1 }
+}
+
+// Looks at a tree level by level, from a root in the group.
+fn claimed_from<K: RecKind, D: Device, L: Ledger>(
+    alloc: Global,
+    dev: &mut D,
+    cache: &mut BlkCache,
+    site: &Site,
+    root: u32,
+    levels: u32,
+    steps: &mut Steps<L>,
+) -> Result<RunSet, WalkFault>
+    requires some { 1 ≤ root }
+    requires inside { root < site.now.bounds.length }
+    requires short { site.now.bounds.length ≤ most }
+    requires room { site.now.first + site.now.bounds.length ≤ D.blocks dev.old Image }
+    requires fits { 8 * (site.now.first + site.now.bounds.length) < 2 ^ 64 }
+    requires agreed { AgreesTold cache.old (D.content dev.old) }
+    ensures exact { (c : Contents) → D.content dev.old ≡ Some c → IfOk result (λ set. (b : ℕ) → (has set b ≡ true) ↔ IsClaimed K.form site.now (group_blocks site.now (c Image)) root levels b) }
+    ensures lies { IfOk result (λ set. LieBelow site.now.bounds.length (has set)) }
+    ensures refused { IfErr result IsOutside }
+    ensures reading { OnlyRead D.content D.blocks D.faults D.reads D.clock D.may_have_held_since D.may_hold_now dev.old dev.new steps.old steps.new }
+    ensures cause { HasCause (D.faults dev.old) (D.faults dev.new) result }
+    ensures agrees { AgreesTold cache.new (D.content dev.new) }
+    ensures few { steps.new.reads ≤ steps.old.reads + 9 * site.now.bounds.length }
+    ensures each { (c : Contents) → D.content dev.old ≡ Some c → OnOk result (ReadsRows K.form site.now (group_blocks site.now (c Image)) root levels steps.old.reads steps.new.reads) }
+{
+    let mut claimed = Vec::new(alloc);
+    let mut frontier = match one_block(alloc, root) {
+        Ok(set) => set,
+        Err(fault) => return Err(fault),
+    };
+    let top = top_level(levels);
+    for depth in 0..levels_below(top) {
+        let next = match look_level::<K, D, L>(
+            alloc,
+            dev,
+            cache,
+            site,
+            top - depth,
+            depth == 0,
+            &frontier,
+            &mut claimed,
+            steps,
+        ) {
+            Ok(next) => next,
+            Err(fault) => return Err(fault),
+        };
+        frontier = match set_of(alloc, &next) {
+            Ok(set) => set,
+            Err(fault) => return Err(fault),
+        };
+    }
+    set_of(alloc, &claimed)
+}
+
+// The blocks that the tree of this root and count of levels claims.
+fn claimed_at<K: RecKind, D: Device, L: Ledger>(
+    alloc: Global,
+    dev: &mut D,
+    cache: &mut BlkCache,
+    site: &Site,
+    tree: &TreeAt,
+    steps: &mut Steps<L>,
+) -> Result<RunSet, WalkFault>
+    requires short { site.now.bounds.length ≤ most }
+    requires room { site.now.first + site.now.bounds.length ≤ D.blocks dev.old Image }
+    requires fits { 8 * (site.now.first + site.now.bounds.length) < 2 ^ 64 }
+    requires agreed { AgreesTold cache.old (D.content dev.old) }
+    ensures exact { (c : Contents) → D.content dev.old ≡ Some c → IfOk result (λ set. (b : ℕ) → (has set b ≡ true) ↔ IsClaimed K.form site.now (group_blocks site.now (c Image)) tree.now.root tree.now.levels b) }
+    ensures lies { IfOk result (λ set. LieBelow site.now.bounds.length (has set)) }
+    ensures refused { IfErr result IsOutside }
+    ensures reading { OnlyRead D.content D.blocks D.faults D.reads D.clock D.may_have_held_since D.may_hold_now dev.old dev.new steps.old steps.new }
+    ensures cause { HasCause (D.faults dev.old) (D.faults dev.new) result }
+    ensures agrees { AgreesTold cache.new (D.content dev.new) }
+    ensures few { steps.new.reads ≤ steps.old.reads + 9 * site.now.bounds.length }
+    ensures each { (c : Contents) → D.content dev.old ≡ Some c → OnOk result (1 ≤ tree.now.root → tree.now.root < site.now.bounds.length → ReadsRows K.form site.now (group_blocks site.now (c Image)) tree.now.root tree.now.levels steps.old.reads steps.new.reads) }
+{
+    let root = tree.root;
+    if root == 0 || root >= site.bounds.length {
+        return empty_set(alloc);
+    }
+    claimed_from::<K, D, L>(alloc, dev, cache, site, root, tree.levels, steps)
+}
+
+/// The blocks, group-relative, that a tree claims even where it can't be read: those that are
+/// reached from its root through nodes that pass their own tests, whatever their siblings are, the
+/// root included, and that have the magic number, place, owner and UUID of such a block. A root
+/// outside the group claims nothing. It refuses only where the device fails or there is no memory
+/// (XFS Algorithms and Data Structures, "Short Format B+trees").
+pub fn claimed<K: RecKind, D: Device, L: Ledger>(
+    alloc: Global,
+    dev: &mut D,
+    cache: &mut BlkCache,
+    geo: &Geometry,
+    tree: &TreeAt,
+    steps: &mut Steps<L>,
+) -> Result<RunSet, WalkFault>
+    requires group { tree.now.group < geo.now.agcount }
+    requires room { geo.now.dblocks ≤ D.blocks dev.old Image }
+    requires agreed { AgreesTold cache.old (D.content dev.old) }
+    ensures exact { IfSome (D.content dev.old) (λ c. let site = site_of (layout geo.now) tree.now.group in IfOk result (λ set. (b : ℕ) → (has set b ≡ true) ↔ IsClaimed K.form site (group_blocks site (c Image)) tree.now.root tree.now.levels b)) }
+    ensures inside { IfOk result (λ set. (b : ℕ) → has set b ≡ true → b < group_len_of (layout geo.now) tree.now.group) }
+    ensures refused { IfErr result IsOutside }
+    ensures reading { OnlyRead D.content D.blocks D.faults D.reads D.clock D.may_have_held_since D.may_hold_now dev.old dev.new steps.old steps.new }
+    ensures cause { HasCause (D.faults dev.old) (D.faults dev.new) result }
+    ensures agrees { AgreesTold cache.new (D.content dev.new) }
+    ensures few { steps.new.reads ≤ steps.old.reads + 9 * group_len_of (layout geo.now) tree.now.group }
+    ensures each { IfSome (D.content dev.old) (λ c. let site = site_of (layout geo.now) tree.now.group in OnOk result (1 ≤ tree.now.root → tree.now.root < site.bounds.length → ReadsRows K.form site (group_blocks site (c Image)) tree.now.root tree.now.levels steps.old.reads steps.new.reads)) }
+{
+    let site = Site::of_group(geo, tree.group);
+    claimed_at::<K, D, L>(alloc, dev, cache, &site, tree, steps)
+}

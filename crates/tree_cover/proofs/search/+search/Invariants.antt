@@ -1,0 +1,4 @@
+use Rattle.tree_cover.proofs.search.+search.Given as goal
+
+abbrev pub decreases-search : goal.decreases-search
+decreases-search g l = l.level

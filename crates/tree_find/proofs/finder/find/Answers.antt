@@ -1,0 +1,21 @@
+use Rattle.std.proofs.Common.{◌≡◌, ap}
+use Rattle.blk_device.specs.declared.device.Region.TheVariants.{Image}
+use Rattle.geom.specs.Places.{layout}
+use Rattle.tree_defs.specs.Sites.{bounds_of, site_of, group_blocks}
+use Rattle.tree_defs.specs.declared.site.Site.{Site}
+use Rattle.tree_find.proofs.FindLaw.{right_in_tree}
+use Rattle.tree_blocks.proofs.ReadingLemmas.{told}
+use Rattle.tree_find.proofs.finder.find.Goals as goal
+
+pub returns-clause-right : goal.returns-clause-right
+returns-clause-right g c =
+    let form = g.K.RecKind.form in
+    let site = site_of (layout c.args.geo.now) c.args.tree.now.group in
+    told (g.D.Device.content c.args.dev.now) _
+    (λ m e. right_in_tree form g.met.K.RecKind.lawful site (group_blocks site (m Image)) c.args.tree.now.root c.args.tree.now.levels c.args.key c.find_site.result (rw (c.of_group-site.ensures.exact) at (c.find_site.ensures.exact m e)))
+
+pub returns-clause-sound : goal.returns-clause-sound
+unfolding site_of
+returns-clause-sound g c =
+    let e : c.of_group-site.result.bounds ≡ bounds_of (layout c.args.geo.now) c.args.tree.now.group = ap (λ (s : Site). s.bounds) c.of_group-site.ensures.exact in
+    rw (← e) c.find_site.ensures.sound

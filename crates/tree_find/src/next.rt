@@ -1,0 +1,183 @@
+ghost use Rattle.std.specs.Prelude.{◌≡◌, ◌+◌, ◌*◌, ◌^◌, ◌<◌, ◌≤◌, ℕ, nat_le, if◌then◌else◌, true, Ok, IfOk, IfErr, IfSome, IfNone, Some};
+ghost use Rattle.blk_cache.specs.Cache.{AgreesTold};
+ghost use Rattle.blk_device.specs.Contents.{Contents};
+ghost use Rattle.blk_device.specs.declared.device.Region.TheVariants.{Image};
+ghost use Rattle.sblock.specs.Area.{area_of, child_of};
+ghost use Rattle.sblock.specs.Blocks.{numrecs, is_rising, records_of};
+ghost use Rattle.sblock.specs.Kinds.{leaf_most_of, node_most_of};
+ghost use Rattle.tree_defs.specs.Sites.{group_blocks};
+ghost use Rattle.tree_blocks.specs.Meets.{IsMemory};
+ghost use Rattle.tree_blocks.specs.Reading.{OnlyRead, HasCause};
+ghost use Rattle.tree_find.specs.Meets.{MeetsRecords, MeetsFound};
+ghost use Rattle.tree_find.specs.Next.{some_of, records_above, first_below, leaf_behind, next_below, AreAbove};
+
+use crate::places::{records_after, start_for};
+use blk_cache::BlkCache;
+use blk_device::Device;
+use byte_fields::{Block, Steps, get_u16};
+use sblock::{RecKind, child_at, data_area};
+use std::alloc::Global;
+use std::sync::ledger::Ledger;
+use tree_blocks::{WalkFault, open_block};
+use tree_defs::Site;
+
+// The child of entry `i` of a node.
+fn child_in<K: RecKind>(block: &Block, i: usize) -> u32
+    requires { i < node_most_of K.form.kind }
+    ensures { result ≡ child_of K.form.kind (area_of block.now.bytes) i }
+{
+    child_at(K::kind(), data_area(block), i)
+}
+
+// The records of a leaf above the key, if there are any.
+fn found_after<K: RecKind>(
+    alloc: Global,
+    block: &Block,
+    after: &Option<K::Key>,
+) -> Result<Option<Vec<K::Rec>>, WalkFault>
+    requires room { numrecs block.now.bytes ≤ leaf_most_of K.form.kind }
+    requires rising { is_rising K.form true (area_of block.now.bytes) (numrecs block.now.bytes) ≡ true }
+    ensures above { MeetsFound (Ok (some_of (records_above K.form after.now (records_of K.form block.now.bytes)))) result }
+    ensures memory { IfErr result IsMemory }
+{
+    let recs = match records_after::<K>(alloc, block, after) {
+        Ok(recs) => recs,
+        Err(fault) => return Err(fault),
+    };
+    if recs.is_empty() {
+        return Ok(None);
+    }
+    Ok(Some(recs))
+}
+
+// The records above the key in the first leaf below a block of this level that isn't the root.
+fn first_node<K: RecKind, D: Device, L: Ledger>(
+    alloc: Global,
+    dev: &mut D,
+    cache: &mut BlkCache,
+    site: &Site,
+    level: u8,
+    p: u32,
+    after: &Option<K::Key>,
+    steps: &mut Steps<L>,
+) -> Result<Vec<K::Rec>, WalkFault>
+    requires inside { p < site.now.bounds.length }
+    requires room { site.now.first + site.now.bounds.length ≤ D.blocks dev.old Image }
+    requires fits { 8 * (site.now.first + site.now.bounds.length) < 2 ^ 64 }
+    requires agreed { AgreesTold cache.old (D.content dev.old) }
+    ensures exact { (c : Contents) → D.content dev.old ≡ Some c → MeetsRecords (first_below K.form site.now (group_blocks site.now (c Image)) after.now level p) result }
+    ensures sound { IfOk result (λ recs. AreAbove K.form site.now.bounds after.now recs.items) }
+    ensures reading { OnlyRead D.content D.blocks D.faults D.reads D.clock D.may_have_held_since D.may_hold_now dev.old dev.new steps.old steps.new }
+    ensures cause { HasCause (D.faults dev.old) (D.faults dev.new) result }
+    ensures agrees { AgreesTold cache.new (D.content dev.new) }
+    ensures few { steps.new.reads ≤ steps.old.reads + level + 1 }
+{
+    let block = match open_block::<K, D, L>(dev, cache, site, level, false, p, steps) {
+        Ok(block) => block,
+        Err(fault) => return Err(fault),
+    };
+    if level == 0 {
+        return records_after::<K>(alloc, &block, after);
+    }
+    let child = child_in::<K>(&block, 0);
+    first_node::<K, D, L>(alloc, dev, cache, site, level - 1, child, after, steps)
+}
+
+// Those of the first leaf below entry `i` of a node, if it has one; its children are of this level.
+fn behind<K: RecKind, D: Device, L: Ledger>(
+    alloc: Global,
+    dev: &mut D,
+    cache: &mut BlkCache,
+    site: &Site,
+    level: u8,
+    block: &Block,
+    i: usize,
+    after: &Option<K::Key>,
+    steps: &mut Steps<L>,
+) -> Result<Option<Vec<K::Rec>>, WalkFault>
+    requires most { numrecs block.now.bytes ≤ node_most_of K.form.kind }
+    requires inside { (k : ℕ) → k < numrecs block.now.bytes → child_of K.form.kind (area_of block.now.bytes) k < site.now.bounds.length }
+    requires room { site.now.first + site.now.bounds.length ≤ D.blocks dev.old Image }
+    requires fits { 8 * (site.now.first + site.now.bounds.length) < 2 ^ 64 }
+    requires agreed { AgreesTold cache.old (D.content dev.old) }
+    ensures exact { (c : Contents) → D.content dev.old ≡ Some c → MeetsFound (leaf_behind K.form site.now (group_blocks site.now (c Image)) after.now level block.now.bytes i) result }
+    ensures sound { IfOk result (λ found. IfSome found (λ recs. AreAbove K.form site.now.bounds after.now recs.items)) }
+    ensures reading { OnlyRead D.content D.blocks D.faults D.reads D.clock D.may_have_held_since D.may_hold_now dev.old dev.new steps.old steps.new }
+    ensures cause { HasCause (D.faults dev.old) (D.faults dev.new) result }
+    ensures agrees { AgreesTold cache.new (D.content dev.new) }
+    ensures few { steps.new.reads ≤ steps.old.reads + level + 1 }
+    ensures none { IfOk result (λ found. IfNone found (steps.new.reads ≡ steps.old.reads)) }
+{
+    if i >= get_u16(&block.bytes, 6) as usize {
+        return Ok(None);
+    }
+    let child = child_in::<K>(block, i);
+    match first_node::<K, D, L>(alloc, dev, cache, site, level, child, after, steps) {
+        Ok(recs) => Ok(Some(recs)),
+        Err(fault) => Err(fault),
+    }
+}
+
+/// The records above the key in the first leaf below a block of this level that has some; none
+/// where no leaf below it has one.
+pub fn next_node<K: RecKind, D: Device, L: Ledger>(
+    alloc: Global,
+    dev: &mut D,
+    cache: &mut BlkCache,
+    site: &Site,
+    level: u8,
+    root: bool,
+    p: u32,
+    after: &Option<K::Key>,
+    steps: &mut Steps<L>,
+) -> Result<Option<Vec<K::Rec>>, WalkFault>
+    requires inside { p < site.now.bounds.length }
+    requires room { site.now.first + site.now.bounds.length ≤ D.blocks dev.old Image }
+    requires fits { 8 * (site.now.first + site.now.bounds.length) < 2 ^ 64 }
+    requires agreed { AgreesTold cache.old (D.content dev.old) }
+    ensures exact { (c : Contents) → D.content dev.old ≡ Some c → MeetsFound (next_below K.form site.now (group_blocks site.now (c Image)) after.now level root p) result }
+    ensures sound { IfOk result (λ found. IfSome found (λ recs. AreAbove K.form site.now.bounds after.now recs.items)) }
+    ensures reading { OnlyRead D.content D.blocks D.faults D.reads D.clock D.may_have_held_since D.may_hold_now dev.old dev.new steps.old steps.new }
+    ensures cause { HasCause (D.faults dev.old) (D.faults dev.new) result }
+    ensures agrees { AgreesTold cache.new (D.content dev.new) }
+    ensures few { steps.new.reads ≤ steps.old.reads + (if nat_le level 8 then 2 * level + 1 else 1) }
+    ensures none { IfOk result (λ found. IfNone found (steps.new.reads ≤ steps.old.reads + level + 1)) }
+{
+    let block = match open_block::<K, D, L>(dev, cache, site, level, root, p, steps) {
+        Ok(block) => block,
+        Err(fault) => return Err(fault),
+    };
+    if level == 0 {
+        return found_after::<K>(alloc, &block, after);
+    }
+    let start = start_for::<K>(&block, after);
+    let child = child_in::<K>(&block, start);
+    let found = match next_node::<K, D, L>(
+        alloc,
+        dev,
+        cache,
+        site,
+        level - 1,
+        false,
+        child,
+        after,
+        steps,
+    ) {
+        Ok(found) => found,
+        Err(fault) => return Err(fault),
+    };
+    match found {
+        Some(recs) => Ok(Some(recs)),
+        None => behind::<K, D, L>(
+            alloc,
+            dev,
+            cache,
+            site,
+            level - 1,
+            &block,
+            start + 1,
+            after,
+            steps,
+        ),
+    }
+}
