@@ -41,7 +41,7 @@ copies_aside [] k c b lt = refl
 copies_aside (p ∷ ps) k c b lt =
     copies_aside ps (k + 1) (put Redo k p.1.bytes c) b (omega (arith, lt)) ∙ unless (b == k) p.1.bytes (c Redo b) (λ e. absurd (omega (arith, lt, eqb-true b k e)))
 
-copies_image : (ps : List (ℕ × Block)) (k : ℕ) (c : Contents) → put_copies ps k c Image ≡ c Image
+pub copies_image : (ps : List (ℕ × Block)) (k : ℕ) (c : Contents) → put_copies ps k c Image ≡ c Image
 copies_image [] k c = refl
 copies_image (p ∷ ps) k c = copies_image ps (k + 1) (put Redo k p.1.bytes c)
 
@@ -53,7 +53,7 @@ copies_stand (p ∷ ps) k c =
     let first : put_copies ps (k + 1) next Redo k ≡ p.1.bytes = copies_aside ps (k + 1) next k (omega arith) ∙ when (k == k) p.1.bytes (c Redo k) (eq-eqb k k refl) in
     λ i. (p.0, first i) ∷ copies_stand ps (k + 1) next i
 
-homes_image : (ps : Batch) (c : Contents) → put_homes ps c Image ≡ with_batch ps (c Image)
+pub homes_image : (ps : Batch) (c : Contents) → put_homes ps c Image ≡ with_batch ps (c Image)
 homes_image [] c = refl
 homes_image (p ∷ ps) c = homes_image ps (put Image p.0 p.1 c)
 

@@ -1,0 +1,4 @@
+pub mod EnterLemmas
+pub mod JoinedLaws
+pub mod ListLemmas
+pub mod WholeLemmas

@@ -1,0 +1,259 @@
+ghost use Rattle.std.specs.Prelude.{◌≡◌, ◌<◌};
+
+use crate::commits::write_batch;
+use crate::fault::TxnFault;
+use crate::list::{copy_over, find, load};
+use blk_cache::{BlkCache, Memory};
+use blk_device::Device;
+use byte_fields::{Block, Steps};
+use std::alloc::Global;
+use std::marker::Model;
+use std::sync::ledger::Ledger;
+
+// The most blocks that a batch has.
+const MOST: usize = 160;
+
+/// Changed image blocks that aren't written yet, and a copy of those that were joined at the last
+/// mark. Contracts see both as lists of block number and bytes, rising by number; blocks are
+/// counted from the image's start. All room is taken by `new`, so that no other call needs memory.
+#[derive(Drop)]
+pub struct Txn {
+    blocks: Vec<(u64, Block)>,
+    marked: Vec<(u64, Block)>,
+}
+
+impl Model for Txn {
+    ghost use Rattle.meta_txn.specs.Joined.{Joined};
+
+    ghost Value = { Joined };
+
+    ghost use Rattle.redo_area.specs.Area.{bytes_of};
+    ghost use Rattle.meta_txn.specs.Room.{HasRoom};
+
+    ghost view = { λ t. record { blocks = bytes_of t.blocks.items; marked = bytes_of t.marked.items } };
+
+    ghost invariant = { λ t. HasRoom t.blocks × HasRoom t.marked };
+}
+
+impl Txn {
+    ghost use Rattle.std.specs.Prelude.{◌≤◌, ◌+◌, ◌↔◌, ◌&&◌, ℕ, List, [], true, false, length, is_some, not, nat_lt, if◌then◌else◌, IsOk, IfOk, IfErr, IfSome, OnOk, OnErr, IsErrOf};
+    ghost use Rattle.std.specs.Borrow.{sem};
+    ghost use Rattle.blk_cache.specs.Cache.{capacity_of, kept, AgreesTold};
+    ghost use Rattle.blk_device.specs.Causes.{HasCause, Rose, one_more};
+    ghost use Rattle.blk_device.specs.Contents.{Becomes, Holds};
+    ghost use Rattle.blk_device.specs.Crash.{Elapses, LeavesOnly, NoMore};
+    ghost use Rattle.blk_device.specs.declared.device.Region.TheVariants.{Image, Redo};
+    ghost use Rattle.redo_area.specs.Area.{Batch};
+    ghost use Rattle.redo_area.specs.Stages.{AtRest, Ends};
+    ghost use Rattle.meta_txn.specs.Entering.{IsAbsent, IsEntered, IsFound, IsReadIn};
+    ghost use Rattle.meta_txn.specs.Joined.{empty, reads_block, with_block, written, AreBelow, Finds, WouldBe};
+    ghost use Rattle.meta_txn.specs.Lending.{LendsJoined, LendsPlace};
+    ghost use Rattle.meta_txn.specs.Places.{bytes_in};
+    ghost use Rattle.meta_txn.specs.Whole.{StandsForEither};
+
+    /// An empty transaction, with room for 160 blocks and for as many at the mark.
+    pub fn new(alloc: Global) -> Result<Self, Memory>
+        ensures empty { IfOk result (λ txn. txn ≡ empty) }
+    {
+        let blocks = Vec::with_capacity(alloc, MOST)?;
+        let marked = Vec::with_capacity(alloc, MOST)?;
+        Ok(Txn { blocks, marked })
+    }
+
+    // The block in a place of the list.
+    fn block_in(&mut self, i: usize) -> &mut Block
+        requires { i < length self.old.blocks }
+        ensures* lends { sem 𝓛 (LendsPlace self.entry i result) }
+        ensures value { result.now.bytes ≡ bytes_in i self.old.blocks }
+    {
+        let pair = &mut self.blocks[i];
+        &mut pair.1
+    }
+
+    // Puts in a block whose number isn't joined, in its place.
+    fn insert(&mut self, i: usize, at: u64, block: Block)
+        requires few { length self.old.blocks < 160 }
+        requires absent { IsAbsent at i self.old.blocks }
+        ensures { self.new ≡ record self.old { blocks = with_block at block.bytes self.old.blocks } }
+    {
+        let _ = self.blocks.insert(i, (at, block));
+    }
+
+    // How many blocks are joined.
+    fn count(&self) -> usize
+        ensures count { result ≡ length self.now.blocks }
+        ensures few { length self.now.blocks ≤ 160 }
+    {
+        self.blocks.len()
+    }
+
+    // Where the block with this number stands, or as Err where it belongs.
+    fn look(&self, at: u64) -> Result<usize, usize>
+        ensures found { IfOk result (λ i. IsFound at i self.now.blocks) }
+        ensures absent { IfErr result (λ i. IsAbsent at i self.now.blocks) }
+    {
+        find(&self.blocks, at)
+    }
+
+    // Reads a block whose number isn't joined, and puts it in, in its place.
+    fn read_in<D: Device, L: Ledger>(
+        &mut self,
+        dev: &mut D,
+        cache: &mut BlkCache,
+        i: usize,
+        at: u64,
+        steps: &mut Steps<L>,
+    ) -> Result<usize, TxnFault>
+        requires absent { IsAbsent at i self.old.blocks }
+        requires inside { at < D.blocks dev.old Image }
+        requires agreed { AgreesTold cache.old (D.content dev.old) }
+        ensures read { IfOk result (λ j. IsReadIn at j (D.content dev.old) self.old self.new) }
+        ensures refused { OnErr result (self.new ≡ self.old) }
+        ensures too_many { (n : ℕ) → IsErrOf result (TxnFault.TooMany n) ↔ ((n ≡ length self.old.blocks + 1) × (160 < n)) }
+        ensures untouched { 160 ≤ length self.old.blocks → (dev.new ≡ dev.old) × (cache.new ≡ cache.old) × (steps.new ≡ steps.old) }
+        ensures ticks { length self.old.blocks < 160 → steps.new ≡ record steps.old { reads = steps.old.reads + 1 } }
+        ensures reads { length self.old.blocks < 160 → D.reads dev.new ≡ (if is_some (kept cache.old at) then D.reads dev.old else one_more (D.reads dev.old)) }
+        ensures same { D.content dev.new ≡ D.content dev.old }
+        ensures crash { NoMore (D.may_hold_now dev.old) (D.may_hold_now dev.new) }
+        ensures time { Elapses (D.clock dev.old) (D.clock dev.new) (D.may_have_held_since dev.old) (D.may_have_held_since dev.new) (D.may_hold_now dev.new) }
+        ensures sizes { D.blocks dev.new ≡ D.blocks dev.old }
+        ensures failed { IsErrOf result TxnFault.Failed → Rose (D.faults dev.old) (D.faults dev.new) }
+        ensures calm { (IsErrOf result TxnFault.Failed → ⊥) → D.faults dev.new ≡ D.faults dev.old }
+        ensures later { D.faults dev.old ≤ D.faults dev.new }
+        ensures agrees { AgreesTold cache.new (D.content dev.new) }
+    {
+        let count = self.count();
+        if count >= MOST {
+            return Err(TxnFault::TooMany(count as u64 + 1));
+        }
+        match load(dev, cache, at, steps) {
+            Ok(block) => {
+                self.insert(i, at, block);
+                Ok(i)
+            }
+            Err(fault) => Err(fault),
+        }
+    }
+
+    // The place of the block with this number, which is read where it isn't joined.
+    fn enter<D: Device, L: Ledger>(
+        &mut self,
+        dev: &mut D,
+        cache: &mut BlkCache,
+        at: u64,
+        steps: &mut Steps<L>,
+    ) -> Result<usize, TxnFault>
+        requires inside { at < D.blocks dev.old Image }
+        requires agreed { AgreesTold cache.old (D.content dev.old) }
+        ensures entered { IfOk result (λ i. IsEntered at i (D.content dev.old) self.old self.new) }
+        ensures refused { OnErr result (self.new ≡ self.old) }
+        ensures too_many { (n : ℕ) → IsErrOf result (TxnFault.TooMany n) ↔ WouldBe at self.old.blocks n }
+        ensures untouched { reads_block at self.old.blocks ≡ false → (dev.new ≡ dev.old) × (cache.new ≡ cache.old) × (steps.new ≡ steps.old) }
+        ensures ticks { reads_block at self.old.blocks ≡ true → steps.new ≡ record steps.old { reads = steps.old.reads + 1 } }
+        ensures reads { reads_block at self.old.blocks ≡ true → D.reads dev.new ≡ (if is_some (kept cache.old at) then D.reads dev.old else one_more (D.reads dev.old)) }
+        ensures same { D.content dev.new ≡ D.content dev.old }
+        ensures crash { NoMore (D.may_hold_now dev.old) (D.may_hold_now dev.new) }
+        ensures time { Elapses (D.clock dev.old) (D.clock dev.new) (D.may_have_held_since dev.old) (D.may_have_held_since dev.new) (D.may_hold_now dev.new) }
+        ensures sizes { D.blocks dev.new ≡ D.blocks dev.old }
+        ensures failed { IsErrOf result TxnFault.Failed → Rose (D.faults dev.old) (D.faults dev.new) }
+        ensures calm { (IsErrOf result TxnFault.Failed → ⊥) → D.faults dev.new ≡ D.faults dev.old }
+        ensures later { D.faults dev.old ≤ D.faults dev.new }
+        ensures agrees { AgreesTold cache.new (D.content dev.new) }
+    {
+        match self.look(at) {
+            Ok(i) => Ok(i),
+            Err(i) => self.read_in(dev, cache, i, at, steps),
+        }
+    }
+
+    /// The block at a number of the image, to be changed: as it was joined before, or else read
+    /// through the cache. Answers TooMany exactly where the transaction would have more than 160
+    /// blocks, and Failed only where the device failed; then nothing joined has changed.
+    pub fn join<D: Device, L: Ledger>(
+        &mut self,
+        dev: &mut D,
+        cache: &mut BlkCache,
+        at: u64,
+        steps: &mut Steps<L>,
+    ) -> Result<&mut Block, TxnFault>
+        requires inside { at < D.blocks dev.old Image }
+        requires agreed { AgreesTold cache.old (D.content dev.old) }
+
+        // The caller may change the bytes at this number, and nothing else of the transaction.
+        ensures* lends { sem 𝓛 (LendsJoined self.entry at result) }
+        ensures bytes { IfOk result (λ block. Finds at self.old.blocks (D.content dev.old) block.now.bytes) }
+        ensures too_many { (n : ℕ) → IsErrOf result (TxnFault.TooMany n) ↔ WouldBe at self.old.blocks n }
+
+        // A block that is joined or has no room costs nothing, and any other is read through the cache.
+        ensures untouched { reads_block at self.old.blocks ≡ false → (dev.new ≡ dev.old) × (cache.new ≡ cache.old) × (steps.new ≡ steps.old) }
+        ensures ticks { reads_block at self.old.blocks ≡ true → steps.new ≡ record steps.old { reads = steps.old.reads + 1 } }
+        ensures reads { reads_block at self.old.blocks ≡ true → D.reads dev.new ≡ (if is_some (kept cache.old at) then D.reads dev.old else one_more (D.reads dev.old)) }
+        ensures same { D.content dev.new ≡ D.content dev.old }
+        ensures crash { NoMore (D.may_hold_now dev.old) (D.may_hold_now dev.new) }
+        ensures time { Elapses (D.clock dev.old) (D.clock dev.new) (D.may_have_held_since dev.old) (D.may_have_held_since dev.new) (D.may_hold_now dev.new) }
+        ensures sizes { D.blocks dev.new ≡ D.blocks dev.old }
+        ensures failed { IsErrOf result TxnFault.Failed → Rose (D.faults dev.old) (D.faults dev.new) }
+        ensures calm { (IsErrOf result TxnFault.Failed → ⊥) → D.faults dev.new ≡ D.faults dev.old }
+        ensures later { D.faults dev.old ≤ D.faults dev.new }
+        ensures agrees { AgreesTold cache.new (D.content dev.new) }
+    {
+        match self.enter(dev, cache, at, steps) {
+            Ok(i) => Ok(self.block_in(i)),
+            Err(fault) => Err(fault),
+        }
+    }
+
+    /// Writes the joined blocks as one batch, and tells the cache. Where nothing waits in the redo
+    /// region and nothing is pending, a crash at any moment of it leaves the image as it was, or
+    /// with all of the joined blocks; after Ok it has them, and is durable. Answers Failed only
+    /// where the device failed. The transaction is empty afterwards, whatever the answer.
+    pub fn commit<D: Device, L: Ledger>(
+        &mut self,
+        dev: &mut D,
+        cache: &mut BlkCache,
+        steps: &mut Steps<L>,
+    ) -> Result<(), TxnFault>
+        requires room { 162 ≤ D.blocks dev.old Redo }
+        requires inside { AreBelow (D.blocks dev.old Image) self.old.blocks }
+        requires agreed { AgreesTold cache.old (D.content dev.old) }
+        ensures image { OnOk result (Becomes (D.content dev.old) (D.content dev.new) (λ m n. n Image ≡ written (m Image) self.old)) }
+        ensures done { IfSome (D.content dev.old) (AtRest (D.may_hold_now dev.old)) → OnOk result (Becomes (D.content dev.old) (D.content dev.new) (λ m. Ends (written (m Image) self.old) (D.may_hold_now dev.new))) }
+        ensures any_moment { IfSome (D.content dev.old) (λ m. AtRest (D.may_hold_now dev.old) m → LeavesOnly D.clock D.may_have_held_since dev.old dev.new (StandsForEither (D.blocks dev.old Image) (m Image) (written (m Image) self.old))) }
+        ensures emptied { self.new ≡ empty }
+        ensures nothing { self.old.blocks ≡ [] → IsOk result × (dev.new ≡ dev.old) × (cache.new ≡ cache.old) }
+        ensures agrees { OnOk result (AgreesTold cache.new (D.content dev.new)) }
+        ensures untold { OnErr result (cache.new ≡ cache.old) }
+        ensures capacity { capacity_of cache.new ≡ capacity_of cache.old }
+        ensures ticks { steps.new ≡ record steps.old { writes = steps.old.writes + length self.old.blocks } }
+        ensures kind { IfErr result (λ fault. fault ≡ TxnFault.Failed) }
+        ensures cause { HasCause (D.faults dev.old) (D.faults dev.new) result }
+        ensures reads { D.reads dev.new ≡ D.reads dev.old }
+        ensures sizes { D.blocks dev.new ≡ D.blocks dev.old }
+    {
+        let answer = write_batch(dev, cache, &self.blocks, steps);
+        self.abandon();
+        answer
+    }
+
+    /// Lets go of all joined blocks and of the mark.
+    pub fn abandon(&mut self)
+        ensures { self.new ≡ empty }
+    {
+        self.blocks.clear();
+        self.marked.clear();
+    }
+
+    /// Keeps a copy of the blocks joined so far.
+    pub fn mark(&mut self)
+        ensures { self.new ≡ record self.old { marked = self.old.blocks } }
+    {
+        copy_over(&mut self.marked, &self.blocks);
+    }
+
+    /// Returns to the blocks of the last mark, or to none where there was no mark.
+    pub fn back(&mut self)
+        ensures { self.new ≡ record self.old { blocks = self.old.marked } }
+    {
+        copy_over(&mut self.blocks, &self.marked);
+    }
+}
