@@ -9,7 +9,8 @@ use Rattle.std.specs.List.{list_all}
 use Rattle.xscrub.specs.Ending.{IsShown, IsToldOf, IsFoundBy, Decides, EndsFor, HasCause, IsSettled, IsOutcome, IsAsked, IsOfImage, IsWorded, EndsByWords}
 use Rattle.xscrub.specs.Command.{Job, check_of, unbuilt, usage}
 use Rattle.xscrub.specs.Stored.{Request}
-use Rattle.xscrub.specs.Outcome.{Outcome, is_calm, is_image_line, judged_status, judged_outcome, ended_outcome, outcome_of}
+use Rattle.xscrub.specs.Units.{HasAllUnits, HasUnits}
+use Rattle.xscrub.specs.Outcome.{Outcome, is_calm, is_image_line, judged_status, judged_outcome, filled_outcome, ended_outcome, has_journal, outcome_of}
 use Rattle.xscrub.specs.declared.ending.Finding.{Finding}
 use Rattle.xscrub.specs.declared.ending.Finding.TheVariants as findings
 use Rattle.run_text.specs.Report.{report_of}
@@ -52,11 +53,35 @@ pub shown_line : (journal : List Entry) (last : Option LastLine) (f g : ℕ) (a 
 shown_line journal last f g a b none line =
     shown_then journal last f f g a a b refl (subst (λ (js : List Entry). Takes (report_of js) a a) (sym none) (told_nothing a a refl)) line
 
+-- ---- a journal of units
+
+true_not_false : true ≡ false → ⊥
+true_not_false e = cc
+
+-- what has a journal isn't without one
+with_journal : {P : Type 0} (s : Status) → has_journal s ≡ true → has_journal s ≡ false → P
+with_journal s has none = absurd (true_not_false (sym has ∙ none))
+
+pub judged_has_journal : (journal : List Entry) → has_journal (judged_status journal) ≡ true
+judged_has_journal journal = either (list_all is_calm journal)
+  where
+    either : (b : Bool) → has_journal (cond b statuses.Clean statuses.Faulty) ≡ true
+    either true = refl
+    either false = refl
+
 -- a journal for which there was no more memory
-pub told_memory : (journal cut : List Entry) (n : ℕ) (told : Outcome) (f g : ℕ) → cut ≡ take n journal → EndsWith statuses.Memory cut lines.Memory told.status told.journal told.last
-    → IsToldOf (judged_outcome journal) f g told
-told_memory journal cut n told f g is (same, inl ends) = inr (inr (ends.0, ends.1, (drop n journal, sym (ap (λ (js : List Entry). js ++ drop n journal) (same ∙ is) ∙ take-append-drop n journal)), tt))
-told_memory journal cut n told f g is (same, inr ends) = inr (inr (ends.0, ends.1, (drop n journal, sym (ap (λ (js : List Entry). js ++ drop n journal) (same ∙ is) ∙ take-append-drop n journal)), tt))
+pub told_memory : (found told : Outcome) (journal cut : List Entry) (n f g : ℕ) → found.journal ≡ journal → has_journal found.status ≡ true → cut ≡ take n journal
+    → EndsWith statuses.Memory cut lines.Memory told.status told.journal told.last → IsToldOf found f g told
+told_memory found told journal cut n f g of has is ends =
+    inr (inr (stopped ends.1, last ends.1, (drop n journal, of ∙ sym (ap (λ (js : List Entry). js ++ drop n journal) (ends.0 ∙ is) ∙ take-append-drop n journal)), with_journal found.status has))
+  where
+    stopped : ((told.status ≡ statuses.Memory) × (told.last ≡ Some lines.Memory)) ⊎ ((told.status ≡ statuses.Memory) × (told.last ≡ Some lines.Memory) × (true ≡ false)) → told.status ≡ statuses.Memory
+    stopped (inl whole) = whole.0
+    stopped (inr none) = none.0
+
+    last : ((told.status ≡ statuses.Memory) × (told.last ≡ Some lines.Memory)) ⊎ ((told.status ≡ statuses.Memory) × (told.last ≡ Some lines.Memory) × (true ≡ false)) → told.last ≡ Some lines.Memory
+    last (inl whole) = whole.1
+    last (inr none) = none.1
 
 -- ---- from what was found to what is told
 
@@ -77,6 +102,7 @@ judged_ends journal h h' d d' k k' i j l =
 
 found_ends : (finding : Finding) (h h' d d' k k' : ℕ) → IsFoundBy finding h h' d d' → ((outcome_of finding).last ≡ None → k' ≡ k) → HasCause (outcome_of finding) h h' d d' k k'
 found_ends (findings.Judged journal) h h' d d' k k' cause calm = judged_ends journal.items h h' d d' k k' cause.0 cause.1 (calm refl)
+found_ends (findings.Full journal) h h' d d' k k' cause calm = refl
 found_ends (findings.Refused line) h h' d d' k k' cause calm = (line, refl)
 found_ends findings.Usage h h' d d' k k' cause calm = refl
 found_ends findings.DeviceFailed h h' d d' k k' cause calm = inl (refl, cause)
@@ -128,6 +154,7 @@ told_stop told o s line k k' stops (inr (inr memory)) =
 pub told_decided : (decided : Option Outcome) (finding : Finding) (told : Outcome) (k k' : ℕ) → Decides decided finding → IsToldOf (outcome_of finding) k k' told → IfSome decided (IsOutcome told)
 told_decided None finding told k k' decides ends = tt
 told_decided (Some o) (findings.Judged journal) told k k' decides ends = told_same told (judged_outcome journal.items) o k k' decides ends
+told_decided (Some o) (findings.Full journal) told k k' decides ends = told_same told (filled_outcome journal.items) o k k' decides ends
 told_decided (Some o) (findings.Refused line) told k k' decides ends = told_same told (ended_outcome statuses.Refused line) o k k' decides ends
 told_decided (Some o) findings.Usage told k k' decides ends = told_same told (ended_outcome statuses.Usage lines.Usage) o k k' decides ends
 told_decided (Some o) findings.DeviceFailed told k k' decides ends = told_stop told o statuses.Failed lines.DeviceFailed k k' (λ h. h) ends
@@ -140,7 +167,7 @@ told_short told finding k k' is ends = short (subst (λ (f : Finding). IsToldOf 
   where
     short : IsToldOf (ended_outcome statuses.Memory lines.Memory) k k' told → told.status ≡ statuses.Memory
     short (inl whole) = ap (λ (q : Outcome). q.status) whole.0
-    short (inr (inl failed)) = let clash : Some lines.Memory ≡ None = failed.2 in cc
+    short (inr (inl failed)) = with_journal statuses.Memory failed.2 refl
     short (inr (inr memory)) = memory.0
 
 pub asked_so : (command : Job) (told : Outcome) (finding : Finding) (k k' : ℕ) (a b c : List Request) → IsToldOf (outcome_of finding) k k' told → c ≡ b
@@ -151,13 +178,10 @@ asked_so command told finding k k' a b c ends same (inr whole) = inr (same ∙ w
 -- ---- what the words alone decide
 
 -- a line without a number is told as it is
-told_fixed : (told : Outcome) (s : Status) (line : LastLine) (k k' : ℕ) → is_fixed line ≡ true → IsToldOf (ended_outcome s line) k k' told → told ≡ ended_outcome s line
-told_fixed told s line k k' fixed (inl whole) = whole.0
-told_fixed told s line k k' fixed (inr (inl failed)) = let clash : Some line ≡ None = failed.2 in cc
-told_fixed told s line k k' fixed (inr (inr memory)) = let loose : is_fixed line ≡ false = memory.3 in absurd (true_not_false (sym fixed ∙ loose))
-  where
-    true_not_false : true ≡ false → ⊥
-    true_not_false e = cc
+told_fixed : (told : Outcome) (s : Status) (line : LastLine) (k k' : ℕ) → has_journal s ≡ false → is_fixed line ≡ true → IsToldOf (ended_outcome s line) k k' told → told ≡ ended_outcome s line
+told_fixed told s line k k' none fixed (inl whole) = whole.0
+told_fixed told s line k k' none fixed (inr (inl failed)) = with_journal s failed.2 none
+told_fixed told s line k k' none fixed (inr (inr memory)) = let loose : is_fixed line ≡ false = memory.3 none in absurd (true_not_false (sym fixed ∙ loose))
 
 judged_not_usage : (journal : List Entry) → judged_status journal ≡ statuses.Usage → ⊥
 judged_not_usage journal e = either (list_all is_calm journal) e
@@ -168,6 +192,7 @@ judged_not_usage journal e = either (list_all is_calm journal) e
 
 found_not_usage : (finding : Finding) → IsOfImage finding → (outcome_of finding).status ≡ statuses.Usage → ⊥
 found_not_usage (findings.Judged journal) of e = judged_not_usage journal.items e
+found_not_usage (findings.Full journal) of e = cc
 found_not_usage (findings.Refused line) of e = cc
 found_not_usage findings.Usage of e = of
 found_not_usage findings.DeviceFailed of e = cc
@@ -182,6 +207,7 @@ not_unbuilt line image e = let same : line ≡ lines.UnbuiltJob = cc in clash (s
 
 found_not_unbuilt : (finding : Finding) → IsOfImage finding → (outcome_of finding).last ≡ Some lines.UnbuiltJob → ⊥
 found_not_unbuilt (findings.Judged journal) of e = cc
+found_not_unbuilt (findings.Full journal) of e = cc
 found_not_unbuilt (findings.Refused line) of e = not_unbuilt line of e
 found_not_unbuilt findings.Usage of e = of
 found_not_unbuilt findings.DeviceFailed of e = cc
@@ -200,7 +226,35 @@ told_not_unbuilt finding told k k' of (inr (inr memory)) e = let clash : Some li
 
 pub told_by_words : (job : Job) (finding : Finding) (told : Outcome) (k k' : ℕ) → IsWorded job finding → IsToldOf (outcome_of finding) k k' told → EndsByWords job told
 told_by_words usage finding told k k' worded ends =
-    told_fixed told statuses.Usage lines.Usage k k' refl (subst (λ (f : Finding). IsToldOf (outcome_of f) k k' told) worded ends)
+    told_fixed told statuses.Usage lines.Usage k k' refl refl (subst (λ (f : Finding). IsToldOf (outcome_of f) k k' told) worded ends)
 told_by_words unbuilt finding told k k' worded ends =
-    told_fixed told statuses.Refused lines.UnbuiltJob k k' refl (subst (λ (f : Finding). IsToldOf (outcome_of f) k k' told) worded ends)
+    told_fixed told statuses.Refused lines.UnbuiltJob k k' refl refl (subst (λ (f : Finding). IsToldOf (outcome_of f) k k' told) worded ends)
 told_by_words (check_of name) finding told k k' worded ends = (told_not_usage finding told k k' worded ends, told_not_unbuilt finding told k k' worded ends)
+
+-- ---- the units of a journal
+
+judged_units : (journal : List Entry) → HasAllUnits journal → HasUnits (judged_status journal) journal
+judged_units journal all = either (list_all is_calm journal)
+  where
+    either : (b : Bool) → HasUnits (cond b statuses.Clean statuses.Faulty) journal
+    either true = all
+    either false = all
+
+found_units : (finding : Finding) → IsOfImage finding → HasUnits (outcome_of finding).status (outcome_of finding).journal
+found_units (findings.Judged journal) of = judged_units journal.items of
+found_units (findings.Full journal) of = of
+found_units (findings.Refused line) of = tt
+found_units findings.Usage of = tt
+found_units findings.DeviceFailed of = tt
+found_units findings.HostFailed of = tt
+found_units findings.Memory of = tt
+
+worded_units : (job : Job) (finding : Finding) → IsWorded job finding → HasUnits (outcome_of finding).status (outcome_of finding).journal
+worded_units usage finding worded = subst (λ (f : Finding). HasUnits (outcome_of f).status (outcome_of f).journal) (sym worded) tt
+worded_units unbuilt finding worded = subst (λ (f : Finding). HasUnits (outcome_of f).status (outcome_of f).journal) (sym worded) tt
+worded_units (check_of name) finding worded = found_units finding worded
+
+pub told_units : (job : Job) (finding : Finding) (told : Outcome) (k k' : ℕ) → IsWorded job finding → IsToldOf (outcome_of finding) k k' told → HasUnits told.status told.journal
+told_units job finding told k k' worded (inl whole) = subst (λ (o : Outcome). HasUnits o.status o.journal) (sym whole.0) (worded_units job finding worded)
+told_units job finding told k k' worded (inr (inl failed)) = subst (λ (o : Outcome). HasUnits o.status o.journal) (sym failed.0) tt
+told_units job finding told k k' worded (inr (inr memory)) = subst (λ (s : Status). HasUnits s told.journal) (sym memory.0) tt

@@ -1,11 +1,4 @@
-pub mod DifferencesLemmas
 pub mod EndingLemmas
-pub mod FreeLemmas
 pub mod JudgedLemmas
 pub mod MemHostLemmas
-pub mod OnlyRunsLemmas
-pub mod OrderLemmas
-pub mod PlaceLemmas
-pub mod ReadingLemmas
-pub mod RunsLemmas
 pub mod ShownLemmas

@@ -5,11 +5,12 @@ use Rattle.blk_device.specs.Causes.{Rose}
 use Rattle.blk_device.specs.Taken.{Takes, IsFront}
 use Rattle.xscrub.specs.Command.{Job, check_of, unbuilt, usage}
 use Rattle.xscrub.specs.Image.{image_outcome}
-use Rattle.xscrub.specs.Outcome.{Outcome, code_of, is_calm, is_image_line, judged_outcome, ended_outcome}
+use Rattle.xscrub.specs.Outcome.{Outcome, code_of, is_calm, is_image_line, judged_outcome, filled_outcome, ended_outcome, has_journal}
 use Rattle.run_text.specs.Report.{report_of}
 use Rattle.xscrub.specs.LastLines.{is_fixed}
 use Rattle.xscrub.specs.Shown.{TakesFronts, last_text}
 use Rattle.xscrub.specs.Stored.{Stored, Request}
+use Rattle.xscrub.specs.Units.{HasAllUnits, HasItsMost, HasUnits}
 use Rattle.xscrub.specs.declared.ending.Finding.{Finding}
 use Rattle.xscrub.specs.declared.ending.Finding.TheVariants as findings
 use Rattle.xscrub.specs.declared.ending.Status.{Status}
@@ -44,6 +45,7 @@ requests_of (check_of name) = record { image = name; redo = None; purpose = ForC
 -- what wasn't stopped is what was decided
 abbrev pub Decides : Option Outcome → Finding → Type 0
 Decides decided (findings.Judged journal) = IfSome decided (λ o. judged_outcome journal.items ≡ o)
+Decides decided (findings.Full journal) = IfSome decided (λ o. filled_outcome journal.items ≡ o)
 Decides decided (findings.Refused line) = IfSome decided (λ o. ended_outcome statuses.Refused line ≡ o)
 Decides decided findings.Usage = IfSome decided (λ o. ended_outcome statuses.Usage lines.Usage ≡ o)
 Decides decided findings.DeviceFailed = ⊤
@@ -53,6 +55,7 @@ Decides decided findings.Memory = ⊤
 -- a fault is found only where its count rose, and nothing is judged where one did
 abbrev pub IsFoundBy : Finding → (host host' devices devices' : ℕ) → Type 0
 IsFoundBy (findings.Judged journal) host host' devices devices' = (host' ≡ host) × (devices' ≡ devices)
+IsFoundBy (findings.Full journal) host host' devices devices' = ⊤
 IsFoundBy (findings.Refused line) host host' devices devices' = ⊤
 IsFoundBy findings.Usage host host' devices devices' = ⊤
 IsFoundBy findings.DeviceFailed host host' devices devices' = Rose devices devices'
@@ -61,7 +64,8 @@ IsFoundBy findings.Memory host host' devices devices' = ⊤
 
 -- a finding that an image may have
 abbrev pub IsOfImage : Finding → Type 0
-IsOfImage (findings.Judged journal) = ⊤
+IsOfImage (findings.Judged journal) = HasAllUnits journal.items
+IsOfImage (findings.Full journal) = HasItsMost journal.items
 IsOfImage (findings.Refused line) = is_image_line line ≡ true
 IsOfImage findings.Usage = ⊥
 IsOfImage findings.DeviceFailed = ⊤
@@ -89,13 +93,14 @@ pub record IsShown (journal : List Entry) (last : Option LastLine) (faults fault
   pub whole : (Rose faults faults' → ⊥) → Takes (report_of journal ++ last_text last) taken taken'
   pub fronts : TakesFronts (report_of journal) (last_text last) taken taken'
 
--- What is told of a finding: itself; or, where the sink failed in its journal, that the host
--- failed; or, where there was no memory for a line, as much of the journal as had been told.
+-- What is told of a finding: itself; or, where the sink failed in the journal of its units, that
+-- the host failed; or, where there was no memory for a line, as much of that as had been told.
 abbrev pub IsToldOf : Outcome → (faults faults' : ℕ) → Outcome → Type 0
 IsToldOf found faults faults' told =
     ((told ≡ found) × (found.last ≡ None → faults' ≡ faults))
-    ⊎ (((told ≡ record { status = statuses.Failed; journal = found.journal; last = Some lines.HostFailed }) × Rose faults faults' × (found.last ≡ None))
-    ⊎ ((told.status ≡ statuses.Memory) × (told.last ≡ Some lines.Memory) × IsFront told.journal found.journal × IfSome found.last (λ line. is_fixed line ≡ false)))
+    ⊎ (((told ≡ record { status = statuses.Failed; journal = found.journal; last = Some lines.HostFailed }) × Rose faults faults' × (has_journal found.status ≡ true))
+    ⊎ ((told.status ≡ statuses.Memory) × (told.last ≡ Some lines.Memory) × IsFront told.journal found.journal
+    × (has_journal found.status ≡ false → IfSome found.last (λ line. is_fixed line ≡ false))))
 
 -- ---- the whole run
 
@@ -110,6 +115,7 @@ EndsFor statuses.Refused told host host' devices devices' sink sink' = (line : L
 EndsFor statuses.Failed told host host' devices devices' sink sink' =
     ((told.last ≡ Some lines.DeviceFailed) × Rose devices devices')
     ⊎ ((told.last ≡ Some lines.HostFailed) × (Rose host host' ⊎ Rose sink sink'))
+EndsFor statuses.Full told host host' devices devices' sink sink' = told.last ≡ Some lines.JournalFull
 EndsFor statuses.Memory told host host' devices devices' sink sink' = told.last ≡ Some lines.Memory
 
 abbrev pub HasCause : Outcome → (host host' devices devices' sink sink' : ℕ) → Type 0
@@ -121,6 +127,7 @@ IsSettled statuses.Clean = ⊤
 IsSettled statuses.Faulty = ⊤
 IsSettled statuses.Usage = ⊤
 IsSettled statuses.Refused = ⊤
+IsSettled statuses.Full = ⊤
 IsSettled statuses.Failed = ⊥
 IsSettled statuses.Memory = ⊥
 
@@ -140,7 +147,7 @@ EndsByWords unbuilt told = told ≡ ended_outcome statuses.Refused lines.Unbuilt
 EndsByWords (check_of name) told = (told.status ≡ statuses.Usage → ⊥) × (told.last ≡ Some lines.UnbuiltJob → ⊥)
 
 -- What a run owes: how it ended is what words and bytes decide, or has a cause in a count that
--- rose; and this is what the sink took.
+-- rose; its journal has each unit of each group; and this is what the sink took.
 pub record IsRun (command : Job) (told : Outcome) (stored : List ℕ → Option Stored) (host host' devices devices' sink sink' : ℕ)
     (taken taken' : Option (List ℕ)) (asked asked' : List Request) (end : RunEnd) : Type 0 where
   pub status : end.status ≡ code_of told.status
@@ -149,5 +156,6 @@ pub record IsRun (command : Job) (told : Outcome) (stored : List ℕ → Option 
   pub words : EndsByWords command told
   pub decided : IfSome (decided_by command stored) (IsOutcome told)
   pub cause : HasCause told host host' devices devices' sink sink'
+  pub units : HasUnits told.status told.journal
   pub shown : IsShown told.journal told.last sink sink' taken taken'
   pub asked_for : IsAsked command (told.status ≡ statuses.Memory) asked asked'

@@ -9,7 +9,7 @@ use Rattle.geom.specs.declared.fault.ImageFault.{ImageFault}
 use Rattle.geom.specs.declared.fault.ImageFault.TheVariants as images
 use Rattle.run_text.specs.Lines.{line_from, spaced}
 use Rattle.xscrub.specs.declared.last_line.LastLine.{LastLine}
-use Rattle.xscrub.specs.declared.last_line.LastLine.TheVariants.{Usage, UnbuiltJob, UnbuiltGroups, UnbuiltLevels, Image, Head, DeviceFailed, HostFailed, Memory}
+use Rattle.xscrub.specs.declared.last_line.LastLine.TheVariants.{Usage, UnbuiltJob, Image, Head, DeviceFailed, HostFailed, JournalFull, Memory}
 
 abbrev pub head_name : GroupHead → List ℕ
 head_name Agf = codes "agf"
@@ -40,12 +40,11 @@ image_fault_words images.DeviceShort = codes "deviceshort" ∷ []
 abbrev pub last_words : LastLine → List (List ℕ)
 last_words Usage = codes "usage: xscrub JOB TARGET [--redo FILE] [--script FILE] [--rebuild] [--turns N]" ∷ []
 last_words UnbuiltJob = codes "unbuilt job" ∷ []
-last_words UnbuiltGroups = codes "unbuilt groups" ∷ []
-last_words UnbuiltLevels = codes "unbuilt levels" ∷ []
 last_words (Image fault) = codes "image" ∷ image_fault_words fault
 last_words (Head group head fault) = codes "group" ∷ decimal group ∷ head_name head ∷ head_fault_text fault ∷ []
 last_words DeviceFailed = codes "device failed" ∷ []
 last_words HostFailed = codes "host failed" ∷ []
+last_words JournalFull = codes "journal full" ∷ []
 last_words Memory = codes "memory" ∷ []
 
 unfoldable pub last_line_of : LastLine → List ℕ

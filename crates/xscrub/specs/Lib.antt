@@ -1,15 +1,12 @@
 pub mod Asked
 pub mod Command
-pub mod Differences
 pub mod Ending
-pub mod Free
 pub mod Image
 pub mod Judged
 pub mod LastLines
-pub mod Leaf
 pub mod MemFiles
 pub mod MemHost
-pub mod Order
 pub mod Outcome
 pub mod Shown
 pub mod Stored
+pub mod Units

@@ -24,6 +24,7 @@ code_of statuses.Faulty = 1
 code_of statuses.Usage = 2
 code_of statuses.Refused = 4
 code_of statuses.Failed = 5
+code_of statuses.Full = 7
 code_of statuses.Memory = 8
 
 -- the verdict doesn't speak against the image
@@ -48,6 +49,20 @@ judged_status journal = if list_all is_calm journal then statuses.Clean else sta
 abbrev pub judged_outcome : List Entry → Outcome
 judged_outcome journal = record { status = judged_status journal; journal = journal; last = None }
 
+-- a journal that was full before the last unit
+abbrev pub filled_outcome : List Entry → Outcome
+filled_outcome journal = record { status = statuses.Full; journal = journal; last = Some lines.JournalFull }
+
+-- the journal of units is told before the end
+abbrev pub has_journal : Status → Bool
+has_journal statuses.Clean = true
+has_journal statuses.Faulty = true
+has_journal statuses.Full = true
+has_journal statuses.Usage = false
+has_journal statuses.Refused = false
+has_journal statuses.Failed = false
+has_journal statuses.Memory = false
+
 -- an end before the first unit, with a line that says why
 abbrev pub ended_outcome : Status → LastLine → Outcome
 ended_outcome status line = record { status = status; journal = []; last = Some line }
@@ -56,16 +71,16 @@ ended_outcome status line = record { status = status; journal = []; last = Some 
 abbrev pub is_image_line : LastLine → Bool
 is_image_line (lines.Image fault) = true
 is_image_line (lines.Head group head fault) = true
-is_image_line lines.UnbuiltGroups = true
-is_image_line lines.UnbuiltLevels = true
 is_image_line lines.Usage = false
 is_image_line lines.UnbuiltJob = false
 is_image_line lines.DeviceFailed = false
 is_image_line lines.HostFailed = false
+is_image_line lines.JournalFull = false
 is_image_line lines.Memory = false
 
 abbrev pub outcome_of : Finding → Outcome
 outcome_of (findings.Judged journal) = judged_outcome journal.items
+outcome_of (findings.Full journal) = filled_outcome journal.items
 outcome_of (findings.Refused line) = ended_outcome statuses.Refused line
 outcome_of findings.Usage = ended_outcome statuses.Usage lines.Usage
 outcome_of findings.DeviceFailed = ended_outcome statuses.Failed lines.DeviceFailed

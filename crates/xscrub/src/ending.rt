@@ -12,14 +12,16 @@ pub enum Status {
     Usage = 2,
     Refused = 4,
     Failed = 5,
+    Full = 7,
     Memory = 8,
 }
 
-/// What a run found, before it is told: the journal of a judged image, the line of a refusal, or
-/// what stopped it.
+/// What a run found, before it is told: the journal of a judged image, a journal that was full
+/// before the last unit, the line of a refusal, or what stopped it.
 #[derive(Debug, PartialEq, Eq, Drop)]
 pub enum Finding {
     Judged(Vec<Entry>),
+    Full(Vec<Entry>),
     Refused(LastLine),
     Usage,
     DeviceFailed,

@@ -6,14 +6,13 @@ use fs_model::Head;
 use geom::ImageFault;
 use std::alloc::{AllocError, Global};
 
-/// What a run says last where it ended without its verdicts: the words are wrong, the image has
-/// a form that isn't built yet or is refused, or device, host or memory failed.
+/// What a run says last where it ended before its last verdict: the words are wrong or ask for a
+/// job that isn't built yet, the image is refused, the journal was full, or device, host or memory
+/// failed.
 #[derive(Clone, Copy, Debug, PartialEq, Eq)]
 pub enum LastLine {
     Usage,
     UnbuiltJob,
-    UnbuiltGroups,
-    UnbuiltLevels,
     Image(ImageFault),
     Head {
         group: u32,
@@ -22,6 +21,7 @@ pub enum LastLine {
     },
     DeviceFailed,
     HostFailed,
+    JournalFull,
     Memory,
 }
 
@@ -61,12 +61,11 @@ pub fn fixed_line(line: &LastLine) -> Option<&'static str>
             "usage: xscrub JOB TARGET [--redo FILE] [--script FILE] [--rebuild] [--turns N]\n",
         ),
         LastLine::UnbuiltJob => Some("unbuilt job\n"),
-        LastLine::UnbuiltGroups => Some("unbuilt groups\n"),
-        LastLine::UnbuiltLevels => Some("unbuilt levels\n"),
         LastLine::Image(fault) => fixed_image_line(fault),
         LastLine::Head { .. } => None,
         LastLine::DeviceFailed => Some("device failed\n"),
         LastLine::HostFailed => Some("host failed\n"),
+        LastLine::JournalFull => Some("journal full\n"),
         LastLine::Memory => Some("memory\n"),
     }
 }

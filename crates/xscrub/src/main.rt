@@ -1,16 +1,14 @@
-//! Checks an XFS version 5 image: its free space btree against its reverse mapping btree.
+//! Checks an XFS version 5 image: the free space and the reference counts of each group against
+//! its reverse mapping btree.
 #![tactic(auto)]
 
 mod asked;
 mod command;
-mod compare;
 mod ending;
 mod file_host;
-mod free;
 mod host;
 mod judging;
 mod last_line;
-mod leaf;
 mod mem_host;
 mod telling;
 #[cfg(test)]

@@ -1,10 +1,10 @@
-ghost use Rattle.std.specs.Prelude.{◌≡◌, ◌≤◌, OnOk, IfErr, length, Some, false};
+ghost use Rattle.std.specs.Prelude.{◌≡◌, ◌≤◌, ℕ, List, Option, OnOk, IfErr, length, Some, true, false};
 ghost use Rattle.std.specs.Bool.{OnTrue, OnFalse};
 ghost use Rattle.std.specs.List.{list_all};
 ghost use Rattle.blk_device.specs.Causes.{Rose};
 ghost use Rattle.blk_device.specs.Taken.{Takes};
 ghost use Rattle.xscrub.specs.Ending.{IsShown, IsToldOf, told_outcome};
-ghost use Rattle.xscrub.specs.Outcome.{is_calm as is_calm_entry, is_calm_verdict as is_calm_verdict_of, judged_status, judged_outcome, outcome_of};
+ghost use Rattle.xscrub.specs.Outcome.{is_calm as is_calm_entry, is_calm_verdict as is_calm_verdict_of, has_journal, judged_status, judged_outcome, filled_outcome, Outcome, outcome_of};
 ghost use Rattle.run_text.specs.Report.{report_of};
 ghost use Rattle.xscrub.specs.LastLines.{is_fixed, last_line_of};
 ghost use Rattle.xscrub.specs.Shown.{StopsAt, IsLineShown, EndsWith, last_text};
@@ -137,8 +137,30 @@ fn status_of(journal: &[Entry]) -> Status
     }
 }
 
-// Tells a journal, as far as the sink and memory go.
-fn tell_journal<K: Sink>(alloc: Global, sink: &mut K, journal: Vec<Entry>) -> Told
+// Ends a run whose journal wasn't told whole: the host has failed, or there was no memory, and the
+// journal is cut to what was told.
+fn end_early<K: Sink>(alloc: Global, sink: &mut K, journal: Vec<Entry>, stop: TellStop) -> Told
+    ensures rest { K.kept sink.old sink.new }
+    ensures shown { (f : ℕ) (a : Option (List ℕ)) → f ≤ K.sink_faults sink.old
+        → StopsAt journal.items f (K.sink_faults sink.old) a (K.taken sink.old) stop
+        → IsShown result.journal.items result.last f (K.sink_faults sink.new) a (K.taken sink.new) }
+    ensures told { (found : Outcome) (f : ℕ) (a : Option (List ℕ)) → found.journal ≡ journal.items
+        → has_journal found.status ≡ true
+        → StopsAt journal.items f (K.sink_faults sink.old) a (K.taken sink.old) stop
+        → IsToldOf found f (K.sink_faults sink.new) (told_outcome result) }
+{
+    match stop {
+        TellStop::Sink => end_with(alloc, sink, Status::Failed, journal, LastLine::HostFailed),
+        TellStop::Memory { told } => {
+            let mut journal = journal;
+            journal.truncate(told);
+            end_with(alloc, sink, Status::Memory, journal, LastLine::Memory)
+        }
+    }
+}
+
+// Tells the journal of a judged image, as far as the sink and memory go.
+fn tell_judged<K: Sink>(alloc: Global, sink: &mut K, journal: Vec<Entry>) -> Told
     ensures rest { K.kept sink.old sink.new }
     ensures shown { IsShown result.journal.items result.last
         (K.sink_faults sink.old) (K.sink_faults sink.new)
@@ -146,18 +168,28 @@ fn tell_journal<K: Sink>(alloc: Global, sink: &mut K, journal: Vec<Entry>) -> To
     ensures told { IsToldOf (judged_outcome journal.items)
         (K.sink_faults sink.old) (K.sink_faults sink.new) (told_outcome result) }
 {
-    let mut journal = journal;
     match put_journal(alloc, sink, journal.as_slice()) {
         Ok(()) => Told {
             status: status_of(journal.as_slice()),
             journal,
             last: None,
         },
-        Err(TellStop::Sink) => end_with(alloc, sink, Status::Failed, journal, LastLine::HostFailed),
-        Err(TellStop::Memory { told }) => {
-            journal.truncate(told);
-            end_with(alloc, sink, Status::Memory, journal, LastLine::Memory)
-        }
+        Err(stop) => end_early(alloc, sink, journal, stop),
+    }
+}
+
+// Tells a journal that was full, as far as the sink and memory go, and then that it was.
+fn tell_full<K: Sink>(alloc: Global, sink: &mut K, journal: Vec<Entry>) -> Told
+    ensures rest { K.kept sink.old sink.new }
+    ensures shown { IsShown result.journal.items result.last
+        (K.sink_faults sink.old) (K.sink_faults sink.new)
+        (K.taken sink.old) (K.taken sink.new) }
+    ensures told { IsToldOf (filled_outcome journal.items)
+        (K.sink_faults sink.old) (K.sink_faults sink.new) (told_outcome result) }
+{
+    match put_journal(alloc, sink, journal.as_slice()) {
+        Ok(()) => end_with(alloc, sink, Status::Full, journal, LastLine::JournalFull),
+        Err(stop) => end_early(alloc, sink, journal, stop),
     }
 }
 
@@ -173,7 +205,8 @@ pub fn tell<K: Sink>(alloc: Global, sink: &mut K, finding: Finding) -> Told
         (K.sink_faults sink.old) (K.sink_faults sink.new) (told_outcome result) }
 {
     let (status, line) = match finding {
-        Finding::Judged(journal) => return tell_journal(alloc, sink, journal),
+        Finding::Judged(journal) => return tell_judged(alloc, sink, journal),
+        Finding::Full(journal) => return tell_full(alloc, sink, journal),
         Finding::Refused(line) => (Status::Refused, line),
         Finding::Usage => (Status::Usage, LastLine::Usage),
         Finding::DeviceFailed => (Status::Failed, LastLine::DeviceFailed),

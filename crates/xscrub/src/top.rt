@@ -7,9 +7,8 @@ ghost use Rattle.xscrub.specs.Stored.{Stored};
 use crate::command::{Command, command_of};
 use crate::ending::Finding;
 use crate::host::{Host, OpenFault, Purpose};
-use crate::judging::{Judgement, judge};
+use crate::judging::{JudgeFault, Judgement, judge};
 use crate::last_line::LastLine;
-use crate::leaf::ReadError;
 use crate::telling::tell;
 use fs_model::Entry;
 use std::alloc::Global;
@@ -44,9 +43,10 @@ fn check<H: Host>(alloc: Global, host: &mut H, image: &str) -> Finding
     host.put_back(image, dev);
     match found {
         Ok(Judgement::Judged(journal)) => Finding::Judged(journal),
+        Ok(Judgement::Full(journal)) => Finding::Full(journal),
         Ok(Judgement::Refused(line)) => Finding::Refused(line),
-        Err(ReadError::Device) => Finding::DeviceFailed,
-        Err(ReadError::Memory) => Finding::Memory,
+        Err(JudgeFault::Device) => Finding::DeviceFailed,
+        Err(JudgeFault::Memory) => Finding::Memory,
     }
 }
 

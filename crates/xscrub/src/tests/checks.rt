@@ -1,8 +1,6 @@
-use super::fresh::{
-    free_leaf, heads, heads_of, image_of, mapped, owned, rmap_leaf, run, small_image, small_owned,
-    with_free, with_mappings,
-};
+use super::fresh::{small_image, small_with};
 use super::runs::{expect_check, expect_end, run_words};
+use super::trees::{at, bno_leaf, run};
 use crate::host::Purpose;
 use fs_model::{Entry, Unit, Verdict};
 use std::test::Fail;
@@ -40,14 +38,15 @@ fn a_sound_image_is_good(rt: HostRuntime) -> Result<(), Fail> {
     let image = small_image(rt.alloc())?;
     let words = ["check", "a.img"];
     let (end, host) = run_words(rt.alloc(), &words, image, Vec::new(rt.alloc()))?;
-    expect_end(&rt, &end, &host, 0, "0 free good\n")?;
-    let good = Entry::Verdict {
+    expect_end(&rt, &end, &host, 0, "0 free good\n0 refc good\n")?;
+    let good = |unit| Entry::Verdict {
         group: 0,
-        unit: Unit::Free,
+        unit,
         verdict: Verdict::Good,
     };
-    assert_eq!(rt; end.journal.as_slice(), [good].as_slice());
-    assert_eq!(rt; end.starts, [0, 1, 1]);
+    let journal = [good(Unit::Free), good(Unit::Refc)];
+    assert_eq!(rt; end.journal.as_slice(), journal.as_slice());
+    assert_eq!(rt; end.starts, [0, 2, 2]);
     assert_eq!(rt; host.asked.len(), 1);
     assert_eq!(rt; host.asked[0].image.as_str(), "a.img");
     assert_eq!(rt; host.asked[0].redo, None);
@@ -60,75 +59,9 @@ fn a_sound_image_is_good(rt: HostRuntime) -> Result<(), Fail> {
 }
 
 #[test]
-fn the_index_is_compared_with_the_blocks_without_an_owner(rt: HostRuntime) -> Result<(), Fail> {
-    let alloc = rt.alloc();
-    let short = free_leaf(&[run(19, 5), run(32, 223)]);
-    let report = "0 bno missing 32 224\n0 bno extra 32 223\n0 free faulty 2\n";
-    expect_check(&rt, with_free(alloc, short)?, 1, report)?;
-
-    // A file has block 40 at two offsets.
-    let free = free_leaf(&[run(19, 5), run(32, 8), run(41, 215)]);
-    let mut mappings = small_owned().to_vec(alloc)?;
-    mappings.push(mapped(40, 1, 195, 0))?;
-    mappings.push(mapped(40, 1, 195, 5))?;
-    let image = image_of(alloc, 256, heads(), free, rmap_leaf(mappings.as_slice()))?;
-    expect_check(&rt, image, 0, "0 free good\n")?;
-
-    // The group's last block has an owner.
-    let free = free_leaf(&[run(19, 5), run(32, 223)]);
-    let mut mappings = small_owned().to_vec(alloc)?;
-    mappings.push(mapped(255, 1, 2047, 0))?;
-    let image = image_of(alloc, 256, heads(), free, rmap_leaf(mappings.as_slice()))?;
-    expect_check(&rt, image, 0, "0 free good\n")?;
-
-    // No block is free, and then no block has an owner.
-    let image = image_of(
-        alloc,
-        256,
-        heads(),
-        free_leaf(&[]),
-        rmap_leaf(&[owned(0, 256, 3)]),
-    )?;
-    expect_check(&rt, image, 0, "0 free good\n")?;
-    let report = "0 bno missing 0 256\n0 bno extra 19 5\n0 bno extra 32 224\n0 free faulty 3\n";
-    expect_check(&rt, with_mappings(alloc, rmap_leaf(&[]))?, 1, report)
-}
-
-#[test]
-fn leaves_may_be_full(rt: HostRuntime) -> Result<(), Fail> {
-    let alloc = rt.alloc();
-    // Block 1 and each second one after it have an owner: 1, 3 to 335.
-    let mut mappings = Vec::new(alloc);
-    for i in 0..168u32 {
-        mappings.push(owned(2 * i + 1, 1, 5))?;
-    }
-    // Block 2 and each second one after it are free: 2, 4 to 1010.
-    let mut free = Vec::new(alloc);
-    for i in 0..505u32 {
-        free.push(run(2 * i + 2, 1))?;
-    }
-    let free = free_leaf(free.as_slice());
-    let mappings = rmap_leaf(mappings.as_slice());
-    let image = image_of(alloc, 2048, heads_of(2048, 11), free, mappings)?;
-    let words = ["check", "a.img"];
-    let (end, host) = run_words(alloc, &words, image, Vec::new(alloc))?;
-    // Without an owner are 0, 2 to 334 and all from 336 on. So (0, 1) and (336, 1712) are missing,
-    // and the 338 runs (336, 1) to (1010, 1) are extra.
-    let report = str::from_utf8(host.report.as_slice())?;
-    assert!(rt;
-        report.starts_with(
-            "0 bno missing 0 1\n0 bno missing 336 1712\n0 bno extra 336 1\n0 bno extra 338 1\n"
-        )
-    );
-    assert!(rt; report.ends_with("0 bno extra 1008 1\n0 bno extra 1010 1\n0 free faulty 340\n"));
-    assert_eq!(rt; end.status, 1);
-    assert_eq!(rt; end.starts, [0, 341, 341]);
-    Ok(())
-}
-
-#[test]
 fn each_read_of_the_device_may_fail(rt: HostRuntime) -> Result<(), Fail> {
-    for call in 0..3u64 {
+    // The superblock, the heads, the AGF again, and the trees in the order rmap, bno, cnt, refc.
+    for call in 0..7u64 {
         let mut image = small_image(rt.alloc())?;
         image.failing.push(call)?;
         let words = ["check", "a.img"];
@@ -136,10 +69,10 @@ fn each_read_of_the_device_may_fail(rt: HostRuntime) -> Result<(), Fail> {
         expect_end(&rt, &end, &host, 5, "device failed\n")?;
         assert_eq!(rt; [host.host_faults, host.dev_faults], [0, 1], "read {call}");
     }
-    // A check makes no fourth call.
+    // A check makes no eighth call.
     let mut image = small_image(rt.alloc())?;
-    image.failing.push(3)?;
-    expect_check(&rt, image, 0, "0 free good\n")
+    image.failing.push(7)?;
+    expect_check(&rt, image, 0, "0 free good\n0 refc good\n")
 }
 
 #[test]
@@ -154,20 +87,26 @@ fn an_image_that_is_not_there_is_a_fault_of_the_host(rt: HostRuntime) -> Result<
 
 #[test]
 fn a_report_ends_where_the_sink_fails(rt: HostRuntime) -> Result<(), Fail> {
-    let rows = [
-        (0, "host failed\n"),
-        (1, "0 bno missing 32 224\nhost failed\n"),
-        (2, "0 bno missing 32 224\n0 bno extra 32 223\nhost failed\n"),
+    let lines = [
+        "0 bno missing 32 224\n",
+        "0 bno extra 32 223\n",
+        "0 free faulty 2\n",
+        "0 refc good\n",
     ];
-    for (call, report) in &rows {
-        let short = free_leaf(&[run(19, 5), run(32, 223)]);
-        let image = with_free(rt.alloc(), short)?;
+    for call in 0..4usize {
+        let mut report = String::new(rt.alloc());
+        for line in &lines[..call] {
+            report.push_str(line)?;
+        }
+        report.push_str("host failed\n")?;
+        let short = bno_leaf(at(1), &[run(19, 5), run(32, 223)]);
+        let image = small_with(rt.alloc(), &[(1, short)])?;
         let mut failing = Vec::new(rt.alloc());
-        failing.push(*call)?;
+        failing.push(call as u64)?;
         let (end, host) = run_words(rt.alloc(), &["check", "a.img"], image, failing)?;
-        expect_end(&rt, &end, &host, 5, report)?;
+        expect_end(&rt, &end, &host, 5, report.as_str())?;
         assert_eq!(rt; host.sink_faults, 1);
-        assert_eq!(rt; end.journal.len(), 3);
+        assert_eq!(rt; end.journal.len(), 4);
     }
     let mut failing = Vec::new(rt.alloc());
     failing.push(0)?;

@@ -37,6 +37,7 @@ fn last_lines_name_the_cause(rt: HostRuntime) -> Result<(), Fail> {
         "image deviceshort\n"
     );
     assert_eq!(rt; fixed_line(&LastLine::Memory), Some("memory\n"));
+    assert_eq!(rt; fixed_line(&LastLine::JournalFull), Some("journal full\n"));
     Ok(())
 }
 

@@ -1,4 +1,8 @@
-use super::fresh::{altered, heads, mended_heads, small_image, with_heads};
+//! Images that are refused for their superblock or for a head of a group.
+use super::fresh::{
+    first_of_two, second_of_two, small_heads, small_image, small_with, two_groups_with,
+};
+use super::heads::{altered, heads_of, mended_heads};
 use super::runs::expect_check;
 use std::test::Fail;
 
@@ -14,59 +18,93 @@ fn each_fault_of_a_superblock_refuses_the_image(rt: HostRuntime) -> Result<(), F
         (88, 2, "image counts\n"),
     ];
     for (at, value, report) in &rows {
-        let heads = mended_heads(altered(heads(), *at, *value));
-        expect_check(&rt, with_heads(rt.alloc(), 256, heads)?, 4, report)?;
+        let heads = mended_heads(altered(small_heads(), *at, *value));
+        expect_check(&rt, small_with(rt.alloc(), &[(0, heads)])?, 4, report)?;
     }
-    let unsummed = altered(heads(), 508, 1);
-    expect_check(
-        &rt,
-        with_heads(rt.alloc(), 256, unsummed)?,
-        4,
-        "image checksum\n",
-    )?;
+    let unsummed = altered(small_heads(), 508, 1);
+    let image = small_with(rt.alloc(), &[(0, unsummed)])?;
+    expect_check(&rt, image, 4, "image checksum\n")?;
     for size in [0, 10, 255] {
-        let image = with_heads(rt.alloc(), size, heads())?;
+        let mut image = small_image(rt.alloc())?;
+        image.size = size;
         expect_check(&rt, image, 4, "image deviceshort\n")?;
     }
     Ok(())
 }
 
 #[test]
-fn each_fault_of_an_agf_refuses_the_image(rt: HostRuntime) -> Result<(), Fail> {
+fn each_fault_of_a_head_refuses_the_image(rt: HostRuntime) -> Result<(), Fail> {
     let rows = [
-        (512, 0x5841_4749, "group 0 agf magic\n"),
-        (516, 2, "group 0 agf version\n"),
-        (520, 1, "group 0 agf seqno\n"),
-        (524, 255, "group 0 agf length\n"),
-        (588, 0x0d0e_0f11, "group 0 agf uuid\n"),
+        (512, 0x5841_4749, "agf magic"),
+        (516, 2, "agf version"),
+        (520, 1, "agf seqno"),
+        (524, 255, "agf length"),
+        (588, 0x0d0e_0f11, "agf uuid"),
+        (1024, 0x5841_4746, "agi magic"),
+        (1028, 2, "agi version"),
+        (1032, 1, "agi seqno"),
+        (1036, 255, "agi length"),
+        (1332, 0x0d0e_0f11, "agi uuid"),
+        (1536, 0x5841_4749, "agfl magic"),
+        (1540, 1, "agfl seqno"),
+        (1556, 0x0d0e_0f11, "agfl uuid"),
     ];
-    for (at, value, report) in &rows {
-        let heads = mended_heads(altered(heads(), *at, *value));
-        expect_check(&rt, with_heads(rt.alloc(), 256, heads)?, 4, report)?;
+    for (at, value, shown) in &rows {
+        let heads = mended_heads(altered(small_heads(), *at, *value));
+        let report = format!(in rt.alloc(); "group 0 {shown}\n")?;
+        expect_check(
+            &rt,
+            small_with(rt.alloc(), &[(0, heads)])?,
+            4,
+            report.as_str(),
+        )?;
     }
-    let unsummed = altered(heads(), 1020, 1);
-    expect_check(
-        &rt,
-        with_heads(rt.alloc(), 256, unsummed)?,
-        4,
-        "group 0 agf checksum\n",
-    )
+    for (at, shown) in [
+        (1020, "group 0 agf checksum\n"),
+        (1532, "group 0 agi checksum\n"),
+        (2044, "group 0 agfl checksum\n"),
+    ] {
+        let unsummed = altered(small_heads(), at, 1);
+        expect_check(&rt, small_with(rt.alloc(), &[(0, unsummed)])?, 4, shown)?;
+    }
+    Ok(())
 }
 
 #[test]
-fn forms_that_are_not_built_are_refused(rt: HostRuntime) -> Result<(), Fail> {
-    // The levels of the index and of the reverse mappings.
-    for (at, value) in [(540, 2), (540, 0), (548, 2), (548, 0)] {
-        let heads = mended_heads(altered(heads(), at, value));
+fn a_wrong_free_list_is_told_by_its_place(rt: HostRuntime) -> Result<(), Fail> {
+    let rows = [
+        // Block 9 stands at place 2 too; a block 0, and one beyond the group.
+        (1584, 9, 3),
+        (1572, 0, 0),
+        (1616, 256, 11),
+        // A first place that isn't there, and a last one and a count that don't fit it.
+        (552, 119, 119),
+        (556, 12, 119),
+        (560, 13, 119),
+    ];
+    for (at, value, place) in &rows {
+        let heads = mended_heads(altered(small_heads(), *at, *value));
+        let report = format!(in rt.alloc(); "group 0 agfl freelist {place}\n")?;
         expect_check(
             &rt,
-            with_heads(rt.alloc(), 256, heads)?,
+            small_with(rt.alloc(), &[(0, heads)])?,
             4,
-            "unbuilt levels\n",
+            report.as_str(),
         )?;
     }
-    // Two groups: the blocks of the image, and then the groups.
-    let two = altered(altered(heads(), 12, 512), 88, 2);
-    let image = with_heads(rt.alloc(), 512, mended_heads(two))?;
-    expect_check(&rt, image, 4, "unbuilt groups\n")
+    Ok(())
+}
+
+#[test]
+fn the_first_wrong_head_is_told_before_any_unit(rt: HostRuntime) -> Result<(), Fail> {
+    let first = heads_of(&first_of_two());
+    let second = heads_of(&second_of_two());
+    // The AGI and the AGFL of the second group, and the AGFL of the first.
+    let both = mended_heads(altered(altered(second, 1028, 2), 1540, 0));
+    let spaces = altered(heads_of(&first_of_two()), 568, 5);
+    let image = two_groups_with(rt.alloc(), &[(0, mended_heads(spaces)), (64, both)])?;
+    expect_check(&rt, image, 4, "group 1 agi version\n")?;
+    let list = mended_heads(altered(first, 1584, 9));
+    let image = two_groups_with(rt.alloc(), &[(0, list), (64, both)])?;
+    expect_check(&rt, image, 4, "group 0 agfl freelist 3\n")
 }

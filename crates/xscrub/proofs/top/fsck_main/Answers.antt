@@ -1,7 +1,7 @@
 use Rattle.std.proofs.Common.{ℕ, List, ◌∷◌, [], ◌≡◌, length, refl, ap, arith}
 use Rattle.xscrub.specs.Ending.{told_outcome}
 use Rattle.fs_model.specs.declared.entry.Entry.{Entry}
-use Rattle.xscrub.proofs.EndingLemmas.{told_cause, told_decided, told_by_words, asked_so}
+use Rattle.xscrub.proofs.EndingLemmas.{told_cause, told_decided, told_by_words, told_units, asked_so}
 use Rattle.xscrub.proofs.top.fsck_main.Goals as goal
 
 pub returns-clause-run : goal.returns-clause-run
@@ -16,6 +16,7 @@ returns-clause-run g c =
         words = told_by_words _ c.find-finding.result _ _ _ c.find-finding.ensures.words ends;
         decided = told_decided _ c.find-finding.result _ _ _ c.find-finding.ensures.found.decides ends;
         cause = rw (kept.0, kept.1) (told_cause c.find-finding.result _ _ _ _ _ _ _ c.find-finding.ensures.found.cause ends);
+        units = told_units _ c.find-finding.result _ _ _ c.find-finding.ensures.words ends;
         shown = rw (c.find-finding.ensures.sink, c.find-finding.ensures.report) at c.tell-told.ensures.shown;
         asked_for = asked_so _ _ c.find-finding.result _ _ _ _ _ ends kept.2 c.find-finding.ensures.asked;
       },

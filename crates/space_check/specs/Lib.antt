@@ -1,0 +1,6 @@
+pub mod Checked
+pub mod Faults
+pub mod Groups
+pub mod Progress
+pub mod Reads
+pub mod Session

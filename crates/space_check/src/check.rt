@@ -1,0 +1,168 @@
+ghost use Rattle.std.specs.Prelude.{◌≡◌, ◌<◌, ◌≤◌, [], None, Some, IfSome};
+ghost use Rattle.ag_headers.specs.Agf.{agf_fault, agf_of};
+ghost use Rattle.blk_cache.specs.Cache.{AgreesTold};
+ghost use Rattle.blk_device.specs.Contents.{Contents};
+ghost use Rattle.blk_device.specs.declared.device.Region.TheVariants.{Image};
+ghost use Rattle.geom.specs.Places.{layout};
+ghost use Rattle.space_check.specs.Checked.{CheckCause, MeetsCheck, bad_head_from, checked, entries_from, heads_at};
+ghost use Rattle.space_check.specs.Groups.{group_entries};
+ghost use Rattle.space_check.specs.Progress.{Adds, Ends, HasCause, StopsWith};
+ghost use Rattle.space_check.specs.Session.{AddsGroup, AddsGroups, IsSession};
+ghost use Rattle.tree_blocks.specs.Reading.{OnlyRead};
+
+use crate::group::check_group;
+use crate::halt::Halt;
+use crate::heads::{load_heads, test_heads};
+use crate::journal::Journal;
+use crate::stop::Stop;
+use ag_headers::decode_agf;
+use blk_cache::BlkCache;
+use blk_device::Device;
+use byte_fields::Steps;
+use fs_model::{Entry, Head};
+use geom::Geometry;
+use std::alloc::Global;
+use std::sync::ledger::Ledger;
+
+// Why the check ended, with the journal so far where that was full.
+fn stop_of(halt: Halt, journal: Journal) -> Stop
+    ensures { StopsWith halt journal.entries.items result }
+{
+    match halt {
+        Halt::Head { group, head, fault } => Stop::Head { group, head, fault },
+        Halt::Full => Stop::Full(journal.entries),
+        Halt::Failed => Stop::Failed,
+        Halt::Memory => Stop::Memory,
+    }
+}
+
+// Judges one group, whose heads pass their tests.
+fn check_one<D: Device, L: Ledger>(
+    alloc: Global,
+    dev: &mut D,
+    cache: &mut BlkCache,
+    geo: &Geometry,
+    g: u32,
+    journal: &mut Journal,
+    steps: &mut Steps<L>,
+) -> Result<(), Halt>
+    requires group { g < geo.now.agcount }
+    requires room { geo.now.dblocks ≤ D.blocks dev.old Image }
+    requires agreed { AgreesTold cache.old (D.content dev.old) }
+    requires tested { (c : Contents) → D.content dev.old ≡ Some c → agf_fault (layout geo.now) g (heads_at (layout geo.now) (c Image) g) ≡ None }
+    ensures exact { (c : Contents) → D.content dev.old ≡ Some c → Adds journal.old.entries.items (group_entries (layout geo.now) (c Image) g (agf_of (heads_at (layout geo.now) (c Image) g))) journal.new.entries.items result }
+    ensures group { AddsGroup g journal.old.entries.items journal.new.entries.items result }
+    ensures reading { OnlyRead D.content D.blocks D.faults D.reads D.clock D.may_have_held_since D.may_hold_now dev.old dev.new steps.old steps.new }
+    ensures cause { HasCause (D.faults dev.old) (D.faults dev.new) result }
+    ensures agrees { AgreesTold cache.new (D.content dev.new) }
+{
+    let block = match load_heads(dev, cache, geo, g, steps) {
+        Ok(block) => block,
+        Err(halt) => return Err(halt),
+    };
+    match decode_agf(&block, geo, g) {
+        Ok(agf) => check_group(alloc, dev, cache, geo, g, &agf, journal, steps),
+        Err(fault) => Err(Halt::Head {
+            group: g,
+            head: Head::Agf,
+            fault,
+        }),
+    }
+}
+
+// Judges all groups, whose heads pass their tests.
+fn check_groups<D: Device, L: Ledger>(
+    alloc: Global,
+    dev: &mut D,
+    cache: &mut BlkCache,
+    geo: &Geometry,
+    journal: &mut Journal,
+    steps: &mut Steps<L>,
+) -> Result<(), Halt>
+    requires room { geo.now.dblocks ≤ D.blocks dev.old Image }
+    requires agreed { AgreesTold cache.old (D.content dev.old) }
+    requires tested { (c : Contents) → D.content dev.old ≡ Some c → bad_head_from (layout geo.now) (c Image) 0 geo.now.agcount ≡ None }
+    ensures exact { (c : Contents) → D.content dev.old ≡ Some c → Adds journal.old.entries.items (entries_from (layout geo.now) (c Image) 0 geo.now.agcount) journal.new.entries.items result }
+    ensures groups { AddsGroups geo.now.agcount journal.old.entries.items journal.new.entries.items result }
+    ensures reading { OnlyRead D.content D.blocks D.faults D.reads D.clock D.may_have_held_since D.may_hold_now dev.old dev.new steps.old steps.new }
+    ensures cause { HasCause (D.faults dev.old) (D.faults dev.new) result }
+    ensures agrees { AgreesTold cache.new (D.content dev.new) }
+{
+    for g in 0..geo.agcount {
+        match check_one(alloc, dev, cache, geo, g, journal, steps) {
+            Ok(()) => {}
+            Err(halt) => return Err(halt),
+        }
+    }
+    Ok(())
+}
+
+// Tests the heads of all groups, and then judges the groups.
+fn check_all<D: Device, L: Ledger>(
+    alloc: Global,
+    dev: &mut D,
+    cache: &mut BlkCache,
+    geo: &Geometry,
+    journal: &mut Journal,
+    steps: &mut Steps<L>,
+) -> Result<(), Halt>
+    requires room { geo.now.dblocks ≤ D.blocks dev.old Image }
+    requires agreed { AgreesTold cache.old (D.content dev.old) }
+    requires empty { journal.old.entries.items ≡ [] }
+    ensures exact { (c : Contents) → D.content dev.old ≡ Some c → Ends (checked (layout geo.now) (c Image)) journal.new.entries.items result }
+    ensures groups { AddsGroups geo.now.agcount journal.old.entries.items journal.new.entries.items result }
+    ensures reading { OnlyRead D.content D.blocks D.faults D.reads D.clock D.may_have_held_since D.may_hold_now dev.old dev.new steps.old steps.new }
+    ensures cause { HasCause (D.faults dev.old) (D.faults dev.new) result }
+{
+    match test_heads(dev, cache, geo, steps) {
+        Ok(()) => check_groups(alloc, dev, cache, geo, journal, steps),
+        Err(halt) => Err(halt),
+    }
+}
+
+// The check by a cache: its journal, or why it ended.
+fn check_by_cache<D: Device, L: Ledger>(
+    alloc: Global,
+    dev: &mut D,
+    cache: &mut BlkCache,
+    geo: &Geometry,
+    steps: &mut Steps<L>,
+) -> Result<Vec<Entry>, Stop>
+    requires room { geo.now.dblocks ≤ D.blocks dev.old Image }
+    requires agreed { AgreesTold cache.old (D.content dev.old) }
+    ensures exact { IfSome (D.content dev.old) (λ c. MeetsCheck (checked (layout geo.now) (c Image)) result) }
+    ensures session { IsSession geo.now.agcount result }
+    ensures reading { OnlyRead D.content D.blocks D.faults D.reads D.clock D.may_have_held_since D.may_hold_now dev.old dev.new steps.old steps.new }
+    ensures cause { CheckCause (D.faults dev.old) (D.faults dev.new) result }
+{
+    let mut journal = Journal::new(alloc);
+    match check_all(alloc, dev, cache, geo, &mut journal, steps) {
+        Ok(()) => Ok(journal.entries),
+        Err(halt) => Err(stop_of(halt, journal)),
+    }
+}
+
+/// Checks the space btrees of all groups. First the heads of all groups are tested, and the first
+/// that is refused ends the check. Then each group in order has the units of free space and of
+/// reference counts compared with what its reverse mapping btree gives, counters included; where that
+/// can't be read, both are skipped. A journal of 1,048,576 entries that would get another one ends
+/// the check too. Nothing is written
+/// (XFS Online Fsck Design, "Cross-Referencing Space Metadata").
+pub fn check_space<D: Device, L: Ledger>(
+    alloc: Global,
+    dev: &mut D,
+    geo: &Geometry,
+    steps: &mut Steps<L>,
+) -> Result<Vec<Entry>, Stop>
+    requires room { geo.now.dblocks ≤ D.blocks dev.old Image }
+    ensures exact { IfSome (D.content dev.old) (λ c. MeetsCheck (checked (layout geo.now) (c Image)) result) }
+    ensures session { IsSession geo.now.agcount result }
+    ensures reading { OnlyRead D.content D.blocks D.faults D.reads D.clock D.may_have_held_since D.may_hold_now dev.old dev.new steps.old steps.new }
+    ensures cause { CheckCause (D.faults dev.old) (D.faults dev.new) result }
+{
+    let mut cache = match BlkCache::new(alloc, 0) {
+        Ok(cache) => cache,
+        Err(_) => return Err(Stop::Memory),
+    };
+    check_by_cache(alloc, dev, &mut cache, geo, steps)
+}

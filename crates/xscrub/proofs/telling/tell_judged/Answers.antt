@@ -1,0 +1,16 @@
+use Rattle.std.proofs.Common.{refl}
+use Rattle.xscrub.specs.Outcome.{judged_outcome}
+use Rattle.xscrub.proofs.EndingLemmas.{judged_has_journal, shown_alone}
+use Rattle.xscrub.proofs.telling.tell_judged.Goals as goal
+
+pub returns-in-Ok-clause-shown : goal.returns-in-Ok-clause-shown
+returns-in-Ok-clause-shown g c =
+    shown_alone c.args.journal.items _ _ _ _ c.in-Ok.ensures.calm (rw c.as_slice.ensures.value at c.in-Ok.ensures.whole)
+
+pub returns-in-Err-clause-shown : goal.returns-in-Err-clause-shown
+returns-in-Err-clause-shown g c = c.end_early.ensures.shown _ _ c.put_journal.ensures.later (rw c.as_slice.ensures.value at c.in-Err.ensures.stop)
+
+pub returns-in-Err-clause-told : goal.returns-in-Err-clause-told
+returns-in-Err-clause-told g c =
+    c.end_early.ensures.told (judged_outcome c.args.journal.items) _ _ refl (judged_has_journal c.args.journal.items)
+    (rw c.as_slice.ensures.value at c.in-Err.ensures.stop)
