@@ -1,0 +1,139 @@
+# shellcheck shell=bash disable=SC2034,SC2154
+# Words, the superblock and the heads of the groups, on images of tests/make_image.py.
+
+usage='usage: xscrub JOB TARGET [--redo FILE] [--script FILE] [--rebuild] [--turns N]'
+
+words() {
+  local job
+  expect 'no words' 2 "$usage"
+  expect 'one word' 2 "$usage" check
+  expect 'three words' 2 "$usage" check a b
+  expect 'an option for a target' 2 "$usage" check --redo
+  expect 'another job' 2 "$usage" look a
+  for job in repair run drill make; do
+    expect "the job $job" 4 'unbuilt job' "$job" a
+  done
+  expect 'no such file' 5 'host failed' check nothing.img
+}
+
+# each_with_later PREFIX FAULTS EDITS CHECKSUM: each fault alone, and then together with all that
+# are tested after it. FAULTS and EDITS are names of arrays; CHECKSUM, which flips a byte, goes last.
+each_with_later() {
+  local prefix=$1 flip=$4 i j together last
+  local -n names=$2 changes=$3
+  for i in "${!names[@]}"; do
+    together='' last=''
+    for ((j = i; j < ${#names[@]}; j++)); do
+      if [ "${names[j]}" = checksum ]; then last=$flip; else together+=" ${changes[j]}"; fi
+    done
+    # shellcheck disable=SC2086
+    made "$prefix ${names[i]}" "$prefix ${names[i]}" ${changes[i]}
+    # shellcheck disable=SC2086
+    made "$prefix ${names[i]} and all later faults" "$prefix ${names[i]}" $together $last
+  done
+}
+
+superblock_faults() {
+  local field bits
+  build 'superblock'
+  local faults=(magic version sizes 'feature 40' realtime checksum counts deviceshort)
+  local edits=('--head 0:sb:magic:0' '--head 0:sb:versionnum:4' '--head 0:sb:sectsize:4096'
+    '--head 0:sb:features_incompat:0x103' '--head 0:sb:rblocks:1' '--xor 0:300:1'
+    '--head 0:sb:agcount:3' '--cut 255')
+  each_with_later image faults edits '--xor 0:300:1'
+
+  for field in blocksize:2048 sectsize:1024 inodesize:256 inopblock:16 blocklog:11 inopblog:4 inoalignmt:4; do
+    made "$field" 'image sizes' --head "0:sb:$field"
+  done
+  for bits in 0:0xe 1:0xd 2:0xb 4:0x1f 31:0x8000000f 2:0x80000003; do
+    made "read-only features ${bits#*:}" "image feature ${bits%:*}" \
+      --head "0:sb:features_ro_compat:${bits#*:}"
+  done
+  for bits in 33:1 34:0x7 36:0x13 40:0x103 63:0x80000003; do
+    made "features ${bits#*:}" "image feature ${bits%:*}" --head "0:sb:features_incompat:${bits#*:}"
+  done
+  made 'features of both fields' 'image feature 4' --head 0:sb:features_ro_compat:0x1f \
+    --head 0:sb:features_incompat:1
+  made 'features that may be on' "$(goods 1)" --head 0:sb:features_incompat:0xeb
+  made 'features that may be off' "$(goods 1)" --head 0:sb:features_ro_compat:7 \
+    --head 0:sb:features_incompat:2
+  for field in agcount:0 agcount:2 agcount:65537 agblocks:63 agblocks:268435457 agblklog:7 agblklog:9 \
+    dblocks:257 dblocks:63 dblocks:0; do
+    made "$field" 'image counts' --head "0:sb:$field"
+  done
+  made 'cut to nothing' 'image deviceshort' --cut 0
+  made 'cut to ten blocks' 'image deviceshort' --cut 10
+}
+
+# A log of its own has to lie in one group. Its owner is among the reverse mappings of an image
+# that is sound; here they have none, and free space is compared with what they say.
+logs() {
+  build 'log' --groups 2 --blocks 64
+  made 'a log in the last blocks' "$(goods 2)" --head 0:sb:logstart:60 --head 0:sb:logblocks:4
+  made 'a log past its group' 'image counts' --head 0:sb:logstart:60 --head 0:sb:logblocks:5
+  made 'a log of no blocks' 'image counts' --head 0:sb:logstart:60 --head 0:sb:logblocks:0
+  made 'a log in the second group' "$(goods 2)" --head 0:sb:logstart:65 --head 0:sb:logblocks:63
+  made 'a log at block 0 of a group' 'image counts' --head 0:sb:logstart:64 --head 0:sb:logblocks:4
+  made 'a log in a group that is not there' 'image counts' --head 0:sb:logstart:129 --head 0:sb:logblocks:4
+}
+
+# head_faults: each head of group 0.
+head_faults() {
+  build 'heads'
+  local faults=(magic version seqno length checksum uuid)
+  local head
+  for head in agf:1020 agi:1532; do
+    local edits=("--head 0:${head%:*}:magic:0" "--head 0:${head%:*}:versionnum:2" "--head 0:${head%:*}:seqno:1"
+      "--head 0:${head%:*}:length:255" "--xor 0:${head#*:}:1" "--head 0:${head%:*}:uuid:7")
+    each_with_later "group 0 ${head%:*}" faults edits "--xor 0:${head#*:}:1"
+  done
+  faults=(magic seqno checksum uuid 'freelist 2')
+  edits=('--head 0:agfl:magic:0' '--head 0:agfl:seqno:1' '--xor 0:2044:1' '--head 0:agfl:uuid:7'
+    '--head 0:agfl:bno2:7')
+  each_with_later 'group 0 agfl' faults edits '--xor 0:2044:1'
+}
+
+free_lists() {
+  local i ring=(--head 0:agf:flfirst:116 --head 0:agf:fllast:2 --head 0:agf:flcount:6)
+  local full=(--head 0:agf:fllast:118 --head 0:agf:flcount:119)
+  build 'free list'
+  made 'block 9 twice' 'group 0 agfl freelist 3' --head 0:agfl:bno2:9 --head 0:agfl:bno3:9
+  made 'block 0' 'group 0 agfl freelist 0' --head 0:agfl:bno0:0
+  made 'a block outside' 'group 0 agfl freelist 11' --head 0:agfl:bno11:256
+  made 'the last block of the group' "$(goods 1)" --head 0:agfl:bno11:255
+  made 'the first of two' 'group 0 agfl freelist 4' --head 0:agfl:bno4:256 --head 0:agfl:bno9:0
+  made 'an entry that is not active' "$(goods 1)" --head 0:agfl:bno12:7 --head 0:agfl:bno118:256
+  made 'a first place outside' 'group 0 agfl freelist 119' --head 0:agf:flfirst:119
+  made 'a last place outside' 'group 0 agfl freelist 119' --head 0:agf:fllast:119
+  made 'too many' 'group 0 agfl freelist 119' --head 0:agf:flcount:120
+  made 'a count that does not fit' 'group 0 agfl freelist 119' --head 0:agf:flcount:11
+  made 'places before blocks' 'group 0 agfl freelist 119' --head 0:agf:flcount:13 --head 0:agfl:bno0:0
+  made 'empty' "$(goods 1)" --head 0:agf:flfirst:1 --head 0:agf:fllast:0 --head 0:agf:flcount:0
+  made 'empty, at other places' "$(goods 1)" --head 0:agf:flfirst:7 --head 0:agf:fllast:30 \
+    --head 0:agf:flcount:0
+  for i in 116 117 118; do
+    ring+=(--head "0:agfl:bno$i:$((i + 100))")
+  done
+  made 'around the end' "$(goods 1)" "${ring[@]}"
+  made 'around the end, a block twice' 'group 0 agfl freelist 1' "${ring[@]}" --head 0:agfl:bno117:8
+  made 'around the end, a block outside' 'group 0 agfl freelist 118' "${ring[@]}" --head 0:agfl:bno118:0 \
+    --head 0:agfl:bno1:0
+  for i in {12..118}; do
+    full+=(--head "0:agfl:bno$i:$((i + 100))")
+  done
+  made 'full' "$(goods 1)" "${full[@]}"
+  made 'full, the last block twice' 'group 0 agfl freelist 118' "${full[@]}" --head 0:agfl:bno118:217
+}
+
+# All heads of all groups come before the first unit, in the order AGF, AGI, AGFL.
+order_of_causes() {
+  build 'order' --groups 3 --blocks 64
+  made 'the AGF before the AGI' 'group 0 agf uuid' --head 0:agf:uuid:1 --head 0:agi:magic:0
+  made 'the AGI before the AGFL' 'group 0 agi uuid' --head 0:agi:uuid:1 --head 0:agfl:magic:0
+  made 'group 0 before group 1' 'group 0 agfl freelist 4' --head 0:agfl:bno4:0 --head 1:agf:magic:0
+  made 'group 1 before group 2' 'group 1 agi length' --head 1:agi:length:63 --head 2:agf:magic:0
+  made 'the last group before the units' 'group 2 agfl seqno' --head 2:agfl:seqno:1 --spoil 0:bno:0:0:70
+  made 'the superblock before the heads' 'image counts' --head 0:sb:agcount:4 --head 0:agf:magic:0
+  made 'the copies of the superblock are not read' "$(goods 3)" --head 1:sb:magic:0 --xor 128:300:1
+  made 'the inode trees are not read' "$(goods 3)" --spoil 0:ino:0:0:70 --head 1:agi:level:7
+}
