@@ -22,22 +22,8 @@ shift
 room=$(mktemp -d) || exit 1
 trap 'rm -rf -- "$room"' EXIT
 cd -- "$room" || exit 1
-passed=0 failed=0
+. "$top/tests/verdict.sh"
 wanted=20
-
-# verdict NAME STATUS WHY..: counts a case that passed where the status is 0, else shows why.
-verdict() {
-  local name=$1 status=$2
-  shift 2
-  if [ "$status" = 0 ]; then
-    passed=$((passed + 1))
-    echo "ok $name"
-  else
-    failed=$((failed + 1))
-    echo "FAILED $name"
-    printf '%s\n' "$@"
-  fi
-}
 
 # shown IMAGE SECTOR: what the program says of the inode there.
 shown() {

@@ -1,21 +1,7 @@
 # shellcheck shell=bash disable=SC2034,SC2154
 # What all cases have in common: how one is run and compared, and the lines that a check prints.
 # Sourced by real_images.sh, which sets $top, $program and works in a folder of its own.
-passed=0 failed=0
-
-# verdict NAME STATUS LINE..: counts a case, which passed where the status is 0, and else says why.
-verdict() {
-  local name=$1 status=$2
-  shift 2
-  if [ "$status" = 0 ]; then
-    passed=$((passed + 1))
-    echo "ok $name"
-  else
-    failed=$((failed + 1))
-    echo "FAILED $name"
-    printf '%s\n' "$@"
-  fi
-}
+. "$top/tests/verdict.sh"
 
 lines() { printf '%s\n' "$@"; }
 
