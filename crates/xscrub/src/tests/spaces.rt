@@ -1,12 +1,14 @@
 //! Records and counters that differ from what the reverse mappings give.
 use super::fresh::{
-    file_free, file_shared, file_with, small_group, small_heads, small_owned, small_with,
+    file_free, file_shared, file_with, image_of, small_group, small_heads, small_owned, small_with,
     two_groups_with,
 };
 use super::heads::{Group, altered, heads_of, mended_heads};
-use super::runs::expect_check;
+use super::runs::{expect_check, run_words};
 use super::trees::{at, bno_leaf, cnt_leaf, owned, refc_leaf, rmap_leaf, run, shared};
+use crate::mem_host::MemImage;
 use span_recs::{RefcRec, SpanRec};
+use std::alloc::{AllocError, Global};
 use std::test::Fail;
 
 const ALL_GOOD: &str = "0 free good\n0 refc good\n";
@@ -221,4 +223,51 @@ fn a_group_without_free_blocks_is_good(rt: HostRuntime) -> Result<(), Fail> {
         0 free faulty 8\n0 refc good\n";
     let image = small_with(rt.alloc(), &[(5, rmap_leaf(at(5), &[]))])?;
     expect_check(&rt, image, 1, report)
+}
+
+// An image of full leaves: 168 mappings, of block 1 and each second one after it up to 335; and by
+// both trees 505 free runs, of block 2 and each second one after it up to 1010.
+fn full_leaves(alloc: Global) -> Result<MemImage, AllocError> {
+    let mut mappings = Vec::new(alloc);
+    for i in 0..168u32 {
+        mappings.push(owned(2 * i + 1, 1, 5))?;
+    }
+    let mut free = Vec::new(alloc);
+    for i in 0..505u32 {
+        free.push(run(2 * i + 2, 1))?;
+    }
+    let group = Group {
+        len: 2048,
+        agblklog: 11,
+        freeblks: 1880,
+        longest: 1712,
+        ..small_group()
+    };
+    let blocks = [
+        (0, heads_of(&group)),
+        (1, bno_leaf(at(1), free.as_slice())),
+        (2, cnt_leaf(at(2), free.as_slice())),
+        (5, rmap_leaf(at(5), mappings.as_slice())),
+        (6, refc_leaf(at(6), &[])),
+    ];
+    image_of(alloc, 2048, &blocks)
+}
+
+#[test]
+fn leaves_may_be_full(rt: HostRuntime) -> Result<(), Fail> {
+    let alloc = rt.alloc();
+    let words = ["check", "a.img"];
+    let (end, host) = run_words(alloc, &words, full_leaves(alloc)?, Vec::new(alloc))?;
+    // Without an owner are 0, 2 to 334 and all from 336 on. So each tree lacks (0, 1) and
+    // (336, 1712), and has the 338 runs (336, 1) to (1010, 1) that aren't derived.
+    let report = str::from_utf8(host.report.as_slice())?;
+    let first = "0 bno missing 0 1\n0 bno missing 336 1712\n0 bno extra 336 1\n0 bno extra 338 1\n";
+    let middle = "0 bno extra 1010 1\n0 cnt missing 0 1\n0 cnt extra 336 1\n0 cnt extra 338 1\n";
+    let last = "0 cnt extra 1010 1\n0 cnt missing 336 1712\n0 free faulty 680\n0 refc good\n";
+    assert!(rt; report.starts_with(first));
+    assert!(rt; report.contains(middle));
+    assert!(rt; report.ends_with(last));
+    assert_eq!(rt; end.status, 1);
+    assert_eq!(rt; end.starts, [0, 682, 682]);
+    Ok(())
 }
