@@ -1,5 +1,5 @@
 -- Why a step was ended.
-use Rattle.std.proofs.Common.{◌≡◌, ℕ, Option, Some, None, Result, Ok, Err, IfSome, refl, subst}
+use Rattle.std.proofs.Common.{◌≡◌, ℕ, Result, Ok, Err, subst}
 use Rattle.space_check.specs.Progress.{IsOwn, HasCause}
 use Rattle.space_check.specs.declared.halt.Halt.{Halt}
 use Rattle.space_check.specs.declared.halt.Halt.TheVariants as halts

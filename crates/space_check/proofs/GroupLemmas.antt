@@ -1,9 +1,8 @@
 -- What the judgement of a group adds, part by part.
-use Rattle.std.proofs.Common.{◌≡◌, ℕ, suc, ◌+◌, ◌-◌, ◌<◌, ◌≤◌, List, [], ◌++◌, length, None, Some, Result, Ok, Err, refl, sym, ◌∙◌, ap, subst, arith}
+use Rattle.std.proofs.Common.{◌≡◌, ℕ, suc, ◌+◌, ◌-◌, ◌<◌, ◌≤◌, List, [], ◌++◌, length, Result, Ok, Err, refl, sym, ◌∙◌, ap, subst, arith}
 use Rattle.std.specs.Global.{Vec}
-use Rattle.ag_headers.specs.Agf.{agf_fault, agf_of}
+use Rattle.ag_headers.specs.Agf.{agf_of}
 use Rattle.ag_headers.specs.declared.agf.Agf.{Agf}
-use Rattle.ag_headers.specs.declared.fault.HeadFault.{HeadFault}
 use Rattle.fs_model.specs.declared.entry.Entry.{Entry}
 use Rattle.fs_model.specs.declared.fault.Fault.{Fault}
 use Rattle.fs_model.specs.declared.unit.Unit.TheVariants as units
@@ -50,12 +49,8 @@ module _ {T : Type 0} (at : Layout) (image : ℕ → List ℕ) (g : ℕ) (agf : 
   unfolding group_entries
   group_judged read e h = rw e h
 
-  pub of_head : (bytes : List ℕ) → bytes ≡ heads_at at image g → agf ≡ agf_of bytes → Adds before (group_entries at image g agf) after result → Adds before (group_entries at image g (agf_of (heads_at at image g))) after result
-  of_head bytes e is h = subst (λ (a : Agf). Adds before (group_entries at image g a) after result) (is ∙ ap agf_of e) h
-
--- a head that passed doesn't fail when it is read again
-pub not_refused : (at : Layout) (g : ℕ) (bytes again : List ℕ) (fault : HeadFault) → bytes ≡ again → agf_fault at g bytes ≡ Some fault → agf_fault at g again ≡ None → ⊥
-not_refused at g bytes again fault e bad good = let p : agf_fault at g again ≡ Some fault = rw e at bad in cc
+  pub of_its_head : (head : Agf) → agf ≡ head → Adds before (group_entries at image g agf) after result → Adds before (group_entries at image g head) after result
+  of_its_head head e h = subst (λ (a : Agf). Adds before (group_entries at image g a) after result) e h
 
 module _ (at : Layout) (image : ℕ → List ℕ) where
   pub none_left : (g n : ℕ) → n ≤ g → entries_from at image g (n - g) ≡ []

@@ -1,10 +1,12 @@
--- The first head that is refused, group by group.
-use Rattle.std.proofs.Common.{◌≡◌, ℕ, zero, suc, ◌+◌, ◌-◌, ◌<◌, ◌≤◌, List, Option, Some, None, Err, refl, sym, ◌∙◌, ap, subst, arith}
-use Rattle.ag_headers.specs.Agf.{agf_fault}
+-- The first head that is refused, group by group, and the AGFs where none is.
+use Rattle.std.proofs.Common.{◌≡◌, ℕ, zero, suc, ◌+◌, ◌-◌, ◌<◌, ◌≤◌, List, [], ◌∷◌, ◌++◌, get_or, Option, Some, None, Err, refl, sym, ◌∙◌, ap, subst, append_assoc, arith}
+use Rattle.std.proofs.lemmas.List.{append-nil}
+use Rattle.ag_headers.specs.Agf.{agf_of}
+use Rattle.ag_headers.specs.declared.agf.Agf.{Agf as SpaceHead}
 use Rattle.ag_headers.specs.declared.fault.HeadFault.{HeadFault}
 use Rattle.fs_model.specs.declared.unit.Head.{Head}
 use Rattle.geom.specs.Layout.{Layout, group_len_of, device_block_of}
-use Rattle.space_check.specs.Checked.{or_else, of_head, bad_head, bad_head_from, heads_at}
+use Rattle.space_check.specs.Checked.{agfs_from, bad_head, bad_head_from, heads_at}
 use Rattle.space_check.specs.Progress.{IsOutside, MeetsHead, MeetsHeads}
 use Rattle.tree_defs.specs.Sites.{site_of, group_blocks}
 use Rattle.tree_defs.specs.declared.site.Site.{Site}
@@ -43,30 +45,39 @@ module _ (at : Layout) (image : ℕ → List ℕ) where
     refused_here S T halts.Failed m = tt
     refused_here S T halts.Memory m = tt
 
-  -- where no head is refused, the AGF of each group passes
-  agf_first : (a b : Option (Head × HeadFault)) (head : Head) (fault : Option HeadFault) → a ≡ of_head head fault → or_else a b ≡ None → fault ≡ None
-  agf_first a b head None e h = refl
-  agf_first a b head (Some fault) e h = let s : or_else (Some (head, fault)) b ≡ None = subst (λ (x : Option (Head × HeadFault)). or_else x b ≡ None) e h in cc
+  -- ---- the AGFs of all groups
 
-  agf_passes : (g : ℕ) (block : List ℕ) → bad_head at g block ≡ None → agf_fault at g block ≡ None
-  unfolding bad_head
-  agf_passes g block h = agf_first _ _ _ (agf_fault at g block) refl h
+  no_agf_left : (g n : ℕ) → n ≤ g → agfs_from at image g (n - g) ≡ []
+  unfolding agfs_from
+  no_agf_left g n le = let e : n - g ≡ 0 = omega arith in rw e refl
 
-  head_passes : (g n : ℕ) (first : Option (Head × HeadFault)) → first ≡ bad_head at g (heads_at at image g) → bad_head_from at image g (suc n) ≡ None → first ≡ None
-  head_passes g n None e h = refl
-  head_passes g n (Some bad) e h = let s = refuses g n bad (sym e) in cc
+  next_agfs : (g n : ℕ) → agfs_from at image g (suc n) ≡ agf_of (heads_at at image g) ∷ agfs_from at image (g + 1) n
+  unfolding agfs_from
+  next_agfs g n = refl
 
-  each_passes : (g n k : ℕ) → bad_head_from at image g n ≡ None → k < n → agf_fault at (g + k) (heads_at at image (g + k)) ≡ None
-  each_passes g zero k h lt = absurd (omega arith)
-  each_passes g (suc n) zero h lt =
-      let e : g + 0 ≡ g = omega arith in
-      rw e (agf_passes g (heads_at at image g) (head_passes g n (bad_head at g (heads_at at image g)) refl h))
-  each_passes g (suc n) (suc k) h lt =
-      let e : g + suc k ≡ (g + 1) + k = omega arith in
-      rw e (each_passes (g + 1) n k (sym (passes_on g n (head_passes g n (bad_head at g (heads_at at image g)) refl h)) ∙ h) (omega (arith, lt)))
+  -- the AGFs so far, the one that is put behind them, and those that are left, are all
+  pub one_more_agf : (g n : ℕ) (before after : List SpaceHead) (all : List SpaceHead) → g < n → before ++ agfs_from at image g (n - g) ≡ all → after ≡ before ++ agf_of (heads_at at image g) ∷ [] → after ++ agfs_from at image (g + 1) (n - (g + 1)) ≡ all
+  one_more_agf g n before after all lt h e =
+      let s : n - g ≡ suc (n - (g + 1)) = omega (arith, lt) in
+      ap (λ (x : List SpaceHead). x ++ agfs_from at image (g + 1) (n - (g + 1))) e
+      ∙ append_assoc before (agf_of (heads_at at image g) ∷ []) (agfs_from at image (g + 1) (n - (g + 1)))
+      ∙ ap (λ (x : List SpaceHead). before ++ x) (sym (ap (agfs_from at image g) s ∙ next_agfs g (n - (g + 1))))
+      ∙ h
 
-  pub agf_of_each : (n k : ℕ) → bad_head_from at image 0 n ≡ None → k < n → agf_fault at k (heads_at at image k) ≡ None
-  agf_of_each n k h lt = let e : 0 + k ≡ k = omega arith in rw e at (each_passes 0 n k h lt)
+  pub all_agfs : (g n : ℕ) (agfs all : List SpaceHead) → n ≤ g → agfs ++ agfs_from at image g (n - g) ≡ all → agfs ≡ all
+  all_agfs g n agfs all le h = sym (append-nil agfs) ∙ ap (λ (x : List SpaceHead). agfs ++ x) (sym (no_agf_left g n le)) ∙ h
+
+  agf_behind : (g n k : ℕ) (none : SpaceHead) → k < n → get_or (agfs_from at image g n) k none ≡ agf_of (heads_at at image (g + k))
+  unfolding agfs_from
+  agf_behind g zero k none lt = absurd (omega arith)
+  agf_behind g (suc n) zero none lt = let e : g + 0 ≡ g = omega arith in rw e refl
+  agf_behind g (suc n) (suc k) none lt = let e : g + suc k ≡ (g + 1) + k = omega arith in rw e (agf_behind (g + 1) n k none (omega (arith, lt)))
+
+  -- that of group g among them
+  pub agf_among : (n g : ℕ) (agfs : List SpaceHead) (none : SpaceHead) → agfs ≡ agfs_from at image 0 n → g < n → get_or agfs g none ≡ agf_of (heads_at at image g)
+  agf_among n g agfs none e lt =
+      let z : 0 + g ≡ g = omega arith in
+      ap (λ (x : List SpaceHead). get_or x g none) e ∙ (agf_behind 0 n g none lt ∙ ap (λ (k : ℕ). agf_of (heads_at at image k)) z)
 
 -- block 0 of a group, as it was loaded
 pub heads_read : (at : Layout) (image : ℕ → List ℕ) (g : ℕ) (site : Site) (bytes : List ℕ) → site ≡ site_of at g → bytes ≡ group_blocks site image 0 → bytes ≡ heads_at at image g

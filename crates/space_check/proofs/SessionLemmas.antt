@@ -1,14 +1,12 @@
 -- The units that a journal gets, step by step, whatever the device tells.
-use Rattle.std.proofs.Common.{◌≡◌, ℕ, zero, suc, ◌+◌, ◌<◌, ◌≤◌, List, [], ◌∷◌, ◌++◌, Result, Ok, Err, inl, inr, refl, sym, ◌∙◌, ap, subst, append_assoc, arith}
-use Rattle.std.specs.Prelude.{⊤, IfErr}
-use Rattle.std.specs.Global.{Vec}
+use Rattle.std.proofs.Common.{◌≡◌, ℕ, suc, ◌+◌, ◌<◌, List, [], ◌++◌, Result, Ok, Err, inl, inr, refl, sym, ◌∙◌, ap, subst, append_assoc, arith}
 use Rattle.fs_model.specs.declared.entry.Entry.{Entry}
 use Rattle.fs_model.specs.declared.fault.Fault.{Fault}
 use Rattle.fs_model.specs.declared.unit.Unit.{Unit}
 use Rattle.fs_model.specs.declared.unit.Unit.TheVariants as units
 use Rattle.space_check.specs.Groups.{unit_entries, skipped_entries}
 use Rattle.space_check.specs.Progress.{Adds, IsFront, IsOutside, StopsWith}
-use Rattle.space_check.specs.Session.{AreJudged, AreOfGroup, AreOfGroups, HasGroups, WasFull, MayAdd, AddsUnit, AddsGroup, AddsGroups, IsNotFull, StopsInSession, IsSession}
+use Rattle.space_check.specs.Session.{AreOfGroup, AreOfGroups, HasGroups, WasFull, MayAdd, AddsUnit, AddsGroup, AddsGroups, IsNotFull, StopsInSession}
 use Rattle.space_check.specs.declared.halt.Halt.{Halt}
 use Rattle.space_check.specs.declared.halt.Halt.TheVariants as halts
 use Rattle.space_check.specs.declared.stop.Stop.{Stop}

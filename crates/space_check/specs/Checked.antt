@@ -1,9 +1,10 @@
 -- How the check of all groups ends, as the image decides it: its heads, then its units.
-use Rattle.std.specs.Prelude.{◌≡◌, ⊤, ℕ, zero, suc, ◌+◌, nat_le, if◌then◌else◌, List, [], ◌++◌, length, take, Option, Some, None, Result, Ok, Err}
+use Rattle.std.specs.Prelude.{◌≡◌, ⊤, ℕ, zero, suc, ◌+◌, nat_le, if◌then◌else◌, List, [], ◌∷◌, ◌++◌, length, take, Option, Some, None, Result, Ok, Err}
 use Rattle.std.specs.Global.{Vec}
 use Rattle.ag_headers.specs.Agf.{agf_fault, agf_of}
 use Rattle.ag_headers.specs.Agfl.{agfl_fault}
 use Rattle.ag_headers.specs.Agi.{agi_fault}
+use Rattle.ag_headers.specs.declared.agf.Agf.{Agf as SpaceHead}
 use Rattle.ag_headers.specs.declared.fault.HeadFault.{HeadFault}
 use Rattle.blk_device.specs.Causes.{Rose}
 use Rattle.fs_model.specs.declared.entry.Entry.{Entry}
@@ -51,6 +52,11 @@ module _ (at : Layout) (image : ℕ → List ℕ) where
         | Some bad ↦ Some (g, bad)
         | None ↦ bad_head_from (g + 1) n
       ]
+
+  -- the AGFs of n groups from g on
+  unfoldable pub agfs_from : ℕ → ℕ → List SpaceHead
+  agfs_from g zero = []
+  agfs_from g (suc n) = agf_of (heads_at g) ∷ agfs_from (g + 1) n
 
   -- the entries of n groups from g on
   unfoldable pub entries_from : ℕ → ℕ → List Entry

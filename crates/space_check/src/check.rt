@@ -1,10 +1,10 @@
-ghost use Rattle.std.specs.Prelude.{◌≡◌, ◌<◌, ◌≤◌, [], None, Some, IfSome};
-ghost use Rattle.ag_headers.specs.Agf.{agf_fault, agf_of};
+ghost use Rattle.std.specs.Prelude.{◌≡◌, ◌<◌, ◌≤◌, [], length, Some, IfSome};
+ghost use Rattle.ag_headers.specs.Agf.{agf_of};
 ghost use Rattle.blk_cache.specs.Cache.{AgreesTold};
 ghost use Rattle.blk_device.specs.Contents.{Contents};
 ghost use Rattle.blk_device.specs.declared.device.Region.TheVariants.{Image};
 ghost use Rattle.geom.specs.Places.{layout};
-ghost use Rattle.space_check.specs.Checked.{CheckCause, MeetsCheck, bad_head_from, checked, entries_from, heads_at};
+ghost use Rattle.space_check.specs.Checked.{CheckCause, MeetsCheck, agfs_from, checked, entries_from, heads_at};
 ghost use Rattle.space_check.specs.Groups.{group_entries};
 ghost use Rattle.space_check.specs.Progress.{Adds, Ends, HasCause, StopsWith};
 ghost use Rattle.space_check.specs.Session.{AddsGroup, AddsGroups, IsSession};
@@ -12,14 +12,14 @@ ghost use Rattle.tree_blocks.specs.Reading.{OnlyRead};
 
 use crate::group::check_group;
 use crate::halt::Halt;
-use crate::heads::{load_heads, test_heads};
+use crate::heads::test_heads;
 use crate::journal::Journal;
 use crate::stop::Stop;
-use ag_headers::decode_agf;
+use ag_headers::Agf;
 use blk_cache::BlkCache;
 use blk_device::Device;
 use byte_fields::Steps;
-use fs_model::{Entry, Head};
+use fs_model::Entry;
 use geom::Geometry;
 use std::alloc::Global;
 use std::sync::ledger::Ledger;
@@ -36,52 +36,45 @@ fn stop_of(halt: Halt, journal: Journal) -> Stop
     }
 }
 
-// Judges one group, whose heads pass their tests.
+// Judges one group, by its AGF among those of all groups.
 fn check_one<D: Device, L: Ledger>(
     alloc: Global,
     dev: &mut D,
     cache: &mut BlkCache,
     geo: &Geometry,
     g: u32,
+    agfs: &[Agf],
     journal: &mut Journal,
     steps: &mut Steps<L>,
 ) -> Result<(), Halt>
     requires group { g < geo.now.agcount }
     requires room { geo.now.dblocks ≤ D.blocks dev.old Image }
     requires agreed { AgreesTold cache.old (D.content dev.old) }
-    requires tested { (c : Contents) → D.content dev.old ≡ Some c → agf_fault (layout geo.now) g (heads_at (layout geo.now) (c Image) g) ≡ None }
+    requires all { length agfs.now ≡ geo.now.agcount }
+    requires kept { (c : Contents) → D.content dev.old ≡ Some c → agfs.now ≡ agfs_from (layout geo.now) (c Image) 0 geo.now.agcount }
     ensures exact { (c : Contents) → D.content dev.old ≡ Some c → Adds journal.old.entries.items (group_entries (layout geo.now) (c Image) g (agf_of (heads_at (layout geo.now) (c Image) g))) journal.new.entries.items result }
     ensures group { AddsGroup g journal.old.entries.items journal.new.entries.items result }
     ensures reading { OnlyRead D.content D.blocks D.faults D.reads D.clock D.may_have_held_since D.may_hold_now dev.old dev.new steps.old steps.new }
     ensures cause { HasCause (D.faults dev.old) (D.faults dev.new) result }
     ensures agrees { AgreesTold cache.new (D.content dev.new) }
 {
-    let block = match load_heads(dev, cache, geo, g, steps) {
-        Ok(block) => block,
-        Err(halt) => return Err(halt),
-    };
-    match decode_agf(&block, geo, g) {
-        Ok(agf) => check_group(alloc, dev, cache, geo, g, &agf, journal, steps),
-        Err(fault) => Err(Halt::Head {
-            group: g,
-            head: Head::Agf,
-            fault,
-        }),
-    }
+    check_group(alloc, dev, cache, geo, g, &agfs[g as usize], journal, steps)
 }
 
-// Judges all groups, whose heads pass their tests.
+// Judges all groups, by their AGFs.
 fn check_groups<D: Device, L: Ledger>(
     alloc: Global,
     dev: &mut D,
     cache: &mut BlkCache,
     geo: &Geometry,
+    agfs: &[Agf],
     journal: &mut Journal,
     steps: &mut Steps<L>,
 ) -> Result<(), Halt>
     requires room { geo.now.dblocks ≤ D.blocks dev.old Image }
     requires agreed { AgreesTold cache.old (D.content dev.old) }
-    requires tested { (c : Contents) → D.content dev.old ≡ Some c → bad_head_from (layout geo.now) (c Image) 0 geo.now.agcount ≡ None }
+    requires all { length agfs.now ≡ geo.now.agcount }
+    requires kept { (c : Contents) → D.content dev.old ≡ Some c → agfs.now ≡ agfs_from (layout geo.now) (c Image) 0 geo.now.agcount }
     ensures exact { (c : Contents) → D.content dev.old ≡ Some c → Adds journal.old.entries.items (entries_from (layout geo.now) (c Image) 0 geo.now.agcount) journal.new.entries.items result }
     ensures groups { AddsGroups geo.now.agcount journal.old.entries.items journal.new.entries.items result }
     ensures reading { OnlyRead D.content D.blocks D.faults D.reads D.clock D.may_have_held_since D.may_hold_now dev.old dev.new steps.old steps.new }
@@ -89,7 +82,7 @@ fn check_groups<D: Device, L: Ledger>(
     ensures agrees { AgreesTold cache.new (D.content dev.new) }
 {
     for g in 0..geo.agcount {
-        match check_one(alloc, dev, cache, geo, g, journal, steps) {
+        match check_one(alloc, dev, cache, geo, g, agfs, journal, steps) {
             Ok(()) => {}
             Err(halt) => return Err(halt),
         }
@@ -114,8 +107,8 @@ fn check_all<D: Device, L: Ledger>(
     ensures reading { OnlyRead D.content D.blocks D.faults D.reads D.clock D.may_have_held_since D.may_hold_now dev.old dev.new steps.old steps.new }
     ensures cause { HasCause (D.faults dev.old) (D.faults dev.new) result }
 {
-    match test_heads(dev, cache, geo, steps) {
-        Ok(()) => check_groups(alloc, dev, cache, geo, journal, steps),
+    match test_heads(alloc, dev, cache, geo, steps) {
+        Ok(agfs) => check_groups(alloc, dev, cache, geo, agfs.as_slice(), journal, steps),
         Err(halt) => Err(halt),
     }
 }

@@ -1,7 +1,9 @@
-use super::fresh::{small_image, small_with};
+use super::fresh::{small_image, small_with, two_groups_with};
 use super::runs::{expect_check, expect_end, run_words};
 use super::trees::{at, bno_leaf, run};
 use crate::host::Purpose;
+use crate::judging::judge;
+use blk_device::MemDevice;
 use fs_model::{Entry, Unit, Verdict};
 use std::test::Fail;
 
@@ -60,8 +62,8 @@ fn a_sound_image_is_good(rt: HostRuntime) -> Result<(), Fail> {
 
 #[test]
 fn each_read_of_the_device_may_fail(rt: HostRuntime) -> Result<(), Fail> {
-    // The superblock, the heads, the AGF again, and the trees in the order rmap, bno, cnt, refc.
-    for call in 0..7u64 {
+    // The superblock, the heads, and the trees in the order rmap, bno, cnt, refc.
+    for call in 0..6u64 {
         let mut image = small_image(rt.alloc())?;
         image.failing.push(call)?;
         let words = ["check", "a.img"];
@@ -69,10 +71,24 @@ fn each_read_of_the_device_may_fail(rt: HostRuntime) -> Result<(), Fail> {
         expect_end(&rt, &end, &host, 5, "device failed\n")?;
         assert_eq!(rt; [host.host_faults, host.dev_faults], [0, 1], "read {call}");
     }
-    // A check makes no eighth call.
+    // A check makes no seventh call.
     let mut image = small_image(rt.alloc())?;
-    image.failing.push(7)?;
+    image.failing.push(6)?;
     expect_check(&rt, image, 0, "0 free good\n0 refc good\n")
+}
+
+#[test]
+fn each_block_is_read_once_and_the_superblock_s_twice(rt: HostRuntime) -> Result<(), Fail> {
+    let alloc = rt.alloc();
+    let image = two_groups_with(alloc, &[])?;
+    let mut dev = MemDevice::with_image(alloc, image.size, 1, image.blocks, Vec::new(alloc))?;
+    assert!(rt; judge(alloc, &mut dev).is_ok());
+    // The superblock is in block 0, beside the heads of group 0.
+    assert_eq!(rt; dev.reads_at(0), 2);
+    for block in [64, 1, 2, 5, 6, 65, 66, 69, 70] {
+        assert_eq!(rt; dev.reads_at(block), 1, "block {block}");
+    }
+    Ok(())
 }
 
 #[test]

@@ -7,8 +7,8 @@ use Rattle.space_check.proofs.EndLemmas.{ends_refused, ends_judged}
 use Rattle.space_check.proofs.SessionLemmas.{not_full}
 use Rattle.space_check.proofs.check.check_all.Goals as goal
 
-pub check_groups-requires-clause-tested : goal.check_groups-requires-clause-tested
-check_groups-requires-clause-tested g c = λ m e. c.in-Ok.ensures.exact m (sym c.in-Ok.ensures.reading.same ∙ e)
+pub check_groups-requires-clause-kept : goal.check_groups-requires-clause-kept
+check_groups-requires-clause-kept g c = λ m e. c.as_slice.ensures.value ∙ c.in-Ok.ensures.kept m (sym c.in-Ok.ensures.reading.same ∙ e)
 
 pub returns-in-Ok-clause-exact : goal.returns-in-Ok-clause-exact
 returns-in-Ok-clause-exact g c = λ m e.

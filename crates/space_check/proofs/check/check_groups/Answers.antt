@@ -9,7 +9,6 @@ use Rattle.space_check.specs.Groups.{group_entries}
 use Rattle.space_check.proofs.AddsLemmas.{all_in, stopped, went_on}
 use Rattle.space_check.proofs.CauseLemmas.{later_cause}
 use Rattle.space_check.proofs.GroupLemmas.{next_group, none_left}
-use Rattle.space_check.proofs.HeadLemmas.{agf_of_each}
 use Rattle.std.proofs.lemmas.List.{append-nil}
 use Rattle.space_check.proofs.SessionLemmas.{no_group, one_more_group, group_ends}
 use Rattle.space_check.proofs.check.check_groups.Goals as goal
@@ -23,8 +22,8 @@ loop-g-init g c = record {
   groups = no_group c.args.journal.now.entries.items (sym (append-nil c.args.journal.now.entries.items));
 }
 
-pub check_one-requires-clause-tested : goal.check_one-requires-clause-tested
-check_one-requires-clause-tested g c = λ m e. agf_of_each (layout c.args.geo.now) (m Image) c.args.geo.now.agcount c.loop-g.g (c.requires.tested m (sym c.loop-g.invariant.reading.same ∙ e)) (omega (arith, c.loop-g-test.true))
+pub check_one-requires-clause-kept : goal.check_one-requires-clause-kept
+check_one-requires-clause-kept g c = λ m e. c.requires.kept m (sym c.loop-g.invariant.reading.same ∙ e)
 
 pub loop-g-preserved : goal.loop-g-preserved
 loop-g-preserved g c =
