@@ -1,13 +1,14 @@
 -- The order of inode chunks is one, and a pointer leaves the keys of a node.
-use Rattle.std.proofs.Common.{◌≡◌, ℕ, ◌<◌, ◌≤◌, ◌*◌, ◌/◌, List, length, true, false, arith, refl}
-use Rattle.std.specs.Prelude.{nat_lt, ◌⊎◌}
-use Rattle.std.proofs.lemmas.Bool.{false≢true}
+use Rattle.std.proofs.Common.{◌≡◌, ℕ, ◌<◌, ◌≤◌, ◌*◌, ◌/◌, List, length, true, false, arith, refl, subst}
+use Rattle.std.specs.Prelude.{nat_lt, ◌⊎◌, ◌↔◌}
+use Rattle.std.proofs.lemmas.Bool.{false≢true, and_parts, eqb-true, eq-eqb}
 use Rattle.std.proofs.lemmas.Bool.Decides.{nat_tests}
 use Rattle.sblock.specs.Area.{with_child}
 use Rattle.sblock.specs.Form.{IsLawful}
 use Rattle.sblock.specs.declared.kind.Kind.TheVariants.{Ino, Fino}
 use Rattle.sblock.specs.AreaLaws.{field_stays}
-use Rattle.ino_recs.specs.Chunks.{ino_form, fino_form, ino_key_at, key_startino_at}
+use Rattle.ino_recs.specs.Chunks.{ino_form, fino_form, ino_key_at, key_startino_at, is_same_chunk}
+use Rattle.ino_recs.specs.declared.chunk.InoRec.{InoRec}
 
 pub strict_nat : (a : ℕ) → nat_lt a a ≡ false
 strict_nat a = grind (arith, nat_tests)
@@ -33,6 +34,12 @@ fino_keys_stay : (area : List ℕ) (i j child : ℕ) → length area ≡ 4040 �
 unfolding key_startino_at
 fino_keys_stay area i j child whole room here = rw (field_stays Fino area i child 4 (4 * j) whole room (omega (arith, here))) refl
 
+same_chunk : (r s : InoRec) → (is_same_chunk r s ≡ true) ↔ (r ≡ s)
+same_chunk r s = (
+  λ h. (let all = and_parts _ _ h in let four = and_parts _ _ all.0 in let three = and_parts _ _ four.0 in let two = and_parts _ _ three.0 in λ i. record { startino = eqb-true r.startino s.startino two.0 i; holemask = eqb-true r.holemask s.holemask two.1 i; count = eqb-true r.count s.count three.1 i; freecount = eqb-true r.freecount s.freecount four.1 i; free = eqb-true r.free s.free all.1 i }),
+  λ e. subst (λ (x : InoRec). is_same_chunk r x ≡ true) e (rw (eq-eqb r.startino r.startino refl, eq-eqb r.holemask r.holemask refl, eq-eqb r.count r.count refl, eq-eqb r.freecount r.freecount refl, eq-eqb r.free r.free refl) refl),
+)
+
 pub lawful_ino : IsLawful ino_form
 lawful_ino = record {
   strict = λ a. strict_nat a.startino;
@@ -40,6 +47,7 @@ lawful_ino = record {
   total = λ a b c h. total_nat a.startino b.startino c.startino h;
   reaches = λ bounds r small h. refl;
   above = λ r h. strict_nat r.startino;
+  same = same_chunk;
   starts = λ other a b h. later_block a.startino b.startino h;
   ends = λ high r h. absurd (false≢true high);
   keys_stay = ino_keys_stay;
@@ -53,6 +61,7 @@ lawful_fino = record {
   total = λ a b c h. total_nat a.startino b.startino c.startino h;
   reaches = λ bounds r small h. refl;
   above = λ r h. strict_nat r.startino;
+  same = same_chunk;
   starts = λ other a b h. later_block a.startino b.startino h;
   ends = λ high r h. absurd (false≢true high);
   keys_stay = fino_keys_stay;

@@ -58,6 +58,10 @@ is_ino_in_range bounds r =
 unfoldable pub is_fino_in_range : Bounds → InoRec → Bool
 is_fino_in_range bounds r = is_ino_in_range bounds r && not (r.freecount == 0)
 
+-- the same chunk with the same holes, counts and mask
+abbrev pub is_same_chunk : InoRec → InoRec → Bool
+is_same_chunk a b = (a.startino == b.startino) && (a.holemask == b.holemask) && (a.count == b.count) && (a.freecount == b.freecount) && (a.free == b.free)
+
 abbrev pub chunk_form : Kind → (Bounds → InoRec → Bool) → Form InoRec InoKey
 chunk_form kind is_in_range = record {
   kind = kind;
@@ -71,7 +75,9 @@ chunk_form kind is_in_range = record {
   high_key_of = λ r. record { startino = r.startino };
   is_before = λ a b. nat_lt a.startino b.startino;
   is_in_range = is_in_range;
-  is_built = is_whole;
+  is_supported = is_whole;
+  is_written = λ r. true;
+  is_same = is_same_chunk;
   block_of = λ k. k.startino / 8;
   length_of = λ r. if is_whole r then 8 else 0;
 }

@@ -66,8 +66,16 @@ impl RecKind for FinoKind {
         is_chunk(rec, bounds) && rec.freecount != 0
     }
 
-    fn is_built(rec: &InoRec) -> bool {
+    fn is_supported(rec: &InoRec) -> bool {
         is_whole(rec)
+    }
+
+    fn is_written(_rec: &InoRec) -> bool {
+        true
+    }
+
+    fn is_same(a: &InoRec, b: &InoRec) -> bool {
+        a == b
     }
 
     fn block_of(key: &InoKey) -> u32 {

@@ -5,7 +5,7 @@ use crate::chunk::{
 use sblock::{Bounds, Kind, RecKind};
 
 /// The btree of a group's inode chunks, ordered by their first inode. A chunk with holes is of a form
-/// that isn't built, and covers no block
+/// that isn't supported yet, and covers no block
 /// (XFS Algorithms and Data Structures, "Inode B+trees").
 pub struct InoKind {}
 
@@ -66,8 +66,16 @@ impl RecKind for InoKind {
         is_chunk(rec, bounds)
     }
 
-    fn is_built(rec: &InoRec) -> bool {
+    fn is_supported(rec: &InoRec) -> bool {
         is_whole(rec)
+    }
+
+    fn is_written(_rec: &InoRec) -> bool {
+        true
+    }
+
+    fn is_same(a: &InoRec, b: &InoRec) -> bool {
+        a == b
     }
 
     fn block_of(key: &InoKey) -> u32 {

@@ -69,13 +69,13 @@ fn counts_are_those_of_the_mask(rt: HostRuntime) {
 }
 
 #[test]
-fn chunks_with_holes_are_not_built(rt: HostRuntime) {
+fn chunks_with_holes_are_not_supported(rt: HostRuntime) {
     let holed = InoRec {
         holemask: 0xff00,
         ..FIRST
     };
-    assert!(rt; InoKind::is_built(&FIRST));
-    assert!(rt; !InoKind::is_built(&holed));
+    assert!(rt; InoKind::is_supported(&FIRST));
+    assert!(rt; !InoKind::is_supported(&holed));
     assert_eq!(rt; InoKind::block_of(&InoKind::key_of(&FIRST)), 24);
     assert_eq!(rt; FinoKind::length_of(&FIRST), 8);
     assert_eq!(rt; FinoKind::length_of(&holed), 0);

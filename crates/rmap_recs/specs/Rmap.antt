@@ -99,6 +99,10 @@ is_owner_right bounds r =
 abbrev pub is_rec_in_range : Bounds → RmapRec → Bool
 is_rec_in_range bounds r = is_in_group bounds r.start r.count && is_owner_right bounds r
 
+-- the same blocks with the same owner, flags and offset
+abbrev pub is_same_rec : RmapRec → RmapRec → Bool
+is_same_rec a b = (a.start == b.start) && (a.count == b.count) && (a.owner == b.owner) && (a.word == b.word)
+
 -- ---- the kind
 
 abbrev pub rmap_form : Form RmapRec Key
@@ -114,7 +118,9 @@ rmap_form = record {
   high_key_of = high_key_of;
   is_before = is_key_before;
   is_in_range = is_rec_in_range;
-  is_built = λ r. true;
+  is_supported = λ r. true;
+  is_written = λ r. true;
+  is_same = is_same_rec;
   block_of = λ k. k.start;
   length_of = λ r. r.count;
 }

@@ -1,8 +1,8 @@
 -- The laws of the reverse mapping btree: its order is one, a high key is the greatest of a record,
 -- and pointers leave keys alone.
-use Rattle.std.proofs.Common.{◌≡◌, ◌<◌, ◌≤◌, ℕ, ◌+◌, ◌-◌, ◌*◌, ◌^◌, List, length, Bool, true, false, not, arith, refl, inl, inr, add-zero, true≢false}
-use Rattle.std.specs.Prelude.{nat_lt, nat_le, ◌⊎◌, ◌&&◌, ◌||◌, if◌then◌else◌}
-use Rattle.std.proofs.lemmas.Bool.{false≢true, cases_eq}
+use Rattle.std.proofs.Common.{◌≡◌, ◌<◌, ◌≤◌, ℕ, ◌+◌, ◌-◌, ◌*◌, ◌^◌, List, length, Bool, true, false, not, arith, refl, subst, inl, inr, add-zero, true≢false}
+use Rattle.std.specs.Prelude.{nat_lt, nat_le, ◌⊎◌, ◌&&◌, ◌||◌, ◌↔◌, if◌then◌else◌}
+use Rattle.std.proofs.lemmas.Bool.{false≢true, cases_eq, and_parts, eqb-true, eq-eqb}
 use Rattle.std.proofs.lemmas.Bool.Decides.{nat_tests}
 use Rattle.sblock.specs.Area.{with_child}
 use Rattle.sblock.specs.Form.{IsLawful}
@@ -11,7 +11,7 @@ use Rattle.sblock.specs.declared.kind.Kind.TheVariants.{Rmap}
 use Rattle.sblock.specs.AreaLaws.{field_stays}
 use Rattle.rmap_recs.specs.Owners.{is_inode}
 use Rattle.rmap_recs.specs.Words.{key_word, is_word_right, is_fork_data, is_fork_tree, offset_of}
-use Rattle.rmap_recs.specs.Rmap.{rmap_form, is_first, is_key_before, key_in, high_key_of, key_of, offset_growth, has_end, is_owner_right, is_rec_in_range}
+use Rattle.rmap_recs.specs.Rmap.{rmap_form, is_first, is_key_before, key_in, high_key_of, key_of, offset_growth, has_end, is_owner_right, is_rec_in_range, is_same_rec}
 use Rattle.rmap_recs.specs.declared.records.RmapRec.{RmapRec}
 use Rattle.rmap_recs.specs.declared.records.Key.{Key}
 
@@ -123,6 +123,12 @@ key_stays area i child place whole room here = λ n. record {
   word = key_word (field_stays Rmap area i child 8 (place + 12) whole room (omega (arith, here)) n);
 }
 
+same_rec : (r s : RmapRec) → (is_same_rec r s ≡ true) ↔ (r ≡ s)
+same_rec r s = (
+  λ h. (let all = and_parts _ _ h in let three = and_parts _ _ all.0 in let two = and_parts _ _ three.0 in λ i. record { start = eqb-true r.start s.start two.0 i; count = eqb-true r.count s.count two.1 i; owner = eqb-true r.owner s.owner three.1 i; word = eqb-true r.word s.word all.1 i }),
+  λ e. subst (λ (x : RmapRec). is_same_rec r x ≡ true) e (rw (eq-eqb r.start r.start refl, eq-eqb r.count r.count refl, eq-eqb r.owner r.owner refl, eq-eqb r.word r.word refl) refl),
+)
+
 pub lawful_rmap : IsLawful rmap_form
 lawful_rmap = record {
   strict = strict_key;
@@ -130,6 +136,7 @@ lawful_rmap = record {
   total = total_key;
   reaches = reaches_key;
   above = above_key;
+  same = same_rec;
   starts = λ other a b h. starts_key a b h;
   ends = λ high r h. ends_key r h;
   keys_stay = λ area i j child whole room here. key_stays area i child (40 * j) whole room (omega (arith, here));

@@ -188,8 +188,16 @@ impl RecKind for RmapKind {
         is_in_group(rec.start, rec.count, bounds) && is_owner_right(bounds, rec)
     }
 
-    fn is_built(_rec: &RmapRec) -> bool {
+    fn is_supported(_rec: &RmapRec) -> bool {
         true
+    }
+
+    fn is_written(_rec: &RmapRec) -> bool {
+        true
+    }
+
+    fn is_same(a: &RmapRec, b: &RmapRec) -> bool {
+        a == b
     }
 
     fn block_of(key: &Key) -> u32 {

@@ -1,16 +1,14 @@
 -- What the tests of a block say of its records, or of its keys and pointers.
-use Rattle.std.proofs.Common.{◌≡◌, ℕ, zero, suc, ◌+◌, ◌<◌, ◌≤◌, Bool, true, false, List, [], ◌∷◌, Option, Some, None, refl, arith, inl, inr}
-use Rattle.std.proofs.lemmas.Bool.{cases_lt, and_parts, eqb-true, leb-true}
+use Rattle.std.proofs.Common.{◌≡◌, ℕ, ◌+◌, ◌<◌, ◌≤◌, Bool, true, false, List, None, arith}
+use Rattle.std.proofs.lemmas.Bool.{and_parts, eqb-true, leb-true}
 use Rattle.std.proofs.lemmas.Bool.Decides.{nat_tests}
-use Rattle.std.specs.Prelude.{⊤, ◌==◌, not, ◌||◌, if◌then◌else◌}
-use Rattle.byte_fields.specs.Below.{all_below}
+use Rattle.std.specs.Prelude.{◌==◌, not, ◌||◌}
 use Rattle.byte_fields.specs.Fields.{field}
-use Rattle.byte_fields.specs.FirstFailing.{first_failing}
 use Rattle.byte_fields.proofs.BelowLemmas.{each_below}
 use Rattle.byte_fields.proofs.TestLemmas.{all_pass}
 use Rattle.sblock.specs.Area.{area_of, child_of}
 use Rattle.sblock.specs.Form.{Form}
-use Rattle.sblock.specs.Blocks.{numrecs, level_fits, most_of, count_fits, key_in, rises_at, is_rising, is_child_inside, is_record_inside, is_inside, are_inside, is_built_at, are_built, block_tests, block_fault, records_of, keys_of, children_of, AreKeysRising, IsRising, AllInside, AllBuilt, AreBlocks}
+use Rattle.sblock.specs.Blocks.{numrecs, level_fits, most_of, count_fits, key_in, rises_at, is_rising, is_child_inside, is_record_inside, is_inside, are_inside, is_supported_at, are_supported, block_tests, block_fault, records_of, keys_of, children_of, AreKeysRising, IsRising, AllInside, AllSupported, AreBlocks}
 use Rattle.sblock.specs.declared.block.Want.{Want}
 use Rattle.sblock.proofs.ListLemmas.{items_rise, items_each}
 
@@ -20,7 +18,7 @@ pub record Passed {R K : Type 0} (form : Form R K) (bytes : List ℕ) (want : Wa
   pub fits : count_fits want.kind (want.level == 0) want.root (numrecs bytes) ≡ true
   pub rising : is_rising form (want.level == 0) (area_of bytes) (numrecs bytes) ≡ true
   pub inside : are_inside form (want.level == 0) want.bounds (area_of bytes) (numrecs bytes) ≡ true
-  pub built : are_built form (want.level == 0) (area_of bytes) (numrecs bytes) ≡ true
+  pub supported : are_supported form (want.level == 0) (area_of bytes) (numrecs bytes) ≡ true
 
 pub passed : {R K : Type 0} (form : Form R K) (bytes : List ℕ) (want : Want) → block_fault form bytes want ≡ None → Passed form bytes want
 unfolding block_fault
@@ -29,7 +27,7 @@ passed form bytes want h =
     let from_level = all.1 in
     let from_count = from_level.1 in
     let from_order = from_count.1.1.1.1.1.1 in
-    record { level = from_level.0; fits = from_count.0; rising = from_order.0; inside = from_order.1.0; built = from_order.1.1.0 }
+    record { level = from_level.0; fits = from_count.0; rising = from_order.0; inside = from_order.1.0; supported = from_order.1.1.0 }
 
 pub has_level : {R K : Type 0} (form : Form R K) (bytes : List ℕ) (want : Want) → block_fault form bytes want ≡ None → (field 2 bytes 4 ≡ want.level) × (want.level ≤ 8)
 unfolding level_fits
@@ -47,8 +45,8 @@ is_zero n h = grind (arith, nat_tests)
 not_zero : (n : ℕ) → 0 < n → (n == 0) ≡ false
 not_zero n h = grind (arith, nat_tests)
 
--- a record that is built and inside is in range
-in_range : (built inside : Bool) → (not built || inside) ≡ true → built ≡ true → inside ≡ true
+-- a record that is supported and inside is in range
+in_range : (supported inside : Bool) → (not supported || inside) ≡ true → supported ≡ true → inside ≡ true
 in_range true inside h b = h
 in_range false inside h b = cc
 
@@ -60,17 +58,17 @@ module _ {R K : Type 0} (form : Form R K) (bytes : List ℕ) (want : Want) (pass
       let all = rw (is_zero want.level leaf) at ((passed form bytes want pass).rising) in
       each_below _ _ k all (omega arith)
 
-  is_built : (k : ℕ) → k < numrecs bytes → form.is_built (form.record_at (area_of bytes) k) ≡ true
-  unfolding are_built is_built_at
-  is_built k lt =
-      let all = rw (is_zero want.level leaf) at ((passed form bytes want pass).built) in
+  is_supported : (k : ℕ) → k < numrecs bytes → form.is_supported (form.record_at (area_of bytes) k) ≡ true
+  unfolding are_supported is_supported_at
+  is_supported k lt =
+      let all = rw (is_zero want.level leaf) at ((passed form bytes want pass).supported) in
       each_below _ _ k all lt
 
   lies_inside : (k : ℕ) → k < numrecs bytes → form.is_in_range want.bounds (form.record_at (area_of bytes) k) ≡ true
   unfolding are_inside is_inside is_record_inside
   lies_inside k lt =
       let all = rw (is_zero want.level leaf) at ((passed form bytes want pass).inside) in
-      in_range _ _ (each_below _ _ k all lt) (is_built k lt)
+      in_range _ _ (each_below _ _ k all lt) (is_supported k lt)
 
   pub records_rise : IsRising form (records_of form bytes)
   unfolding records_of
@@ -80,9 +78,9 @@ module _ {R K : Type 0} (form : Form R K) (bytes : List ℕ) (want : Want) (pass
   unfolding records_of
   records_lie_inside = items_each _ (form.record_at (area_of bytes)) (numrecs bytes) 0 (λ k low high. lies_inside k (omega arith))
 
-  pub records_are_built : AllBuilt form (records_of form bytes)
+  pub records_are_supported : AllSupported form (records_of form bytes)
   unfolding records_of
-  records_are_built = items_each _ (form.record_at (area_of bytes)) (numrecs bytes) 0 (λ k low high. is_built k (omega arith))
+  records_are_supported = items_each _ (form.record_at (area_of bytes)) (numrecs bytes) 0 (λ k low high. is_supported k (omega arith))
 
 -- for a node
 module _ {R K : Type 0} (form : Form R K) (bytes : List ℕ) (want : Want) (pass : block_fault form bytes want ≡ None) (node : 0 < want.level) where

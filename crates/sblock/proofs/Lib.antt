@@ -3,4 +3,6 @@ pub mod BlockLemmas
 pub mod CountedLemmas
 pub mod FieldLemmas
 pub mod ListLemmas
+pub mod MeetLemmas
+pub mod SpanLemmas
 pub mod WrittenLemmas

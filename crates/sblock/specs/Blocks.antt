@@ -52,10 +52,10 @@ module _ {R K : Type 0} (form : Form R K) where
   unfoldable pub is_rising : Bool → List ℕ → ℕ → Bool
   is_rising leaf area n = all_below (n - 1) (rises_at leaf area)
 
-  -- a record's range is known only where its form is built
+  -- a record's range is known only where its form is supported
   unfoldable pub is_record_inside : Bounds → List ℕ → ℕ → Bool
   is_record_inside bounds area i =
-      not (form.is_built (form.record_at area i)) || form.is_in_range bounds (form.record_at area i)
+      not (form.is_supported (form.record_at area i)) || form.is_in_range bounds (form.record_at area i)
 
   unfoldable pub is_inside : Bool → Bounds → List ℕ → ℕ → Bool
   is_inside leaf bounds area i =
@@ -64,11 +64,11 @@ module _ {R K : Type 0} (form : Form R K) where
   unfoldable pub are_inside : Bool → Bounds → List ℕ → ℕ → Bool
   are_inside leaf bounds area n = all_below n (is_inside leaf bounds area)
 
-  unfoldable pub is_built_at : List ℕ → ℕ → Bool
-  is_built_at area i = form.is_built (form.record_at area i)
+  unfoldable pub is_supported_at : List ℕ → ℕ → Bool
+  is_supported_at area i = form.is_supported (form.record_at area i)
 
-  unfoldable pub are_built : Bool → List ℕ → ℕ → Bool
-  are_built leaf area n = not leaf || all_below n (is_built_at area)
+  unfoldable pub are_supported : Bool → List ℕ → ℕ → Bool
+  are_supported leaf area n = not leaf || all_below n (is_supported_at area)
 
   -- the tests of a block by itself, in their order
   abbrev pub block_tests : List ℕ → Want → List (Bool × BlockFault)
@@ -83,7 +83,7 @@ module _ {R K : Type 0} (form : Form R K) where
       ∷ (has_sum bytes 52, faults.Checksum)
       ∷ (is_rising (want.level == 0) (area_of bytes) (numrecs bytes), faults.Order)
       ∷ (are_inside (want.level == 0) want.bounds (area_of bytes) (numrecs bytes), faults.Range)
-      ∷ (are_built (want.level == 0) (area_of bytes) (numrecs bytes), faults.Later)
+      ∷ (are_supported (want.level == 0) (area_of bytes) (numrecs bytes), faults.Later)
       ∷ []
 
   unfoldable pub block_fault : List ℕ → Want → Option BlockFault
@@ -112,8 +112,8 @@ module _ {R K : Type 0} (form : Form R K) where
   abbrev pub AllInside : Bounds → List R → Type 0
   AllInside bounds recs = Each (form.is_in_range bounds) recs
 
-  abbrev pub AllBuilt : List R → Type 0
-  AllBuilt recs = Each form.is_built recs
+  abbrev pub AllSupported : List R → Type 0
+  AllSupported recs = Each form.is_supported recs
 
 -- each lies in a group of this length, behind its block 0
 abbrev pub AreBlocks : ℕ → List ℕ → Type 0

@@ -1,5 +1,5 @@
 -- The kind of tree that this crate's tests read: each record is one number, its own key.
-use Rattle.std.specs.Prelude.{ℕ, ◌*◌, ◌^◌, nat_lt, true, List}
+use Rattle.std.specs.Prelude.{ℕ, ◌*◌, ◌^◌, ◌==◌, nat_lt, true, List}
 use Rattle.byte_fields.specs.Fields.{field, with_field}
 use Rattle.sblock.specs.Form.{Form}
 use Rattle.sblock.specs.declared.kind.Kind.TheVariants.{Ino}
@@ -23,7 +23,9 @@ counted = record {
   high_key_of = λ n. n;
   is_before = nat_lt;
   is_in_range = λ bounds n. nat_lt n bounds.length;
-  is_built = λ n. nat_lt n (2 ^ 31);
+  is_supported = λ n. nat_lt n (2 ^ 31);
+  is_written = λ n. true;
+  is_same = λ a b. a == b;
   block_of = λ n. n;
   length_of = λ n. 1;
 }

@@ -1,5 +1,5 @@
 -- What a kind of tree means: how its records and keys are read and written, their order and range.
-use Rattle.std.specs.Prelude.{◌≡◌, ◌≢◌, ◌⊎◌, ℕ, ◌+◌, ◌^◌, ◌<◌, ◌≤◌, Bool, true, false, not, ◌&&◌, List, length}
+use Rattle.std.specs.Prelude.{◌≡◌, ◌≢◌, ◌⊎◌, ◌↔◌, ℕ, ◌+◌, ◌^◌, ◌<◌, ◌≤◌, Bool, true, false, not, ◌&&◌, List, length}
 use Rattle.sblock.specs.Area.{with_child}
 use Rattle.sblock.specs.Kinds.{node_most_of, has_high_keys_of}
 use Rattle.sblock.specs.declared.block.Bounds.{Bounds}
@@ -23,8 +23,12 @@ pub record Form (R K : Type 0) : Type 0 where
   -- the first key comes before the second
   pub is_before : K → K → Bool
   pub is_in_range : Bounds → R → Bool
-  -- the record is of a form that is built
-  pub is_built : R → Bool
+  -- the record is of a form that is supported
+  pub is_supported : R → Bool
+  -- the record is written as it stands, so that it is read again
+  pub is_written : R → Bool
+  -- the two records are one, in all their numbers
+  pub is_same : R → R → Bool
   -- the group-relative block at which a key begins, and the number of blocks of a record
   pub block_of : K → ℕ
   pub length_of : R → ℕ
@@ -41,6 +45,8 @@ pub record IsLawful {R K : Type 0} (form : Form R K) : Type 0 where
   -- a record in range has a high key, which isn't before its key
   pub reaches : (bounds : Bounds) (r : R) → bounds.length < 2 ^ 32 → form.is_in_range bounds r ≡ true → form.has_end r ≡ true
   pub above : (r : R) → form.has_end r ≡ true → form.is_before (form.high_key_of r) (form.key_of r) ≡ false
+  -- equality of records is decided
+  pub same : (r s : R) → (form.is_same r s ≡ true) ↔ (r ≡ s)
   -- a later key begins at a later block or the same, but for the order by count
   pub starts : form.kind ≢ Cnt → (a b : K) → form.is_before a b ≡ false → form.block_of b ≤ form.block_of a
   -- a high key is at the record's last block

@@ -5,5 +5,8 @@ pub mod Counted
 pub mod CountedLaws
 pub mod FieldLaws
 pub mod Form
+pub mod Headers
 pub mod Kinds
 pub mod Lists
+pub mod Meets
+pub mod Spans

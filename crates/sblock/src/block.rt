@@ -4,7 +4,7 @@ use thiserror::Error;
 /// Why a block of a short-form btree is refused: the first of its ordered tests that fails
 /// (XFS Algorithms and Data Structures, "Short Format B+trees"). No test of one block answers
 /// Key, which compares a node's key with the subtree below it; Later is of records in a form that
-/// isn't built.
+/// isn't supported yet.
 #[derive(Clone, Copy, Debug, PartialEq, Eq, Error)]
 pub enum BlockFault {
     #[error("magic")]

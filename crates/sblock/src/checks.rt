@@ -1,14 +1,15 @@
 ghost use Rattle.std.specs.Prelude.{◌≡◌, ◌+◌, ◌^◌, ◌<◌, ◌≤◌, ◌==◌, length, Some, None, IfOk, MatchResult};
 ghost use Rattle.sblock.specs.Area.{area_of};
-ghost use Rattle.sblock.specs.Blocks.{most_of, least_of, level_fits, count_fits, header_of, key_in, rises_at, is_rising, is_child_inside, is_record_inside, is_inside, are_inside, is_built_at, are_built, block_fault, records_of, keys_of, children_of, AreKeysRising, IsRising, AllInside, AllBuilt, AreBlocks};
+ghost use Rattle.sblock.specs.Blocks.{most_of, least_of, level_fits, count_fits, header_of, key_in, rises_at, is_rising, is_child_inside, is_record_inside, is_inside, are_inside, is_supported_at, are_supported, block_fault, records_of, keys_of, children_of, AreKeysRising, IsRising, AllInside, AllSupported, AreBlocks};
 ghost use Rattle.sblock.specs.Kinds.{leaf_most_of, node_most_of};
 
 use crate::area::data_area;
 use crate::block::{BlockFault, Bounds, Header, Want};
+use crate::header::{count_of, left_of, level_of, owner_of, place_of, right_of};
 use crate::kind::Kind;
 use crate::pointers::child_at;
 use crate::rec_kind::RecKind;
-use byte_fields::{Block, get_u16, get_u32, get_u64, is_summed, is_uuid_at};
+use byte_fields::{Block, get_u32, get_u64, is_summed, is_uuid_at};
 
 // Whether a block of this level is wanted, and is there.
 #[tactic(auto, unfolding(crate::specs::Blocks::level_fits))]
@@ -101,7 +102,7 @@ fn does_child_lie_inside(kind: Kind, area: &[u8], bounds: &Bounds, i: u16) -> bo
     child >= 1 && child < bounds.length
 }
 
-// Whether record `i` is in range, as far as its form is built.
+// Whether record `i` is in range, where its form is supported.
 #[tactic(auto, unfolding(crate::specs::Blocks::is_record_inside))]
 fn does_record_lie_inside<K: RecKind>(area: &[u8], bounds: &Bounds, i: u16) -> bool
     requires whole { length area.now ≡ 4040 }
@@ -109,7 +110,7 @@ fn does_record_lie_inside<K: RecKind>(area: &[u8], bounds: &Bounds, i: u16) -> b
     ensures { result ≡ is_record_inside K.form bounds.now area.now i }
 {
     let rec = K::record_at(area, i as usize);
-    !K::is_built(&rec) || K::is_in_range(&rec, bounds)
+    !K::is_supported(&rec) || K::is_in_range(&rec, bounds)
 }
 
 #[tactic(auto, unfolding(crate::specs::Blocks::is_inside))]
@@ -139,26 +140,26 @@ fn do_entries_lie_inside<K: RecKind>(area: &[u8], leaf: bool, bounds: &Bounds, c
     true
 }
 
-#[tactic(auto, unfolding(crate::specs::Blocks::is_built_at))]
-fn is_record_built<K: RecKind>(area: &[u8], i: u16) -> bool
+#[tactic(auto, unfolding(crate::specs::Blocks::is_supported_at))]
+fn is_record_supported<K: RecKind>(area: &[u8], i: u16) -> bool
     requires whole { length area.now ≡ 4040 }
     requires room { i < leaf_most_of K.form.kind }
-    ensures { result ≡ is_built_at K.form area.now i }
+    ensures { result ≡ is_supported_at K.form area.now i }
 {
-    K::is_built(&K::record_at(area, i as usize))
+    K::is_supported(&K::record_at(area, i as usize))
 }
 
-#[tactic(auto, using(byte_fields::proofs::BelowLemmas::one_more_passes, byte_fields::proofs::BelowLemmas::none_below), unfolding(crate::specs::Blocks::are_built))]
-fn are_entries_built<K: RecKind>(area: &[u8], leaf: bool, count: u16) -> bool
+#[tactic(auto, using(byte_fields::proofs::BelowLemmas::one_more_passes, byte_fields::proofs::BelowLemmas::none_below), unfolding(crate::specs::Blocks::are_supported))]
+fn are_entries_supported<K: RecKind>(area: &[u8], leaf: bool, count: u16) -> bool
     requires whole { length area.now ≡ 4040 }
     requires room { count ≤ most_of K.form.kind leaf }
-    ensures { result ≡ are_built K.form leaf area.now count }
+    ensures { result ≡ are_supported K.form leaf area.now count }
 {
     if !leaf {
         return true;
     }
     for i in 0..count {
-        if !is_record_built::<K>(area, i) {
+        if !is_record_supported::<K>(area, i) {
             return false;
         }
     }
@@ -174,23 +175,23 @@ fn first_fault<K: RecKind>(block: &Block, want: &Want) -> Option<BlockFault>
     let bytes = &block.bytes;
     let area = data_area(block);
     let leaf = want.level == 0;
-    let count = get_u16(bytes, 6);
+    let count = count_of(block);
     if get_u32(bytes, 0) != want.kind.magic() {
         return Some(BlockFault::Magic);
     }
-    if !does_level_fit(want.level, get_u16(bytes, 4)) {
+    if !does_level_fit(want.level, level_of(block)) {
         return Some(BlockFault::Level);
     }
     if !does_count_fit(want.kind, leaf, want.root, count) {
         return Some(BlockFault::Count);
     }
-    if get_u32(bytes, 8) != want.left {
+    if left_of(block) != want.left {
         return Some(BlockFault::Sibling);
     }
-    if get_u64(bytes, 16) != want.place {
+    if place_of(block) != want.place {
         return Some(BlockFault::Place);
     }
-    if get_u32(bytes, 48) != want.group {
+    if owner_of(block) != want.group {
         return Some(BlockFault::Owner);
     }
     if !is_uuid_at(bytes, 32, &want.uuid) {
@@ -205,7 +206,7 @@ fn first_fault<K: RecKind>(block: &Block, want: &Want) -> Option<BlockFault>
     if !do_entries_lie_inside::<K>(area, leaf, &want.bounds, count) {
         return Some(BlockFault::Range);
     }
-    if !are_entries_built::<K>(area, leaf, count) {
+    if !are_entries_supported::<K>(area, leaf, count) {
         return Some(BlockFault::Later);
     }
     None
@@ -215,7 +216,7 @@ fn first_fault<K: RecKind>(block: &Block, want: &Want) -> Option<BlockFault>
 /// tests that fails, in the order of `BlockFault`; a block of a level above 8 is never wanted.
 /// That a node's keys are those of the subtrees is not tested here
 /// (XFS Algorithms and Data Structures, "Short Format B+trees").
-#[tactic(auto, using(crate::proofs::BlockLemmas::has_level, crate::proofs::BlockLemmas::has_room, crate::proofs::BlockLemmas::records_rise, crate::proofs::BlockLemmas::records_lie_inside, crate::proofs::BlockLemmas::records_are_built, crate::proofs::BlockLemmas::keys_rise, crate::proofs::BlockLemmas::children_lie_inside))]
+#[tactic(auto, using(crate::proofs::BlockLemmas::has_level, crate::proofs::BlockLemmas::has_room, crate::proofs::BlockLemmas::records_rise, crate::proofs::BlockLemmas::records_lie_inside, crate::proofs::BlockLemmas::records_are_supported, crate::proofs::BlockLemmas::keys_rise, crate::proofs::BlockLemmas::children_lie_inside))]
 pub fn verify<K: RecKind>(block: &Block, want: &Want) -> Result<Header, BlockFault>
     requires { want.now.kind ≡ K.form.kind }
     ensures exact { MatchResult result
@@ -225,7 +226,7 @@ pub fn verify<K: RecKind>(block: &Block, want: &Want) -> Result<Header, BlockFau
     ensures count { IfOk result (λ header. header.numrecs ≤ most_of K.form.kind (want.now.level == 0)) }
     ensures rising { IfOk result (λ header. want.now.level ≡ 0 → IsRising K.form (records_of K.form block.now.bytes)) }
     ensures inside { IfOk result (λ header. want.now.level ≡ 0 → AllInside K.form want.now.bounds (records_of K.form block.now.bytes)) }
-    ensures built { IfOk result (λ header. want.now.level ≡ 0 → AllBuilt K.form (records_of K.form block.now.bytes)) }
+    ensures supported { IfOk result (λ header. want.now.level ≡ 0 → AllSupported K.form (records_of K.form block.now.bytes)) }
     ensures keys { IfOk result (λ header. 0 < want.now.level → AreKeysRising K.form (keys_of K.form block.now.bytes)) }
     ensures children { IfOk result (λ header. 0 < want.now.level → AreBlocks want.now.bounds.length (children_of K.form block.now.bytes)) }
 {
@@ -235,9 +236,9 @@ pub fn verify<K: RecKind>(block: &Block, want: &Want) -> Result<Header, BlockFau
     }
     Ok(Header {
         level: want.level,
-        numrecs: get_u16(bytes, 6),
-        left: get_u32(bytes, 8),
-        right: get_u32(bytes, 12),
+        numrecs: count_of(block),
+        left: left_of(block),
+        right: right_of(block),
         lsn: get_u64(bytes, 24),
     })
 }

@@ -3,8 +3,9 @@ ghost use Rattle.sblock.specs.Blocks.{numrecs, records_of};
 ghost use Rattle.sblock.specs.Kinds.{leaf_most_of};
 
 use crate::area::data_area;
+use crate::header::count_of;
 use crate::rec_kind::RecKind;
-use byte_fields::{Block, get_u16};
+use byte_fields::Block;
 use std::alloc::{AllocError, Global};
 
 /// The records of a leaf that was verified, in their order. No memory is the one refusal.
@@ -15,7 +16,7 @@ pub fn leaf_records<K: RecKind>(alloc: Global, block: &Block) -> Result<Vec<K::R
 {
     let area = data_area(block);
     let mut records = Vec::new(alloc);
-    for i in 0..get_u16(&block.bytes, 6) {
+    for i in 0..count_of(block) {
         records.push(K::record_at(area, i as usize))?;
     }
     Ok(records)

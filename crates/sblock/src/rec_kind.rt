@@ -29,12 +29,13 @@ pub trait RecKind {
         requires room { i < leaf_most_of form.kind }
         ensures { result ≡ form.record_at area.now i };
 
-    /// Writes record `i` of a leaf. It is read again as it was written, and the others stay.
+    /// Writes record `i` of a leaf. A record that is written as it stands is read again, and the
+    /// others stay.
     fn put_record(area: &mut [u8], i: usize, rec: &Self::Rec)
         requires whole { length area.old ≡ 4040 }
         requires room { i < leaf_most_of form.kind }
         ensures written { area.new ≡ form.with_record area.old i rec.now }
-        ensures taken { form.record_at area.new i ≡ rec.now }
+        ensures taken { form.is_written rec.now ≡ true → form.record_at area.new i ≡ rec.now }
         ensures others { (j : ℕ) → j < leaf_most_of form.kind → j ≢ i → form.record_at area.new j ≡ form.record_at area.old j };
 
     /// The key of entry `i` of a node: the least one of its subtree.
@@ -80,10 +81,19 @@ pub trait RecKind {
     fn is_in_range(rec: &Self::Rec, bounds: &Bounds) -> bool
         ensures { result ≡ form.is_in_range bounds.now rec.now };
 
-    /// Whether the record is of a form that this program knows in full. One that isn't has no
-    /// range yet.
-    fn is_built(rec: &Self::Rec) -> bool
-        ensures { result ≡ form.is_built rec.now };
+    /// Whether the record is of a form that this program knows in full. A form that isn't
+    /// supported yet has no range.
+    fn is_supported(rec: &Self::Rec) -> bool
+        ensures { result ≡ form.is_supported rec.now };
+
+    /// Whether the record is written as it stands. One that isn't has bits that mean nothing, and
+    /// they are read as the format wants them.
+    fn is_written(rec: &Self::Rec) -> bool
+        ensures { result ≡ form.is_written rec.now };
+
+    /// Whether two records are one, in all their numbers.
+    fn is_same(a: &Self::Rec, b: &Self::Rec) -> bool
+        ensures { result ≡ form.is_same a.now b.now };
 
     /// The group-relative block at which the key begins.
     fn block_of(key: &Self::Key) -> u32

@@ -1,5 +1,5 @@
 -- Records of the reference count btree: a start, a count of blocks and their reference count, four bytes each.
-use Rattle.std.specs.Prelude.{ℕ, ◌+◌, ◌*◌, ◌^◌, nat_lt, nat_le, Bool, true, ◌&&◌, List, if◌then◌else◌}
+use Rattle.std.specs.Prelude.{ℕ, ◌+◌, ◌*◌, ◌^◌, ◌==◌, nat_lt, nat_le, Bool, true, ◌&&◌, List, if◌then◌else◌}
 use Rattle.byte_fields.specs.Fields.{field, with_field}
 use Rattle.sblock.specs.Form.{Form}
 use Rattle.sblock.specs.declared.block.Bounds.{Bounds}
@@ -41,6 +41,10 @@ is_shared r = nat_lt r.start (2 ^ 31)
 unfoldable pub is_refc_in_range : Bounds → RefcRec → Bool
 is_refc_in_range bounds r = nat_le 1 r.start && nat_le 1 r.count && nat_le (r.start + r.count) bounds.length && nat_le 2 r.refcount
 
+-- the same blocks with the same reference count
+abbrev pub is_same_refc : RefcRec → RefcRec → Bool
+is_same_refc a b = (a.start == b.start) && (a.count == b.count) && (a.refcount == b.refcount)
+
 abbrev pub refc_form : Form RefcRec RefcKey
 refc_form = record {
   kind = Refc;
@@ -54,7 +58,9 @@ refc_form = record {
   high_key_of = λ r. record { start = r.start };
   is_before = λ a b. nat_lt a.start b.start;
   is_in_range = is_refc_in_range;
-  is_built = is_shared;
+  is_supported = is_shared;
+  is_written = λ r. true;
+  is_same = is_same_refc;
   block_of = λ k. k.start;
-  length_of = λ r. if is_shared r then r.count else 0;
+  length_of = λ r. r.count;
 }

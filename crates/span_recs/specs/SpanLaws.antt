@@ -1,13 +1,13 @@
 -- Both orders of free space are orders, and a pointer leaves the keys of a node.
-use Rattle.std.proofs.Common.{◌≡◌, ℕ, ◌<◌, ◌≤◌, ◌+◌, ◌*◌, List, length, true, false, arith, refl}
-use Rattle.std.specs.Prelude.{nat_lt, ◌⊎◌}
-use Rattle.std.proofs.lemmas.Bool.{false≢true}
+use Rattle.std.proofs.Common.{◌≡◌, ℕ, ◌<◌, ◌≤◌, ◌+◌, ◌*◌, List, length, true, false, arith, refl, subst}
+use Rattle.std.specs.Prelude.{nat_lt, ◌⊎◌, ◌↔◌}
+use Rattle.std.proofs.lemmas.Bool.{false≢true, and_parts, eqb-true, eq-eqb}
 use Rattle.std.proofs.lemmas.Bool.Decides.{nat_tests}
 use Rattle.sblock.specs.Area.{with_child}
 use Rattle.sblock.specs.Form.{IsLawful}
 use Rattle.sblock.specs.declared.kind.Kind.TheVariants.{Bno, Cnt}
 use Rattle.sblock.specs.AreaLaws.{field_stays}
-use Rattle.span_recs.specs.Spans.{bno_form, cnt_form, span_at, start_at, count_at, is_before_by_count}
+use Rattle.span_recs.specs.Spans.{bno_form, cnt_form, span_at, start_at, count_at, is_same_span, is_before_by_count}
 use Rattle.span_recs.specs.declared.span.SpanRec.{SpanRec}
 
 pub strict_nat : (a : ℕ) → nat_lt a a ≡ false
@@ -34,6 +34,12 @@ total_by_count : (a b c : SpanRec) → is_before_by_count a c ≡ true → (is_b
 unfolding is_before_by_count
 total_by_count a b c h = grind (arith, nat_tests)
 
+same_span : (r s : SpanRec) → (is_same_span r s ≡ true) ↔ (r ≡ s)
+same_span r s = (
+  λ h. (let parts = and_parts _ _ h in λ i. record { start = eqb-true r.start s.start parts.0 i; count = eqb-true r.count s.count parts.1 i }),
+  λ e. subst (λ (x : SpanRec). is_same_span r x ≡ true) e (rw (eq-eqb r.start r.start refl, eq-eqb r.count r.count refl) refl),
+)
+
 bno_keys_stay : (area : List ℕ) (i j child : ℕ) → length area ≡ 4040 → i < 336 → j < 336 → span_at (with_child Bno area i child) j ≡ span_at area j
 unfolding start_at count_at
 bno_keys_stay area i j child whole room here =
@@ -51,6 +57,7 @@ lawful_bno = record {
   total = λ a b c h. total_nat a.start b.start c.start h;
   reaches = λ bounds r small h. refl;
   above = λ r h. strict_nat r.start;
+  same = same_span;
   starts = λ other a b h. not_less a.start b.start h;
   ends = λ high r h. absurd (false≢true high);
   keys_stay = bno_keys_stay;
@@ -64,6 +71,7 @@ lawful_cnt = record {
   total = total_by_count;
   reaches = λ bounds r small h. refl;
   above = λ r h. strict_by_count r;
+  same = same_span;
   starts = λ other a b h. absurd (other refl);
   ends = λ high r h. absurd (false≢true high);
   keys_stay = cnt_keys_stay;

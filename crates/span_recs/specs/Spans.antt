@@ -24,6 +24,10 @@ with_span area i r = with_field 4 (with_field 4 area (8 * i) r.start) (8 * i + 4
 unfoldable pub is_span_in_range : Bounds → SpanRec → Bool
 is_span_in_range bounds r = nat_le 1 r.start && nat_le 1 r.count && nat_le (r.start + r.count) bounds.length
 
+-- the same blocks
+abbrev pub is_same_span : SpanRec → SpanRec → Bool
+is_same_span a b = (a.start == b.start) && (a.count == b.count)
+
 abbrev pub is_before_by_start : SpanRec → SpanRec → Bool
 is_before_by_start a b = nat_lt a.start b.start
 
@@ -44,7 +48,9 @@ span_form kind is_before = record {
   high_key_of = λ r. r;
   is_before = is_before;
   is_in_range = is_span_in_range;
-  is_built = λ r. true;
+  is_supported = λ r. true;
+  is_written = λ r. true;
+  is_same = is_same_span;
   block_of = λ k. k.start;
   length_of = λ r. r.count;
 }

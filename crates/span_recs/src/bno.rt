@@ -58,8 +58,16 @@ impl RecKind for BnoKind {
         is_in_group(rec, bounds)
     }
 
-    fn is_built(_rec: &SpanRec) -> bool {
+    fn is_supported(_rec: &SpanRec) -> bool {
         true
+    }
+
+    fn is_written(_rec: &SpanRec) -> bool {
+        true
+    }
+
+    fn is_same(a: &SpanRec, b: &SpanRec) -> bool {
+        a == b
     }
 
     fn block_of(key: &SpanRec) -> u32 {

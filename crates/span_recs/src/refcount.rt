@@ -52,7 +52,7 @@ fn put_key(area: &mut [u8], i: usize, key: &RefcKey)
 }
 
 /// The btree of reference counts, ordered by start. A record of copy-on-write staging is of a
-/// form that isn't built, and covers no block
+/// form that isn't supported yet; its blocks count from its whole start field on
 /// (XFS Algorithms and Data Structures, "Reference Count B+tree").
 pub struct RefcKind {}
 
@@ -127,8 +127,16 @@ impl RecKind for RefcKind {
             && rec.refcount >= 2
     }
 
-    fn is_built(rec: &RefcRec) -> bool {
+    fn is_supported(rec: &RefcRec) -> bool {
         is_shared(rec)
+    }
+
+    fn is_written(_rec: &RefcRec) -> bool {
+        true
+    }
+
+    fn is_same(a: &RefcRec, b: &RefcRec) -> bool {
+        a == b
     }
 
     fn block_of(key: &RefcKey) -> u32 {
@@ -136,6 +144,6 @@ impl RecKind for RefcKind {
     }
 
     fn length_of(rec: &RefcRec) -> u32 {
-        if is_shared(rec) { rec.count } else { 0 }
+        rec.count
     }
 }

@@ -52,7 +52,7 @@ fn shared_blocks_lie_in_the_group(rt: HostRuntime) {
             refcount: *refcount,
         };
         assert_eq!(rt; RefcKind::is_in_range(&rec, &BOUNDS), *wanted);
-        assert!(rt; RefcKind::is_built(&rec));
+        assert!(rt; RefcKind::is_supported(&rec));
         assert_eq!(rt; RefcKind::length_of(&rec), *count);
     }
 }

@@ -4,10 +4,10 @@ use Rattle.std.specs.Prelude.{◌==◌, List}
 use Rattle.std.proofs.lemmas.Bool.Decides.{nat_tests}
 use Rattle.std.proofs.lemmas.Bool.{and_parts, ltb-true}
 use Rattle.sblock.specs.Area.{area_of, child_of}
-use Rattle.sblock.specs.Blocks.{numrecs, most_of, records_of, children_of, AllInside, AllBuilt, AreBlocks}
+use Rattle.sblock.specs.Blocks.{numrecs, most_of, records_of, children_of, AllInside, AllSupported, AreBlocks}
 use Rattle.sblock.specs.Form.{Form}
 use Rattle.sblock.specs.Kinds.{leaf_most_of, node_most_of}
-use Rattle.sblock.proofs.BlockLemmas.{has_room, records_lie_inside, records_are_built, children_lie_inside}
+use Rattle.sblock.proofs.BlockLemmas.{has_room, records_lie_inside, records_are_supported, children_lie_inside}
 use Rattle.tree_defs.specs.Claims.{lone_fault}
 use Rattle.tree_defs.specs.Tree.{want_of, left_of}
 use Rattle.tree_defs.specs.declared.site.Site.{Site}
@@ -28,9 +28,9 @@ module _ {R K : Type 0} (form : Form R K) (site : Site) (level : ℕ) (root : Bo
   unfolding lone_fault
   leaf_inside z = records_lie_inside form bytes (want_of form.kind site level root (left_of bytes) p) pass z
 
-  pub leaf_built : level ≡ 0 → AllBuilt form (records_of form bytes)
+  pub leaf_built : level ≡ 0 → AllSupported form (records_of form bytes)
   unfolding lone_fault
-  leaf_built z = records_are_built form bytes (want_of form.kind site level root (left_of bytes) p) pass z
+  leaf_built z = records_are_supported form bytes (want_of form.kind site level root (left_of bytes) p) pass z
 
   children_inside : 0 < level → AreBlocks site.bounds.length (children_of form bytes)
   unfolding lone_fault

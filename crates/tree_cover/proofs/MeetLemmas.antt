@@ -188,12 +188,12 @@ sought_if true r x P h k = h refl
 sought_if false r x P h k = k
 
 module _ {R K : Type 0} (form : Form R K) (bounds : Bounds) (run : Run) (after : Option K) where
-  sought_one : (r : R) (rs : List R) → form.is_in_range bounds r ≡ true → form.is_built r ≡ true → is_first_met form run after r rs ≡ true → IsSought form bounds run after r
+  sought_one : (r : R) (rs : List R) → form.is_in_range bounds r ≡ true → form.is_supported r ≡ true → is_first_met form run after r rs ≡ true → IsSought form bounds run after r
   unfolding is_first_met
   sought_one r rs inside built h = let parts = asked_parts (is_above form after (form.key_of r)) (meets form run r) (is_looked_at form run rs) h in record { above = parts.0; met = parts.1; inside = inside; built = built }
 
   -- of records that are built and in range, the one that is found is too
-  pub sought : (rs : List R) → Each (form.is_in_range bounds) rs → Each form.is_built rs → IfSome (first_met form run after rs) (IsSought form bounds run after)
+  pub sought : (rs : List R) → Each (form.is_in_range bounds) rs → Each form.is_supported rs → IfSome (first_met form run after rs) (IsSought form bounds run after)
   unfolding first_met
   sought [] h k = tt
   sought (r ∷ rs) h k = sought_if (is_first_met form run after r rs) r (first_met form run after rs) (IsSought form bounds run after) (λ met. sought_one r rs h.0 k.0 met) (sought rs h.1 k.1)

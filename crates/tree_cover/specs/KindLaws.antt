@@ -34,7 +34,7 @@ unfolding is_refc_in_range
 refc_some bounds r inside = leb-true 1 r.count (and_parts _ _ (and_parts _ _ (and_parts _ _ inside).0).0).1
 
 pub covers_refc : CoversBlocks refc_form
-covers_refc = record { by_block = λ e. cc; some = λ bounds r inside built. counted _ r.count (refc_some bounds r inside) built }
+covers_refc = record { by_block = λ e. cc; some = λ bounds r inside built. refc_some bounds r inside }
 
 pub covers_ino : CoversBlocks ino_form
 covers_ino = record { by_block = λ e. cc; some = λ bounds r inside built. counted _ 8 (omega arith) built }

@@ -128,5 +128,5 @@ module _ {R K : Type 0} (form : Form R K) (law : IsLawful form) where
     rising = above_rises after bytes (leaf_rising form site level root p bytes pass z) (records_rise form bytes (want_of form.kind site level root (left_of bytes) p) pass z);
     above = each_passes (is_above form after) (records_of form bytes);
     inside = each_kept (is_above form after) (form.is_in_range site.bounds) (records_of form bytes) (leaf_inside form site level root p bytes pass z);
-    built = each_kept (is_above form after) form.is_built (records_of form bytes) (leaf_built form site level root p bytes pass z);
+    built = each_kept (is_above form after) form.is_supported (records_of form bytes) (leaf_built form site level root p bytes pass z);
   })

@@ -3,7 +3,7 @@ use Rattle.std.proofs.Common.{◌≡◌, ℕ, zero, suc, ◌+◌, ◌<◌, ◌�
 use Rattle.std.specs.Prelude.{find, IfSome}
 use Rattle.std.proofs.lemmas.Bool.{cases_lt, false≢true}
 use Rattle.sblock.specs.Area.{area_of}
-use Rattle.sblock.specs.Blocks.{key_in, is_rising, numrecs, records_of, AllInside, AllBuilt}
+use Rattle.sblock.specs.Blocks.{key_in, is_rising, numrecs, records_of, AllInside, AllSupported}
 use Rattle.sblock.specs.Form.{Form, IsLawful, same_key}
 use Rattle.sblock.specs.Lists.{items_from, Each}
 use Rattle.sblock.specs.declared.block.Bounds.{Bounds}
@@ -98,9 +98,9 @@ is_one test other (y ∷ ys) x all h =
     ]
 
 -- the record that is found in a leaf has an equal key, and is as the leaf's tests say
-pub sound_record : {R K : Type 0} (form : Form R K) (bounds : Bounds) (key : K) (bytes : List ℕ) (o : Option R) → AllInside form bounds (records_of form bytes) → AllBuilt form (records_of form bytes) → o ≡ record_with form key (records_of form bytes) → IfSome o (λ rec. IsFound form bounds key rec)
+pub sound_record : {R K : Type 0} (form : Form R K) (bounds : Bounds) (key : K) (bytes : List ℕ) (o : Option R) → AllInside form bounds (records_of form bytes) → AllSupported form (records_of form bytes) → o ≡ record_with form key (records_of form bytes) → IfSome o (λ rec. IsFound form bounds key rec)
 sound_record form bounds key bytes None inside built h = tt
 sound_record form bounds key bytes (Some r) inside built h =
     let a = is_one (λ r. same_key form (form.key_of r) key) (form.is_in_range bounds) (records_of form bytes) r inside (sym h) in
-    let b = is_one (λ r. same_key form (form.key_of r) key) form.is_built (records_of form bytes) r built (sym h) in
+    let b = is_one (λ r. same_key form (form.key_of r) key) form.is_supported (records_of form bytes) r built (sym h) in
     record { equal = a.0; inside = a.1; built = b.1 }

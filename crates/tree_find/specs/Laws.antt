@@ -24,4 +24,4 @@ module _ {R K : Type 0} (form : Form R K) where
   pub record IsFound (bounds : Bounds) (key : K) (rec : R) : Type 0 where
     pub equal : same_key form (form.key_of rec) key ≡ true
     pub inside : form.is_in_range bounds rec ≡ true
-    pub built : form.is_built rec ≡ true
+    pub built : form.is_supported rec ≡ true

@@ -2,7 +2,7 @@
 -- where that one ends without a record.
 use Rattle.std.specs.Prelude.{◌≡◌, ℕ, zero, suc, ◌+◌, ◌-◌, ◌&&◌, nat_le, nat_lt, Bool, true, false, if◌then◌else◌, List, [], ◌∷◌, ◌++◌, Option, Some, None, Result, Ok, Err, filter, unwrap_or}
 use Rattle.sblock.specs.Area.{area_of, child_of}
-use Rattle.sblock.specs.Blocks.{numrecs, records_of, IsRising, AllInside, AllBuilt}
+use Rattle.sblock.specs.Blocks.{numrecs, records_of, IsRising, AllInside, AllSupported}
 use Rattle.sblock.specs.Form.{Form}
 use Rattle.sblock.specs.Lists.{Each}
 use Rattle.sblock.specs.declared.block.BlockFault.{BlockFault}
@@ -82,7 +82,7 @@ module _ {R K : Type 0} (form : Form R K) where
     pub rising : IsRising form recs
     pub above : Each (is_above after) recs
     pub inside : AllInside form bounds recs
-    pub built : AllBuilt form recs
+    pub built : AllSupported form recs
 
   -- of these records, the first ones above the key; none only where there are none
   pub record AreNext (after : Option K) (recs rs : List R) : Type 0 where

@@ -7,7 +7,7 @@ use Rattle.sblock.specs.Area.{area_of, child_of}
 use Rattle.sblock.specs.Blocks.{numrecs, block_fault, most_of, records_of, children_of, AllInside, AreBlocks}
 use Rattle.sblock.specs.Form.{Form}
 use Rattle.sblock.specs.Kinds.{leaf_most_of, node_most_of}
-use Rattle.sblock.proofs.BlockLemmas.{has_room, records_lie_inside, records_are_built, children_lie_inside}
+use Rattle.sblock.proofs.BlockLemmas.{has_room, records_lie_inside, records_are_supported, children_lie_inside}
 use Rattle.tree_defs.specs.Levels.{RisesAfter}
 use Rattle.tree_defs.specs.Tree.{Trail, want_of, fault_here, noted, with_recs}
 use Rattle.tree_defs.specs.declared.site.Site.{Site}
@@ -59,7 +59,7 @@ module _ {R K : Type 0} (form : Form R K) (site : Site) (t : Trail R) (level : �
   sound_more z before = record {
     rising = to_rising form (t.recs ++ records_of form bytes) (rising_join form None t.recs (records_of form bytes) (from_rising form t.recs before.rising) (rises z));
     inside = each_append (form.is_in_range site.bounds) t.recs (records_of form bytes) before.inside (leaf_inside z);
-    built = each_append form.is_built t.recs (records_of form bytes) before.built (records_are_built form bytes (want_of form.kind site level root (slice_index t.before level) p) own z);
+    built = each_append form.is_supported t.recs (records_of form bytes) before.built (records_are_supported form bytes (want_of form.kind site level root (slice_index t.before level) p) own z);
   }
 
 pub child_inside : {R K : Type 0} (form : Form R K) (len : ℕ) (bytes : List ℕ) → AreBlocks len (children_of form bytes) → (i : ℕ) → i < numrecs bytes → child_of form.kind (area_of bytes) i < len

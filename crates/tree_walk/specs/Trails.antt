@@ -1,6 +1,6 @@
 -- What the code keeps of a walk, as a trail.
 use Rattle.std.specs.Prelude.{List}
-use Rattle.sblock.specs.Blocks.{IsRising, AllInside, AllBuilt}
+use Rattle.sblock.specs.Blocks.{IsRising, AllInside, AllSupported}
 use Rattle.sblock.specs.Form.{Form}
 use Rattle.sblock.specs.declared.block.Bounds.{Bounds}
 use Rattle.tree_defs.specs.Tree.{Trail}
@@ -13,4 +13,4 @@ trail_of seen = record { before = seen.before; next = seen.next; recs = seen.rec
 pub record AreSound {R K : Type 0} (form : Form R K) (bounds : Bounds) (recs : List R) : Type 0 where
   pub rising : IsRising form recs
   pub inside : AllInside form bounds recs
-  pub built : AllBuilt form recs
+  pub built : AllSupported form recs

@@ -61,8 +61,16 @@ impl RecKind for Counted {
         *rec < bounds.length
     }
 
-    fn is_built(rec: &u32) -> bool {
+    fn is_supported(rec: &u32) -> bool {
         *rec < 0x8000_0000
+    }
+
+    fn is_written(_rec: &u32) -> bool {
+        true
+    }
+
+    fn is_same(a: &u32, b: &u32) -> bool {
+        a == b
     }
 
     fn block_of(key: &u32) -> u32 {
