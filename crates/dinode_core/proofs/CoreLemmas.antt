@@ -1,10 +1,8 @@
 -- What a core's tests say of its fields.
-use Rattle.std.proofs.Common.{◌≡◌, ℕ, List, [], ◌∷◌, Bool, true, false, Option, Some, None, refl}
+use Rattle.std.proofs.Common.{◌≡◌, ℕ, List, None}
 use Rattle.std.proofs.lemmas.Bool.{eqb-true}
 use Rattle.std.proofs.lemmas.Slice.Eq.{bytes_eq-Decides}
-use Rattle.std.specs.Prelude.{⊤, if◌then◌else◌}
 use Rattle.byte_fields.specs.Fields.{has_uuid}
-use Rattle.byte_fields.specs.FirstFailing.{first_failing}
 use Rattle.byte_fields.proofs.TestLemmas.{all_pass}
 use Rattle.dinode_core.specs.Core.{core_tests, core_fault, core_of}
 

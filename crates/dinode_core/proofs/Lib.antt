@@ -1,6 +1,9 @@
 pub mod CoreLemmas
 pub mod EncodedLemmas
+pub mod ForkFrame
 pub mod InlineLemmas
 pub mod NumberLemmas
+pub mod OwnParts
 pub mod PackedLemmas
 pub mod PieceLemmas
+pub mod Walks

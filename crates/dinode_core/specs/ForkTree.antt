@@ -1,5 +1,5 @@
 -- A fork as a whole: its mappings and the blocks of its btree, or the first fault.
-use Rattle.std.specs.Prelude.{ℕ, zero, suc, ◌+◌, ◌-◌, ◌*◌, ◌^◌, ◌==◌, nat_le, Bool, true, false, ◌&&◌, if◌then◌else◌, List, [], ◌∷◌, ◌++◌, length, drop, Option, Some, None, Result, Ok, Err}
+use Rattle.std.specs.Prelude.{ℕ, zero, suc, ◌+◌, ◌-◌, ◌*◌, ◌^◌, ◌==◌, nat_le, nat_lt, Bool, true, false, ◌&&◌, if◌then◌else◌, List, [], ◌∷◌, ◌++◌, length, drop, Option, Some, None, Result, Ok, Err}
 use Rattle.byte_fields.specs.Checksum.{has_sum}
 use Rattle.byte_fields.specs.Fields.{field, has_uuid}
 use Rattle.geom.specs.Layout.{Layout, device_block_of, blkno_of, split_of}
@@ -52,6 +52,10 @@ entries (suc n) keys pointers bytes =
 abbrev pub numrecs : List ℕ → ℕ
 numrecs bytes = field 2 bytes 6
 
+-- bb_magic "BMA3"
+abbrev pub is_fork_block : List ℕ → Bool
+is_fork_block bytes = field 4 bytes 0 == 0x424d_4133
+
 -- a node's keys begin at 72, and its pointers behind the room of 251 keys
 abbrev pub node_entries : List ℕ → List Entry
 node_entries bytes = entries (numrecs bytes) 72 (72 + 8 * 251) bytes
@@ -73,13 +77,21 @@ abbrev pub names : Option Last → ℕ → Bool
 names None block = true
 names (Some last) block = last.right == block
 
--- a long-form block passes its tests: bb_magic "BMA3", bb_level, bb_numrecs, bb_leftsib and the sibling's bb_rightsib,
--- bb_blkno, bb_owner, bb_uuid, bb_crc, and the key beside its pointer
-unfoldable pub is_sound : Layout → Core3 → ℕ → Option Last → Entry → ℕ × ℕ → List ℕ → Bool
-is_sound at core level last entry place bytes =
-    (field 4 bytes 0 == 0x424d_4133) && (field 2 bytes 4 == level) && nat_le 1 (numrecs bytes) && nat_le (numrecs bytes) 251
-    && (field 8 bytes 8 == left_of last) && names last entry.block && (field 8 bytes 24 == blkno_of at place.0 place.1)
-    && (field 8 bytes 56 == core.ino) && has_uuid bytes 40 at.uuid && has_sum bytes 64 && (first_key level bytes == entry.key)
+-- a long-form block's own tests: bb_magic "BMA3", bb_level, bb_numrecs, bb_blkno, bb_owner, bb_uuid, bb_crc, and the key
+-- beside its pointer; block 0 of a group has its heads, and no such block
+unfoldable pub is_right : Layout → Core3 → ℕ → Entry → ℕ × ℕ → List ℕ → Bool
+is_right at core level entry place bytes =
+    is_fork_block bytes && nat_lt 0 place.1 && (field 2 bytes 4 == level) && nat_le 1 (numrecs bytes) && nat_le (numrecs bytes) 251
+    && (field 8 bytes 24 == blkno_of at place.0 place.1) && (field 8 bytes 56 == core.ino) && has_uuid bytes 40 at.uuid
+    && has_sum bytes 64 && (first_key level bytes == entry.key)
+
+-- its siblings: bb_leftsib is the block before it on its level, and that block's bb_rightsib is this one
+unfoldable pub is_beside : Option Last → Entry → List ℕ → Bool
+is_beside last entry bytes = (field 8 bytes 8 == left_of last) && names last entry.block
+
+-- a long-form block passes its tests
+abbrev pub is_sound : Layout → Core3 → ℕ → Option Last → Entry → ℕ × ℕ → List ℕ → Bool
+is_sound at core level last entry place bytes = is_right at core level entry place bytes && is_beside last entry bytes
 
 -- the block that an entry points to, where it is sound
 abbrev pub sound_at : Layout → Image → Core3 → ℕ → Option Last → Entry → Option (ℕ × ℕ) → Option (List ℕ)

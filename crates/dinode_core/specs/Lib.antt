@@ -1,6 +1,7 @@
 pub mod Core
 pub mod Encoded
 pub mod ForkTree
+pub mod Frame
 pub mod Inline
 pub mod Packed
 pub mod Parts

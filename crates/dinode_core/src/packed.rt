@@ -1,4 +1,4 @@
-ghost use Rattle.std.specs.Prelude.{◌≡◌, ◌≤◌, length};
+ghost use Rattle.std.specs.Prelude.{◌≡◌, ◌+◌, ◌*◌, ◌≤◌, length, drop};
 ghost use Rattle.byteorder.specs.Endian.{big_bytes};
 ghost use Rattle.dinode_core.specs.Packed.{FitsPacked, bits_of, packed, unpacked};
 
@@ -51,6 +51,17 @@ pub fn unpack_front(bytes: &[u8]) -> Mapping
         count: (bits % (1 << 21)) as u32,
         unwritten: bits >> 127 == 1,
     }
+}
+
+/// Mapping number `i` of those that stand one behind the other in these bytes.
+/// (XFS Algorithms and Data Structures, "Extent List".)
+pub fn mapping_at(bytes: &[u8], i: usize) -> Mapping
+    requires { 16 * i + 16 ≤ length bytes.now }
+    ensures exact { result ≡ unpacked (drop (16 * i) bytes.now) }
+    ensures fits { FitsPacked result }
+{
+    let (_, rest) = bytes.split_at(16 * i);
+    unpack_front(rest)
 }
 
 /// The mapping that 16 bytes stand for; every 16 bytes do. Its numbers fit, and it packs to the same

@@ -1,5 +1,8 @@
-use super::*;
 use byte_fields::{put_sum, put_u16, put_u32, put_u64, sum_at};
+use dinode_core::{
+    Core3, CoreFault, Fork, ForkError, ForkFault, Mapping, decode_core, encode_core, fork_room,
+    fork_size, inline_fork, inline_is_whole, is_in_btree, mapping_at, mapping_count, pack, unpack,
+};
 use geom::Geometry;
 use std::alloc::{AllocError, Global};
 
@@ -125,6 +128,10 @@ fn packed_mappings(rt: HostRuntime) {
     };
     assert_eq!(rt; pack(&most), [0xff; 16]);
     assert_eq!(rt; unpack(&[0xff; 16]), most);
+    let mut three = [0; 48];
+    three[16..32].copy_from_slice(&packed);
+    assert_eq!(rt; mapping_at(&three, 1), unwritten);
+    assert_eq!(rt; mapping_at(&three, 2).count, 0);
 }
 
 // Two groups, of 256 blocks and of 64.

@@ -1,0 +1,5 @@
+//! Tests of inodes and their forks, over public calls alone.
+#![tactic(auto)]
+
+#[cfg(test)]
+mod inodes;
