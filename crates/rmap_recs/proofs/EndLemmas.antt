@@ -28,7 +28,7 @@ where_data : (t c : Bool) → t ≡ true → (not t || c) ≡ true → c ≡ tru
 where_data true c e h = h
 where_data false c e h = absurd (false≢true e)
 
-last_offset : (r : RmapRec) → has_end r ≡ true → is_fork_data r.owner r.word ≡ true → offset_of r.word + r.count ≤ 2 ^ 54
+pub last_offset : (r : RmapRec) → has_end r ≡ true → is_fork_data r.owner r.word ≡ true → offset_of r.word + r.count ≤ 2 ^ 54
 unfolding has_end
 last_offset r h data_is = le (offset_of r.word + r.count) (2 ^ 54) (where_data (is_fork_data r.owner r.word) _ data_is (parts (nat_le 1 r.count) _ _ h).2)
 

@@ -69,7 +69,7 @@ lies_by ts blocks zero t most c = lies_cases ts blocks t c (λ u d goes. absurd 
 lies_by ts blocks (suc m) t most c = lies_cases ts blocks t c (λ u d goes. lies_by ts blocks m u (omega (arith, block_on u t goes, most)) d) (begins_run ts t) refl
 
 -- keys without their unwritten flags are in the same order
-cleared_order : (a b : Key) → is_key_before (cleared a) (cleared b) ≡ is_key_before a b
+pub cleared_order : (a b : Key) → is_key_before (cleared a) (cleared b) ≡ is_key_before a b
 unfolding is_key_before
 cleared_order a b =
     ap (λ (n : ℕ). is_first a.start b.start (is_first a.owner b.owner (nat_lt n (key_word (key_word b.word))))) (key_word_twice a.word)
@@ -113,7 +113,7 @@ no_longer ts r s run other same below =
     let stops = run.last (tuple_at s ((r.count - 1) + 1)) (other.within ((r.count - 1) + 1) (omega arith)) in
     false≢true (sym stops ∙ ap (λ (t : Tuple). goes_on t (tuple_at s ((r.count - 1) + 1))) (same (r.count - 1)) ∙ goes)
 
-same_run : (ts : List Tuple) (r s : RmapRec) → IsRun ts r → IsRun ts s → tuple_at s 0 ≡ tuple_at r 0 → s ≡ r
+pub same_run : (ts : List Tuple) (r s : RmapRec) → IsRun ts r → IsRun ts s → tuple_at s 0 ≡ tuple_at r 0 → s ≡ r
 unfolding first_of
 same_run ts r s run other same =
     let one : first_of s ≡ first_of r = sym (nth-zero (first_of s)) ∙ same ∙ nth-zero (first_of r) in

@@ -14,6 +14,7 @@ pub use laws::one_list;
 pub use owner::Owner;
 pub use records::{Key, RmapRec};
 pub use tuples::{Memory, Tuple, runs};
+pub use words::{does_word_go_on, is_fork_data};
 
 #[cfg(test)]
 mod tests;

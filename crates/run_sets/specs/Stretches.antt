@@ -1,5 +1,5 @@
 -- Stretches: runs with a value each. The maximal stretches of a function of blocks, and in how many runs a block lies.
-use Rattle.std.specs.Prelude.{◌≡◌, ◌↔◌, ℕ, zero, suc, List, [], ◌∷◌, ◌+◌, ◌-◌, ◌==◌, ◌<◌, ◌≤◌, ◌&&◌, min, nat_le, nat_lt, if◌then◌else◌, Option, Some, None}
+use Rattle.std.specs.Prelude.{◌≡◌, ◌↔◌, ℕ, zero, suc, List, [], ◌∷◌, ◌+◌, ◌-◌, ◌==◌, ◌<◌, ◌≤◌, ◌&&◌, length, slice_index, min, nat_le, nat_lt, if◌then◌else◌, Option, Some, None}
 use Rattle.std.specs.List.{All, count_by}
 use Rattle.run_sets.specs.declared.run.Run.{Run}
 use Rattle.run_sets.specs.Runs.{is_within, most, IsRun}
@@ -66,6 +66,10 @@ OnlyStretches = (f : ℕ → ℕ) (least length : ℕ) (ss : List (Run × ℕ)) 
 -- how many numbers are at most b
 abbrev pub up_to : List ℕ → ℕ → ℕ
 up_to numbers b = count_by (λ x. nat_le x b) numbers
+
+-- the first n of the numbers are at most b
+abbrev pub ArePassed : List ℕ → ℕ → ℕ → Type 0
+ArePassed numbers n b = (n ≤ length numbers) × ((k : ℕ) → k < n → slice_index numbers k ≤ b)
 
 -- how many of the stretches with these starts and ends are open at the block, as that is counted
 abbrev pub open_at : List ℕ → List ℕ → ℕ → ℕ

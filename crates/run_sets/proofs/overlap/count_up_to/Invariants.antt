@@ -1,13 +1,9 @@
-use Rattle.std.proofs.Common.{◌-◌, ℕ, ◌<◌, ◌≤◌, length, get_or}
+use Rattle.std.proofs.Common.{◌-◌, length}
+use Rattle.run_sets.specs.Stretches.{ArePassed}
 use Rattle.run_sets.proofs.overlap.count_up_to.Given as goal
 
-abbrev pub invariant-loop-low : goal.invariant-loop-low
-invariant-loop-low l = record {
-  order : l.low ≤ l.high;
-  within : l.high ≤ length l.numbers;
-  passed : (k : ℕ) → k < l.low → get_or l.numbers k 0 ≤ l.block;
-  later : (k : ℕ) → l.high ≤ k → k < length l.numbers → l.block < get_or l.numbers k 0;
-}
+abbrev pub invariant-loop-count : goal.invariant-loop-count
+invariant-loop-count l = ArePassed l.numbers l.count l.block
 
-abbrev pub decreases-loop-low : goal.decreases-loop-low
-decreases-loop-low l = l.high - l.low
+abbrev pub decreases-loop-count : goal.decreases-loop-count
+decreases-loop-count l = length l.numbers - l.count

@@ -1,10 +1,14 @@
-use Rattle.std.proofs.Common.{ℕ, ◌∙◌, ap, sym, arith, Vec, Global}
+use Rattle.std.proofs.Common.{ℕ, ◌<◌, List, ◌∙◌, ap, sym, arith, Vec, Global}
 use Rattle.run_sets.specs.declared.run.Run.{Run}
 use Rattle.run_sets.specs.Runs.{most}
-use Rattle.run_sets.specs.Stretches.{open_at}
+use Rattle.run_sets.specs.Stretches.{ArePassed, open_at}
 use Rattle.run_sets.proofs.StretchesLemmas.{turn_found, turn_small, turn_on, at_start, last_found, last_small}
 use Rattle.run_sets.proofs.overlap.levels.Goals as goal
 use Rattle.run_sets.proofs.overlap.levels.Goals.{then-count-least-2+in_ok-push-2, else-count-least-2}
+
+-- what is at most a block is at most a later one
+passed_on : (numbers : List ℕ) (n at next : ℕ) → at < next → ArePassed numbers n at → ArePassed numbers n next
+passed_on numbers n at next on h = (h.0, λ k lt. let le = h.1 k lt in omega (arith, le, on))
 
 pub loop-at-init : goal.loop-at-init
 loop-at-init c = record {
@@ -12,6 +16,8 @@ loop-at-init c = record {
   within = omega arith;
   ahead = λ enough. absurd (let some = c.requires.least in omega (arith, enough, some));
   equal = λ b low high. absurd (omega (arith, high));
+  begun = (omega arith, λ k h. absurd (omega (arith, h)));
+  ended = (omega arith, λ k h. absurd (omega (arith, h)));
   found = at_start (open_at c.args.starts.now c.args.ends.now) c.args.least most _ c.new-found.ensures.items;
 }
 
@@ -24,6 +30,8 @@ loop-at-preserved-in_ok-push c =
       within = c.level_at-level.ensures.within;
       ahead = λ enough. on;
       equal = c.level_at-level.ensures.same;
+      begun = passed_on c.args.starts.now _ c.loop-at.at _ on c.level_at-level.ensures.begun;
+      ended = passed_on c.args.ends.now _ c.loop-at.at _ on c.level_at-level.ensures.ended;
       found = turn_found (open_at c.args.starts.now c.args.ends.now) c.args.least c.loop-at.start c.loop-at.at most c.loop-at.count c.loop-at.found.items _ _ (c.loop-at.invariant.ahead c.if-count-least.true) c.loop-at.invariant.within
           c.loop-at.invariant.equal c.if-count-least.true (λ e. c.if-level-count.true (sym here ∙ e)) c.loop-at.invariant.found c.in_ok-push.ensures.items;
     }
@@ -36,6 +44,8 @@ loop-at-preserved-else-count-least c =
       within = c.level_at-level.ensures.within;
       ahead = λ enough. on;
       equal = c.level_at-level.ensures.same;
+      begun = passed_on c.args.starts.now _ c.loop-at.at _ on c.level_at-level.ensures.begun;
+      ended = passed_on c.args.ends.now _ c.loop-at.at _ on c.level_at-level.ensures.ended;
       found = turn_small (open_at c.args.starts.now c.args.ends.now) c.args.least c.loop-at.start c.loop-at.at most c.loop-at.count c.loop-at.found.items _ c.loop-at.invariant.order c.loop-at.invariant.within
           c.loop-at.invariant.equal c.if-count-least.false c.loop-at.invariant.found;
     }
@@ -50,6 +60,8 @@ loop-at-preserved c =
       ahead = λ enough. let front = c.loop-at.invariant.ahead enough in omega (arith, on, front);
       equal = turn_on (open_at c.args.starts.now c.args.ends.now) c.loop-at.start c.loop-at.at c.level_at-level.result.end c.loop-at.count c.loop-at.invariant.equal
           (λ b low high. c.level_at-level.ensures.same b low high ∙ c.if-level-count.false);
+      begun = passed_on c.args.starts.now _ c.loop-at.at _ on c.level_at-level.ensures.begun;
+      ended = passed_on c.args.ends.now _ c.loop-at.at _ on c.level_at-level.ensures.ended;
       found = c.loop-at.invariant.found;
     }
 

@@ -1,6 +1,6 @@
 use Rattle.std.proofs.Common.{◌-◌, ◌≡◌, ℕ, ◌≤◌, ◌<◌, ◌++◌}
 use Rattle.run_sets.specs.Runs.{most}
-use Rattle.run_sets.specs.Stretches.{open_at, stretches_from, stretches}
+use Rattle.run_sets.specs.Stretches.{ArePassed, open_at, stretches_from, stretches}
 use Rattle.run_sets.proofs.overlap.levels.Given as goal
 
 -- all blocks from start to at have the number, and what was found and what is there from start on is all
@@ -10,6 +10,8 @@ invariant-loop-at l = record {
   within : l.at ≤ most;
   ahead : l.least ≤ l.count → l.start < l.at;
   equal : (b : ℕ) → l.start ≤ b → b < l.at → open_at l.starts l.ends b ≡ l.count;
+  begun : ArePassed l.starts l.begun l.at;
+  ended : ArePassed l.ends l.ended l.at;
   found : l.found.items ++ stretches_from (open_at l.starts l.ends) l.least l.start (most - l.start) ≡ stretches (open_at l.starts l.ends) l.least most;
 }
 
