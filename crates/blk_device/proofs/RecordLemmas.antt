@@ -3,9 +3,9 @@ use Rattle.std.proofs.Common.{◌≡◌, ℕ, Bool, true, false, List, [], ◌�
 use Rattle.std.proofs.lemmas.List.{reverse-append}
 use Rattle.std.specs.BTreeMap.{BTreeMap}
 use Rattle.byte_fields.specs.declared.block.Block.{Block}
-use Rattle.blk_device.specs.Calls.{seen_after, MayHold, MayHaveHeld, fewer, put_aside, settled_all}
-use Rattle.blk_device.specs.Contents.{Contents, InDoubt, put}
-use Rattle.blk_device.specs.Crash.{Elapses, Follows, NoMore, IsDurable, LeavesAny}
+use Rattle.blk_device.specs.Calls.{seen_after, settle, LeavesSettled, MayHold, MayHaveHeld, fewer, put_aside, settled_all}
+use Rattle.blk_device.specs.Contents.{Contents, InDoubt, put, same_region}
+use Rattle.blk_device.specs.Crash.{Elapses, Follows, NoMore, IsDurable, KeepsOther, LeavesAny}
 use Rattle.blk_device.specs.Recorded.{Adds, Stays, seen, left_now, left_since, moment}
 use Rattle.blk_device.specs.Stored.{with_stored}
 use Rattle.blk_device.specs.declared.device.Region.{Region}
@@ -173,3 +173,26 @@ stays_doubts old new stays = along (λ b calls. NoMore (MayHold (with_stored b) 
 pub failed_doubts : {T E : Type 0} (result : Result T E) (kept : Bool) (call : Call) (old new : Record) → is_ok result ≡ kept → Adds kept call old new → OnErr result (NoMore (left_now new) (left_now old))
 failed_doubts (Ok x) kept call old new exact adds = tt
 failed_doubts (Err e) kept call old new exact adds = stays_doubts old new (subst (λ (k : Bool). Adds k call old new) (sym exact) adds)
+
+-- what isn't settled stays
+unsettled : (t : Bool) (x y : List ℕ) → t ≡ false → (if t then x else y) ≡ y
+unsettled true x y apart = cc
+unsettled false x y apart = refl
+
+other_after_sync : (kept : Bool) (r : Region) (first : Contents) (calls : List Call) → KeepsOther r (MayHold first calls) (MayHold first (grown kept (Synced r) calls))
+other_after_sync true r first calls = λ c held. (settle r (seen_after first calls) c, (c, held, λ s b. refl), λ s apart b. unsettled (same_region s r) (seen_after first calls s b) (c s b) apart)
+other_after_sync false r first calls = λ c held. (c, held, λ s apart b. refl)
+
+pub sync_other : (kept : Bool) (r : Region) (old new : Record) → Adds kept (Synced r) old new → KeepsOther r (left_now old) (left_now new)
+sync_other kept r old new adds =
+    along (λ b calls. KeepsOther r (left_now old) (MayHold (with_stored b) calls)) kept (Synced r) old new adds (other_after_sync kept r (with_stored old.base) (reverse old.calls.items))
+
+pub stays_other : (r : Region) (old new : Record) → Stays old new → KeepsOther r (left_now old) (left_now new)
+stays_other r old new stays = along (λ b calls. KeepsOther r (left_now old) (MayHold (with_stored b) calls)) false (Synced Image) old new stays (λ c held. (c, held, λ s apart b. refl))
+
+sync_settles : (r : Region) (old new : Record) → Adds true (Synced r) old new → LeavesSettled r (seen old) (left_now old) (left_now new)
+sync_settles r old new adds = along (λ b calls. LeavesSettled r (seen old) (left_now old) (MayHold (with_stored b) calls)) true (Synced r) old new adds (λ c held. (c, held, λ s b. refl))
+
+pub sync_settled : {T E : Type 0} (result : Result T E) (kept : Bool) (r : Region) (old new : Record) → is_ok result ≡ kept → Adds kept (Synced r) old new → OnOk result (LeavesSettled r (seen old) (left_now old) (left_now new))
+sync_settled (Ok x) kept r old new exact adds = sync_settles r old new (subst (λ (k : Bool). Adds k (Synced r) old new) (sym exact) adds)
+sync_settled (Err e) kept r old new exact adds = tt

@@ -22,6 +22,10 @@ settle r read old s b = if same_region s r then read s b else old s b
 abbrev pub Settles : Region → Contents → Contents → Contents → Type 0
 Settles r read old new = (s : Region) (b : ℕ) → new s b ≡ settle r read old s b
 
+-- each old outcome, with the region as it is read, is a new one
+abbrev pub LeavesSettled : Region → Contents → (Contents → Type 0) → (Contents → Type 0) → Type 0
+LeavesSettled r read old new = (c : Contents) → old c → new (settle r read c)
+
 -- a crash after these calls may leave this: each block as it was last synced, or in doubt since a write that was done or failed
 abbrev pub MayHold : Contents → List Call → Contents → Type 0
 MayHold first [] c = c ≡ first

@@ -1,7 +1,7 @@
 -- What a crash may leave, now and at the moments since an earlier one.
-use Rattle.std.specs.Prelude.{◌≡◌, ◌≤◌, ◌⊎◌, ℕ, List, length, Option, IfSome}
+use Rattle.std.specs.Prelude.{◌≡◌, ◌≤◌, ◌⊎◌, ℕ, false, List, length, Option, IfSome}
 use Rattle.blk_device.specs.declared.device.Region.{Region}
-use Rattle.blk_device.specs.Contents.{Contents, put}
+use Rattle.blk_device.specs.Contents.{Contents, put, same_region}
 
 -- each new outcome of a crash is an old outcome after a step
 abbrev pub Follows : (Contents → Contents → Type 0) → (Contents → Type 0) → (Contents → Type 0) → Type 0
@@ -14,6 +14,10 @@ NoMore old new = (c : Contents) → new c → old c
 -- each old outcome is a new one, whatever 4,096 bytes it has in this block
 abbrev pub LeavesAny : Region → ℕ → (Contents → Type 0) → (Contents → Type 0) → Type 0
 LeavesAny r at old new = (c : Contents) (bytes : List ℕ) → length bytes ≡ 4096 → old c → new (put r at bytes c)
+
+-- each old outcome is a new one, but for this region's blocks: what a crash may leave of the other region stays
+abbrev pub KeepsOther : Region → (Contents → Type 0) → (Contents → Type 0) → Type 0
+KeepsOther r old new = (c : Contents) → old c → (d : Contents) × new d × ((s : Region) → same_region s r ≡ false → (b : ℕ) → d s b ≡ c s b)
 
 -- in this region each outcome is what is read
 abbrev pub IsDurable : Region → Option Contents → (Contents → Type 0) → Type 0

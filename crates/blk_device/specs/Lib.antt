@@ -4,8 +4,12 @@ pub mod Contents
 pub mod Crash
 pub mod Fuse
 pub mod Memory
+pub mod Moments
+pub mod Reading
+pub mod ReadingLaws
 pub mod Recorded
 pub mod Replay
+pub mod Sources
 pub mod Stored
 pub mod Taken
 pub mod Tally

@@ -3,7 +3,7 @@ use Rattle.std.specs.Prelude.{◌≡◌, ℕ, List, Bool, Contains, reverse, if�
 use Rattle.blk_device.specs.Causes.{one_more}
 use Rattle.blk_device.specs.Contents.{Contents, same_region}
 use Rattle.blk_device.specs.Recorded.{keeps_block, reads_kept, CountsRead, KeepsWritten, KeepsCounts}
-use Rattle.blk_device.specs.Replay.{left_by}
+use Rattle.blk_device.specs.Replay.{left_by, choices_by}
 use Rattle.blk_device.specs.Stored.{with_stored}
 use Rattle.blk_device.specs.declared.unsynced.Unsynced.{Unsynced}
 use Rattle.blk_device.specs.declared.device.Region.{Region}
@@ -29,6 +29,10 @@ has_lost_doubt d = d.lost
 -- what a crash leaves, of each call that no sync followed as the choices say
 abbrev pub left_after_crash : List Unsynced → MemDevice → Contents
 left_after_crash choices d = left_by choices (with_stored d.log.base) (reverse d.log.calls.items)
+
+-- what a crash leaves where each bit of the number, from the lowest on, tells whether the next write in doubt stands
+abbrev pub left_keeping : ℕ → MemDevice → Contents
+left_keeping keep d = left_after_crash (choices_by keep d.log.calls.items) d
 
 -- the next read, write or sync is one of those that fail
 abbrev pub FailsNext : MemDevice → Type 0

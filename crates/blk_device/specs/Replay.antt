@@ -1,5 +1,5 @@
 -- What a crash leaves of the calls that no sync followed, by a choice for each.
-use Rattle.std.specs.Prelude.{ℕ, ◌%◌, Bool, false, List, [], ◌∷◌, ◌++◌, length, take, drop, ◌||◌, unwrap_or, slice_get, if◌then◌else◌}
+use Rattle.std.specs.Prelude.{ℕ, ◌/◌, ◌%◌, ◌==◌, not, Bool, false, List, [], ◌∷◌, ◌++◌, length, take, drop, ◌||◌, unwrap_or, slice_get, if◌then◌else◌}
 use Rattle.blk_device.specs.Calls.{seen_after, settle}
 use Rattle.blk_device.specs.Contents.{Contents, put, same_region}
 use Rattle.blk_device.specs.declared.device.Region.{Region}
@@ -43,3 +43,18 @@ abbrev pub left_of : Call → List Call → Unsynced → Unsynced
 left_of (Wrote r at block) rest choice = if synced_in r rest then Present else choice
 left_of (Doubted r at block) rest choice = if synced_in r rest then Absent else choice
 left_of (Synced r) rest choice = Absent
+
+-- a write, done or failed, that no sync of its region followed
+abbrev pub in_doubt : Call → List Call → Bool
+in_doubt (Wrote r at block) rest = not (synced_in r rest)
+in_doubt (Doubted r at block) rest = not (synced_in r rest)
+in_doubt (Synced r) rest = false
+
+-- the lowest bit tells whether a write stands
+abbrev pub lowest_choice : ℕ → Unsynced
+lowest_choice bits = if bits % 2 == 1 then Present else Absent
+
+-- a choice for each call, the first call first: each bit in turn, from the lowest on, tells of the next write in doubt
+abbrev pub choices_by : ℕ → List Call → List Unsynced
+choices_by bits [] = []
+choices_by bits (call ∷ rest) = if in_doubt call rest then lowest_choice bits ∷ choices_by (bits / 2) rest else Absent ∷ choices_by bits rest

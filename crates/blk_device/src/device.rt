@@ -2,7 +2,7 @@ ghost use Rattle.std.specs.Prelude.{◌≡◌, ◌≤◌, ◌<◌, List, ℕ, Op
 ghost use Rattle.blk_device.specs.declared.device.Region.{Region as GhostRegion};
 ghost use Rattle.blk_device.specs.Causes.{HasCause, one_more};
 ghost use Rattle.blk_device.specs.Contents.{Contents, InDoubt, Holds, Doubts, map_told, put};
-ghost use Rattle.blk_device.specs.Crash.{Follows, NoMore, Elapses, IsDurable};
+ghost use Rattle.blk_device.specs.Crash.{Follows, NoMore, Elapses, IsDurable, KeepsOther};
 
 use byte_fields::Block;
 use thiserror::Error;
@@ -25,13 +25,14 @@ pub trait Device {
     /// What a read gives, where the device tells it.
     ghost content: { Self → Option Contents };
 
-    /// What a crash now may leave.
+    /// The crash states now: each content that a crash now may leave.
     ghost may_hold_now: { Self → Contents → Type 0 };
 
     /// The moment, as a number that doesn't fall.
     ghost clock: { Self → ℕ };
 
-    /// What a crash at some moment from that one on might have left, during a call or between two.
+    /// The crash states since a moment: what a crash at some moment from that one on might have
+    /// left, during a call or between two.
     ghost may_have_held_since: { Self → ℕ → Contents → Type 0 };
 
     /// How often a call has failed. At 2^64 - 1 the count stays there.
@@ -46,6 +47,10 @@ pub trait Device {
     /// The blocks of a region, a partial last block not counted.
     fn size(&self, region: Region) -> u64
         ensures { result ≡ blocks self.now region };
+
+    /// How often a call has failed. The count itself never fails.
+    fn fault_count(&self) -> u64
+        ensures { result ≡ faults self.now };
 
     /// Reads a block. At Failed the bytes of `into` may be any.
     fn read(&mut self, region: Region, at: u64, into: &mut Block) -> Result<(), DeviceFailed>
@@ -70,9 +75,11 @@ pub trait Device {
         ensures cause { HasCause (faults self.old) (faults self.new) result }
         ensures reads { reads self.new ≡ reads self.old };
 
-    /// Makes a region durable: after Ok a crash leaves in it what a read gives.
+    /// Makes a region durable: after Ok a crash leaves in it what a read gives. What a crash may
+    /// leave of the other region stays as it was, whatever the answer.
     fn sync(&mut self, region: Region) -> Result<(), DeviceFailed>
         ensures durable { OnOk result (IsDurable region (content self.old) (may_hold_now self.new)) }
+        ensures other { KeepsOther region (may_hold_now self.old) (may_hold_now self.new) }
         ensures same { content self.new ≡ content self.old }
         ensures crash { NoMore (may_hold_now self.old) (may_hold_now self.new) }
         ensures time { Elapses (clock self.old) (clock self.new) (may_have_held_since self.old) (may_have_held_since self.new) (may_hold_now self.new) }
@@ -80,13 +87,13 @@ pub trait Device {
         ensures cause { HasCause (faults self.old) (faults self.new) result }
         ensures reads { reads self.new ≡ reads self.old };
 
-    /// Since this moment there is no other.
+    /// The crash states since this very moment are those now.
     ghost only_now: { (d : Self) (c : Contents) → may_have_held_since d (clock d) c → may_hold_now d c };
 
-    /// This moment is one of those since an earlier one.
+    /// The crash states now are among those since each earlier moment.
     ghost counts_now: { (d : Self) (t : ℕ) (c : Contents) → t ≤ clock d → may_hold_now d c → may_have_held_since d t c };
 
-    /// What is told is one of what a crash may leave.
+    /// The content, where it is told, is one of the crash states now.
     ghost told_now: { (d : Self) → IfSome (content d) (may_hold_now d) };
 
     /// Each block that is told has 4,096 bytes.

@@ -59,13 +59,6 @@ impl<F: Read + Write + Seek + OpenFile + Drop> FileDevice<F> {
             reads: 0,
         }
     }
-
-    /// How often a call has failed.
-    pub fn fault_count(&self) -> u64
-        ensures { result ≡ ⟦<FileDevice<F> as Device>⟧.faults self.now }
-    {
-        self.faults
-    }
 }
 
 fn seek_to<F: Seek>(file: &mut F, at: u64) -> bool {
@@ -139,6 +132,10 @@ impl<F: Read + Write + Seek + OpenFile + Drop> Device for FileDevice<F> {
             Region::Image => self.image_blocks,
             Region::Redo => self.redo_blocks,
         }
+    }
+
+    fn fault_count(&self) -> u64 {
+        self.faults
     }
 
     fn read(&mut self, region: Region, at: u64, into: &mut Block) -> Result<(), DeviceFailed> {

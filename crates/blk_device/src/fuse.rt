@@ -1,7 +1,7 @@
 ghost use Rattle.std.specs.Prelude.{◌≡◌, ◌<◌, ◌-◌, ◌↔◌, Some, true, false, IsErr, IsTrue, OnErr, OnOk};
 ghost use Rattle.blk_device.specs.Causes.{HasCause, one_more};
 ghost use Rattle.blk_device.specs.Contents.{InDoubt, Holds, Doubts, map_told, put};
-ghost use Rattle.blk_device.specs.Crash.{Follows, NoMore, Elapses, IsDurable, LeavesAny};
+ghost use Rattle.blk_device.specs.Crash.{Follows, NoMore, Elapses, IsDurable, KeepsOther, LeavesAny};
 
 use crate::counted::answer;
 use crate::device::{Device, DeviceFailed, Region};
@@ -55,18 +55,11 @@ impl FuseDevice {
     {
         self.inner
     }
-
-    /// How often a call has failed.
-    pub fn fault_count(&self) -> u64
-        ensures { result ≡ ⟦<FuseDevice as Device>⟧.faults self.now }
-    {
-        self.faults
-    }
 }
 
 impl Device for FuseDevice {
     ghost use Rattle.std.specs.Prelude.{reverse};
-    ghost use Rattle.blk_device.specs.Calls.{held_now, only_held, seen_now, seen_whole};
+    ghost use Rattle.blk_device.specs.Calls.{held_now, only_held, seen_now, seen_whole, LeavesSettled};
     ghost use Rattle.blk_device.specs.Stored.{with_stored, stored_whole};
     ghost use Rattle.blk_device.specs.Fuse.{behind, FailsSoon, PassesOne};
     ghost use Rattle.blk_device.specs.Memory.{has_lost_doubt, size_of};
@@ -96,6 +89,10 @@ impl Device for FuseDevice {
 
     fn size(&self, region: Region) -> u64 {
         self.inner.size(region)
+    }
+
+    fn fault_count(&self) -> u64 {
+        self.faults
     }
 
     /// Fails exactly where no call is left to pass on, or where the device behind fails.
@@ -153,6 +150,8 @@ impl Device for FuseDevice {
     /// Fails where no call is left to pass on, or where the device behind fails.
     fn sync(&mut self, region: Region) -> Result<(), DeviceFailed>
         ensures durable { OnOk result (IsDurable region (Some (seen (behind self.old).log)) (left_now (behind self.new).log)) }
+        ensures settled { OnOk result (LeavesSettled region (seen (behind self.old).log) (left_now (behind self.old).log) (left_now (behind self.new).log)) }
+        ensures other { KeepsOther region (left_now (behind self.old).log) (left_now (behind self.new).log) }
         ensures same { Some (seen (behind self.new).log) ≡ Some (seen (behind self.old).log) }
         ensures crash { NoMore (left_now (behind self.old).log) (left_now (behind self.new).log) }
         ensures time { Elapses (moment (behind self.old).log) (moment (behind self.new).log) (left_since (behind self.old).log) (left_since (behind self.new).log) (left_now (behind self.new).log) }

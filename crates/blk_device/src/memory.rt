@@ -1,7 +1,7 @@
 ghost use Rattle.std.specs.Prelude.{◌≡◌, [], ◌≤◌, ◌↔◌, ◌||◌, ℕ, List, Some, true, false, IsErr, IsTrue, OnErr, OnOk, IfOk, IfSome, Contains, is_ok};
 ghost use Rattle.blk_device.specs.Causes.{HasCause, one_more};
 ghost use Rattle.blk_device.specs.Contents.{InDoubt, Holds, Doubts, map_told, put};
-ghost use Rattle.blk_device.specs.Crash.{Follows, NoMore, Elapses, IsDurable, LeavesAny};
+ghost use Rattle.blk_device.specs.Crash.{Follows, NoMore, Elapses, IsDurable, KeepsOther, LeavesAny};
 
 use crate::counted::answer;
 use crate::device::{Device, DeviceFailed, Region};
@@ -30,7 +30,7 @@ pub struct MemDevice {
 impl MemDevice {
     ghost use Rattle.std.specs.Prelude.{if◌then◌else◌};
     ghost use Rattle.blk_device.specs.Contents.{Contents, same_region};
-    ghost use Rattle.blk_device.specs.Memory.{FailsNext, AskedOnce, calls_asked, failing_calls, has_lost_doubt, holds_block, left_after_crash, reads_of, size_of};
+    ghost use Rattle.blk_device.specs.Memory.{FailsNext, AskedOnce, calls_asked, failing_calls, has_lost_doubt, holds_block, left_after_crash, left_keeping, reads_of, size_of};
     ghost use Rattle.blk_device.specs.Recorded.{Adds, KeepsCounts, KeepsWritten, seen, left_now, moment, left_since};
     ghost use Rattle.blk_device.specs.declared.record.Call.TheVariants.{Wrote};
     ghost use Rattle.blk_device.specs.Stored.{blank, stored, with_stored};
@@ -114,18 +114,28 @@ impl MemDevice {
         self.log.reads_of(at)
     }
 
-    /// How often a call has failed.
-    pub fn fault_count(&self) -> u64
-        ensures { result ≡ ⟦<MemDevice as Device>⟧.faults self.now }
+    /// A device that holds what a crash now may leave of this one, in which all is durable. The
+    /// writes in doubt, done or failed, are those after which no sync of their region answered Ok.
+    /// They are counted in order over both regions, and bit i of `keep`, the lowest being bit 0,
+    /// tells whether the write with index i stands whole; one with index 64 or more is lost. Fails
+    /// for want of memory.
+    pub fn crash(&self, alloc: Global, keep: u64) -> Result<Self, AllocError>
+        ensures content { IfOk result (λ d. ⟦<MemDevice as Device>⟧.content d ≡ Some (left_keeping keep self.now)) }
+        ensures may { ⟦<MemDevice as Device>⟧.may_hold_now self.now (left_keeping keep self.now) }
+        ensures quiet { IfOk result (λ d. (c : Contents) → ⟦<MemDevice as Device>⟧.may_hold_now d c → c ≡ left_keeping keep self.now) }
+        ensures sizes { IfOk result (λ d. ⟦<MemDevice as Device>⟧.blocks d ≡ ⟦<MemDevice as Device>⟧.blocks self.now) }
+        ensures counts { IfOk result (λ d. (⟦<MemDevice as Device>⟧.faults d ≡ 0) × (⟦<MemDevice as Device>⟧.reads d ≡ 0)) }
+        ensures calls { IfOk result (λ d. (calls_asked d ≡ 0) × (failing_calls d ≡ [])) }
+        ensures kept { IfOk result (λ d. has_lost_doubt d ≡ false) }
     {
-        self.faults
+        let choices = self.log.choices_keeping(alloc, keep)?;
+        self.crash_by(alloc, &choices)
     }
 
-    /// A device that holds what a crash now may leave of this one. The calls asked of this one are
-    /// taken in order, the choices in turn: the write of the i-th call, done or failed, has the
-    /// i-th choice, where no sync of its region followed; with no choice it is absent. In the new
-    /// device all is durable. Fails for want of memory.
-    pub fn crash(&self, alloc: Global, choices: &[Unsynced]) -> Result<Self, AllocError>
+    /// The same by a choice for each call. The calls asked of this device are taken in order, the
+    /// choices in turn: the write of the i-th call, done or failed, has the i-th choice, where no
+    /// sync of its region followed; with no choice it is absent. Fails for want of memory.
+    pub fn crash_by(&self, alloc: Global, choices: &[Unsynced]) -> Result<Self, AllocError>
         ensures content { IfOk result (λ d. ⟦<MemDevice as Device>⟧.content d ≡ Some (left_after_crash choices.now self.now)) }
         ensures may { ⟦<MemDevice as Device>⟧.may_hold_now self.now (left_after_crash choices.now self.now) }
         ensures quiet { IfOk result (λ d. (c : Contents) → ⟦<MemDevice as Device>⟧.may_hold_now d c → c ≡ left_after_crash choices.now self.now) }
@@ -198,7 +208,7 @@ impl MemDevice {
 
 impl Device for MemDevice {
     ghost use Rattle.std.specs.Prelude.{reverse};
-    ghost use Rattle.blk_device.specs.Calls.{held_now, only_held, seen_now, seen_whole};
+    ghost use Rattle.blk_device.specs.Calls.{held_now, only_held, seen_now, seen_whole, LeavesSettled};
     ghost use Rattle.blk_device.specs.Memory.{FailsNext, AskedOnce, TalliesRead, TalliesWrite, SameTally, has_lost_doubt, size_of};
     ghost use Rattle.blk_device.specs.Recorded.{seen, left_now, moment, left_since};
     ghost use Rattle.blk_device.specs.Stored.{with_stored, stored_whole};
@@ -230,6 +240,10 @@ impl Device for MemDevice {
             Region::Image => self.image,
             Region::Redo => self.redo,
         }
+    }
+
+    fn fault_count(&self) -> u64 {
+        self.faults
     }
 
     /// Fails exactly where this call's number is one of those that fail.
@@ -284,9 +298,12 @@ impl Device for MemDevice {
     }
 
     /// Fails where this call's number is one of those that fail, and where memory is refused. A
-    /// sync that fails leaves each block in the doubt that it was in.
+    /// sync that fails leaves each block in the doubt that it was in, and any sync each block of
+    /// the other region.
     fn sync(&mut self, region: Region) -> Result<(), DeviceFailed>
         ensures durable { OnOk result (IsDurable region (Some (seen self.old.log)) (left_now self.new.log)) }
+        ensures settled { OnOk result (LeavesSettled region (seen self.old.log) (left_now self.old.log) (left_now self.new.log)) }
+        ensures other { KeepsOther region (left_now self.old.log) (left_now self.new.log) }
         ensures same { Some (seen self.new.log) ≡ Some (seen self.old.log) }
         ensures crash { NoMore (left_now self.old.log) (left_now self.new.log) }
         ensures time { Elapses (moment self.old.log) (moment self.new.log) (left_since self.old.log) (left_since self.new.log) (left_now self.new.log) }

@@ -7,7 +7,7 @@ ghost use Rattle.blk_device.specs.declared.record.Call.TheVariants.{Wrote, Doubt
 
 use crate::device::Region;
 use crate::tally::{Tally, block_or_zeros};
-use crate::unsynced::{Unsynced, choice_at, outcome_of, with_outcome};
+use crate::unsynced::{Unsynced, choice_at, next_choice, outcome_of, with_outcome};
 use byte_fields::Block;
 use std::alloc::{AllocError, Global};
 use std::collections::BTreeMap;
@@ -35,7 +35,7 @@ pub struct Record {
 impl Record {
     ghost use Rattle.blk_device.specs.Recorded.{Adds, Stays, KeepsWritten, CountsRead, KeepsCounts, keeps_block, reads_kept, seen, left_now};
     ghost use Rattle.blk_device.specs.Contents.{Contents, put};
-    ghost use Rattle.blk_device.specs.Replay.{replayed, left_by, outcome};
+    ghost use Rattle.blk_device.specs.Replay.{replayed, choices_by, left_by, outcome};
     ghost use Rattle.blk_device.specs.declared.device.Region.{Region as GhostRegion};
     ghost use Rattle.blk_device.specs.Tally.{has};
 
@@ -193,6 +193,21 @@ impl Record {
         ensures quiet { IsTrue result → (c : Contents) → left_now self.new c → c ≡ seen self.new }
     {
         self.sync(Region::Image) && self.sync(Region::Redo)
+    }
+
+    /// A choice for each call, by the bits of a number: each bit in turn, from the lowest on, tells
+    /// whether the next write in doubt stands.
+    pub fn choices_keeping(&self, alloc: Global, keep: u64) -> Result<Vec<Unsynced>, AllocError>
+        ensures { IfOk result (λ choices. choices.items ≡ choices_by keep self.now.calls.items) }
+    {
+        let mut choices = Vec::new(alloc);
+        let mut rest: &[Call] = &self.calls;
+        let mut bits = keep;
+        while let Some((call, later)) = rest.split_first() {
+            choices.push(next_choice(call, later, &mut bits))?;
+            rest = later;
+        }
+        Ok(choices)
     }
 
     /// What a crash now leaves, of each call that no sync followed as the choices say, in turn.

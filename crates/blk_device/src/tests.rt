@@ -105,7 +105,7 @@ fn a_fuse_passes_two_calls_and_fails_the_rest(rt: HostRuntime) -> Result<(), Fai
     let mut device = fuse.into_inner();
     assert_eq!(rt; ends_at(&mut device, Region::Image, 0), Some((1, 1)));
     assert!(rt; !device.has_lost_doubt());
-    let mut left = device.crash(alloc, &[Unsynced::Present])?;
+    let mut left = device.crash_by(alloc, &[Unsynced::Present])?;
     assert_eq!(rt; ends_at(&mut left, Region::Image, 0), Some((2, 2)));
     Ok(())
 }
@@ -117,7 +117,7 @@ fn left_by(alloc: Global, choices: &[Unsynced]) -> Result<[Option<(u8, u8)>; 3],
     sync_of(&mut device, Region::Image);
     write_at(&mut device, Region::Image, 1, 2);
     write_at(&mut device, Region::Redo, 1, 3);
-    let mut left = device.crash(alloc, choices)?;
+    let mut left = device.crash_by(alloc, choices)?;
     let synced = ends_at(&mut left, Region::Image, 0);
     let unsynced = ends_at(&mut left, Region::Image, 1);
     let failed = ends_at(&mut left, Region::Redo, 1);

@@ -1,7 +1,7 @@
 // What a crash leaves of writes that no sync followed.
-ghost use Rattle.std.specs.Prelude.{◌≡◌, ◌≤◌, ◌∷◌, [], ◌++◌, length, take, drop};
+ghost use Rattle.std.specs.Prelude.{◌≡◌, ◌≤◌, ◌/◌, ◌∷◌, [], ◌++◌, length, take, drop};
 ghost use Rattle.blk_device.specs.Contents.{same_region};
-ghost use Rattle.blk_device.specs.Replay.{choice_of, outcome, synced_in, left_of};
+ghost use Rattle.blk_device.specs.Replay.{choice_of, choices_by, in_doubt, lowest_choice, outcome, synced_in, left_of};
 ghost use Rattle.blk_device.specs.declared.unsynced.Unsynced.TheVariants.{Torn};
 
 use crate::device::Region;
@@ -94,5 +94,40 @@ pub fn outcome_of(call: &Call, rest: &[Call], choice: Unsynced) -> Unsynced
         Call::Doubted(region, _, _) if is_synced_in(*region, rest) => Unsynced::Absent,
         Call::Synced(_) => Unsynced::Absent,
         _ => choice,
+    }
+}
+
+// Whether the call is a write, done or failed, that no sync of its region followed.
+fn is_in_doubt(call: &Call, rest: &[Call]) -> bool
+    ensures { result ≡ in_doubt call.now rest.now }
+{
+    match call {
+        Call::Wrote(region, _, _) | Call::Doubted(region, _, _) => !is_synced_in(*region, rest),
+        Call::Synced(_) => false,
+    }
+}
+
+// Takes the lowest bit away, and tells what it says of a write.
+fn take_bit(bits: &mut u64) -> Unsynced
+    ensures choice { result ≡ lowest_choice bits.old }
+    ensures rest { bits.new ≡ bits.old / 2 }
+{
+    let is_set = *bits % 2 == 1;
+    *bits /= 2;
+    if is_set {
+        Unsynced::Present
+    } else {
+        Unsynced::Absent
+    }
+}
+
+/// The choice for a call that these followed, by the lowest of the bits that are left.
+pub fn next_choice(call: &Call, rest: &[Call], bits: &mut u64) -> Unsynced
+    ensures { result ∷ choices_by bits.new rest.now ≡ choices_by bits.old (call.now ∷ rest.now) }
+{
+    if is_in_doubt(call, rest) {
+        take_bit(bits)
+    } else {
+        Unsynced::Absent
     }
 }

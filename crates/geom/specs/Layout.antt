@@ -1,6 +1,6 @@
 -- What a superblock states of its image: how its groups lie, where the log is, and which inodes it names.
 -- The type `Geometry` isn't named here, so that a fact about a superblock's bytes needs no such value.
-use Rattle.std.specs.Prelude.{ℕ, ◌+◌, ◌*◌, ◌/◌, ◌%◌, ◌^◌, ◌==◌, Bool, if◌then◌else◌, List, [], ◌∷◌, take, drop, Option, Some, None}
+use Rattle.std.specs.Prelude.{ℕ, ◌+◌, ◌*◌, ◌/◌, ◌%◌, ◌^◌, ◌==◌, Bool, if◌then◌else◌, List, [], ◌∷◌, take, drop, Option, option_map, Some, None}
 use Rattle.std.specs.Int.RustNames.{bit_and}
 use Rattle.byte_fields.specs.Fields.{field}
 use Rattle.geom.specs.declared.geometry.Run3.{Run3}
@@ -37,6 +37,14 @@ fs_block_of at g b = g * 2 ^ at.agblklog + b
 -- the group and block of a file system block number, where the image has that block
 abbrev pub split_of : Layout → ℕ → Option (ℕ × ℕ)
 split_of at n = split at.agblocks at.agcount at.dblocks at.agblklog n
+
+-- the device block of a group's block, where there is one
+abbrev pub device_at : Layout → Option (ℕ × ℕ) → Option ℕ
+device_at at place = option_map (λ p. device_block_of at p.0 p.1) place
+
+-- the number of the inode in this slot of a group's block: the block's number above the three bits of the slot
+abbrev pub inode_at : Layout → ℕ → ℕ → ℕ → ℕ
+inode_at at g b slot = fs_block_of at g b * 8 + slot
 
 -- where the log lies: none where it is on another device
 unfoldable pub log_of : Counts → Option Run3

@@ -238,7 +238,7 @@ fn left_by(
     let deeds = [Deed::Change(5, 2), Deed::Change(3, 1), Deed::Commit];
     let played = outcome_of(alloc, calls, &deeds)?;
     let is_done = played.fault.is_none();
-    let mut left = played.dev.into_inner().crash(alloc, choices)?;
+    let mut left = played.dev.into_inner().crash_by(alloc, choices)?;
     if recover(&mut left).is_err() {
         return Ok((None, is_done));
     }

@@ -92,7 +92,7 @@ fn is_whole(
     is_done: bool,
     choices: &[Unsynced],
 ) -> Result<bool, AllocError> {
-    let mut left = stopped.crash(alloc, choices)?;
+    let mut left = stopped.crash_by(alloc, choices)?;
     Ok(is_recovered(&mut left, batch, is_done))
 }
 
@@ -150,7 +150,7 @@ fn a_commit_makes_two_calls_a_block_and_seven(rt: HostRuntime) -> Result<(), Fai
 fn waiting_device(alloc: Global, batch: &[(u64, Block)]) -> Result<MemDevice, AllocError> {
     let mut fuse = FuseDevice::new(new_device(alloc), batch.len() as u64 + 4);
     commit(&mut fuse, batch);
-    fuse.into_inner().crash(alloc, &[])
+    fuse.into_inner().crash_by(alloc, &[])
 }
 
 // Whether a recovery that stops after so many calls, and a crash then, leave the batch to the next.
@@ -162,7 +162,7 @@ fn is_kept(
 ) -> Result<bool, AllocError> {
     let mut fuse = FuseDevice::new(waiting_device(alloc, batch)?, calls);
     let is_stopped = recover(&mut fuse) == Err(RedoFault::Failed);
-    let mut left = fuse.into_inner().crash(alloc, choices)?;
+    let mut left = fuse.into_inner().crash_by(alloc, choices)?;
     Ok(is_stopped && is_recovered(&mut left, batch, true))
 }
 
