@@ -1,0 +1,13 @@
+mod Again
+mod Chunks
+mod ClaimLists
+mod Claims
+mod Cores
+mod EditSteps
+mod Frames
+mod GroupParts
+mod Groups
+mod Opening
+mod Pools
+mod Trees
+mod Untouched

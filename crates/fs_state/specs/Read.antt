@@ -1,0 +1,92 @@
+-- The state that an image stands for, with what is kept in memory.
+use Rattle.std.specs.Prelude.{◌≡◌, ℕ, ◌/◌, ◌<◌, ◌==◌, Bool, true, false, List, Option, None, Some, Result, Ok, Err, is_ok}
+use Rattle.std.specs.List.{list_any}
+use Rattle.geom.specs.Layout.{Layout, split_of}
+use Rattle.sblock.specs.declared.block.BlockFault.{BlockFault}
+use Rattle.sblock.specs.declared.kind.Kind.{Kind}
+use Rattle.fs_model.specs.declared.fault.Counter.{Counter}
+use Rattle.fs_model.specs.declared.fault.Counter.TheVariants as counters
+use Rattle.tree_defs.specs.Sites.{site_of, group_blocks}
+use Rattle.tree_defs.specs.Tree.{read_tree}
+use Rattle.dinode_core.specs.declared.mapping.Fork.{Fork}
+use Rattle.dinode_core.specs.declared.mapping.ForkFault.{ForkFault}
+use Rattle.fs_state.specs.ClaimList.{claims_in}
+use Rattle.fs_state.specs.Inodes.{bytes_at, core_in, fork_by}
+use Rattle.fs_state.specs.Kinds.{RecOf, form_of, Image, Heads, heads_of, root_of, level_of}
+use Rattle.fs_state.specs.State.{Reading, Readable, Unreadable, Group, CoreState, ForkList, State, Bad, Kept}
+
+abbrev pub Read : Type 0 → Type 0
+Read R = Result (List R × List ℕ) (ℕ × BlockFault)
+
+-- what a walk from the heads' root reads
+unfoldable pub walked : Layout → Image → ℕ → (k : Kind) → Read (RecOf k)
+walked at image g k =
+    read_tree (form_of k) (site_of at g) (group_blocks (site_of at g) image) (root_of (heads_of at image g) k) (level_of (heads_of at image g) k)
+
+unfoldable pub claimed : Layout → Image → ℕ → Kind → List ℕ
+claimed at image g k =
+    claims_in (form_of k) (site_of at g) (group_blocks (site_of at g) image) (root_of (heads_of at image g) k) (level_of (heads_of at image g) k)
+
+-- the fault and the claims of the opening stand, where there are some
+abbrev pub known : {R : Type 0} → Option Bad → Read R → List ℕ → Reading R
+known (Some bad) read claims = Unreadable bad.block bad.fault bad.claims
+known None (Ok read) claims = Readable read.0 read.1
+known None (Err fault) claims = Unreadable fault.0 fault.1 claims
+
+unfoldable pub reading_of : Layout → Image → Kept → ℕ → (k : Kind) → Reading (RecOf k)
+reading_of at image kept g k = known (kept.bad g k) (walked at image g k) (claimed at image g k)
+
+abbrev pub counter_in : Heads → Counter → ℕ
+counter_in h counters.Count = h.agi.count
+counter_in h counters.Freecount = h.agi.freecount
+counter_in h counters.Iblocks = h.agi.iblocks
+counter_in h counters.Fblocks = h.agi.fblocks
+counter_in h counters.RmapBlocks = h.agf.rmap_blocks
+counter_in h counters.Freeblks = h.agf.freeblks
+counter_in h counters.Longest = h.agf.longest
+counter_in h counters.Btreeblks = h.agf.btreeblks
+counter_in h counters.RefcountBlocks = h.agf.refcount_blocks
+
+unfoldable pub group_of : Layout → Image → Kept → ℕ → Group
+group_of at image kept g = record {
+  free_list = (heads_of at image g).list;
+  counters = counter_in (heads_of at image g);
+  tree = λ k. record { reading = reading_of at image kept g k; trust = kept.trust g k };
+  reserve = kept.reserve g;
+  limbo = kept.limbo g;
+}
+
+abbrev pub reserved : Kept → Option (ℕ × ℕ) → Bool
+reserved kept None = true
+reserved kept (Some p) = list_any (λ o. o.block == p.1) (kept.reserve p.0)
+
+abbrev pub core_or : Layout → ℕ → Bool → Option (List ℕ) → Option CoreState
+core_or at ino false (Some bytes) = Some (core_in at ino bytes)
+core_or at ino _ _ = None
+
+-- the bytes of an inode that has a place
+abbrev pub inode_bytes : Layout → Image → ℕ → Option (List ℕ)
+inode_bytes at image ino = bytes_at at image ino (split_of at (ino / 8))
+
+unfoldable pub core_of_ino : Layout → Image → Kept → ℕ → Option CoreState
+core_of_ino at image kept ino = core_or at ino (reserved kept (split_of at (ino / 8))) (inode_bytes at image ino)
+
+-- whatever is in a reserve
+unfoldable pub raw_of : Layout → Image → ℕ → Option CoreState
+raw_of at image ino = core_or at ino false (inode_bytes at image ino)
+
+unfoldable pub fork_of_ino : Layout → Image → Kept → ℕ → Fork → Result ForkList ForkFault
+fork_of_ino at image kept ino f = fork_by at image ino f (core_of_ino at image kept ino) (inode_bytes at image ino)
+
+abbrev pub state_of : Layout → Image → Kept → State
+state_of at image kept = record {
+  geometry = at;
+  group = group_of at image kept;
+  core = core_of_ino at image kept;
+  fork = fork_of_ino at image kept;
+  chains = kept.chains;
+}
+
+-- each tree that can't be read is kept as such
+abbrev pub KeepsBad : Layout → Image → Kept → Type 0
+KeepsBad at image kept = (g : ℕ) (k : Kind) → g < at.agcount → kept.bad g k ≡ None → is_ok (walked at image g k) ≡ true

@@ -1,0 +1,9 @@
+//! What an image of an XFS file system stands for: the plain state, who claims which block of it, and
+//! what an event that writes some blocks leaves as it was.
+#![tactic(auto)]
+
+mod intent;
+mod laws;
+
+pub use intent::{Intent, IntentKind};
+pub use laws::{claims_law, edit_law, frame_law, group_law, opening_law, places_law};
