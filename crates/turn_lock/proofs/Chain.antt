@@ -8,6 +8,7 @@ use Rattle.turn_lock.specs.Lists.{Below, Distinct}
 use Rattle.turn_lock.specs.Views.{Agrees, Extends, IsIdle, Turned, after_turn, kept_now, own_entries}
 use Rattle.turn_lock.specs.Steps.{Draws, Takes, Publishes, Serves, with_ticket, taking, telling, passed}
 use Rattle.turn_lock.specs.declared.view.View.{View}
+use Rattle.turn_lock.specs.declared.recorded.TheConstants.{ACTORS}
 use Rattle.turn_lock.proofs.Positions.{begins_length, below_weaken, below_new, distinct_new, entries_turned}
 
 head_value : {T : Type 0} → T → List (ℕ × Maybe T) → T
@@ -23,7 +24,7 @@ module _ {T E O K : Type 0} (journal : T → List E) (origin : T → O) (kept : 
     (drew : Draws m0 n m1) (took : Takes journal origin kept m1 m2) (has : m2.1 ≡ (0, Just value) ∷ []) where
   is_value : took.0 ≡ value
   unfolding head_value
-  is_value = sym (ap (λ (m : Me (Maybe T) (View T E O K)). head_value value m.1) took.2) ∙ ap (head_value value) has
+  is_value = sym (ap (λ (m : Me (Maybe T) (View T E O K)). head_value value m.1) took.3) ∙ ap (head_value value) has
 
   pub agreed : Agrees journal origin kept value m0.0
   agreed =
@@ -31,8 +32,13 @@ module _ {T E O K : Type 0} (journal : T → List E) (origin : T → O) (kept : 
       let b : Agrees journal origin kept took.0 m0.0 = record { seen = a.seen; kept_is = a.kept_is; origin_is = a.origin_is } in
       subst (λ x. Agrees journal origin kept x m0.0) is_value b
 
+  pub saw_all : length m0.0.kept ≡ ACTORS → m0.0.seen ≡ journal value
+  saw_all all =
+      let a : length m0.0.kept ≡ ACTORS → m0.0.seen ≡ journal took.0 = subst (λ v. length v.kept ≡ ACTORS → v.seen ≡ journal took.0) (ap (λ m. m.0) drew.2) took.2 in
+      a all ∙ ap (λ x. journal x) is_value
+
   taken : m2.0 ≡ taking (with_ticket m0.0 drew.0) value
-  taken = ap (λ m. m.0) took.2 ∙ (λ i. taking (drew.2 i).0 (is_value i))
+  taken = ap (λ m. m.0) took.3 ∙ (λ i. taking (drew.2 i).0 (is_value i))
 
   module _ (y : T) (m3 : Me (Maybe T) (View T E O K)) (out : m3 ≡ (m2.0, (0, Nothing) ∷ [])) where
     now : m3.0 ≡ taking (with_ticket m0.0 drew.0) value
@@ -78,6 +84,7 @@ module _ {T E O K : Type 0} (journal : T → List E) (origin : T → O) (kept : 
           pub turned : Turned journal origin kept m0.0 value y m6.0
           turned = record {
             agrees = agreed;
+            whole = saw_all;
             extends = ext;
             view = ends;
             entries = ap (λ v. own_entries v) ends ∙ entries_turned m0.0.seen (journal value) (journal y) m0.0.own agreed.seen within ext.longer;

@@ -1,7 +1,7 @@
 -- Prefixes, positions in a journal, and the entries at them.
 use Rattle.std.proofs.Common.{◌≡◌, ℕ, ◌+◌, ◌-◌, ◌≤◌, ◌<◌, zero, suc, List, [], ◌∷◌, ◌++◌, refl, sym, ap, ◌∙◌, subst, inl, inr, arith, length, append_assoc, zero-add, lt_of_not-le}
 use Rattle.std.specs.Prelude.{◌⊎◌}
-use Rattle.std.proofs.lemmas.List.{length-append}
+use Rattle.std.proofs.lemmas.List.{append-nil, length-append}
 use native.Mathlib.Decide.{dec_le}
 use mathlib.Core.Option.{some, some-injective, some-ne-none}
 use lib.ListN.{get_elem?}
@@ -11,6 +11,10 @@ use Rattle.turn_lock.proofs.Sets.{begins_same, begins_trans, within}
 module _ {E : Type 0} where
   pub begins_length : (xs ys : List E) → Begins xs ys → length xs ≤ length ys
   begins_length xs ys b = let e : length (xs ++ b.0) ≡ length xs + length b.0 = length-append xs b.0 in let f : length (xs ++ b.0) ≡ length ys = ap (λ l. length l) b.1 in omega (arith, e, f)
+
+  no_rest : (xs r : List E) → length (xs ++ r) ≤ length xs → xs ++ r ≡ xs
+  no_rest xs [] le = append-nil xs
+  no_rest xs (e ∷ r) le = let l : length (xs ++ e ∷ r) ≡ length xs + length (e ∷ r) = length-append xs (e ∷ r) in absurd (omega (arith, l, le))
 
   same_head : (x y : E) (xs ys : List E) → x ∷ xs ≡ y ∷ ys → x ≡ y
   same_head x y xs ys e = cc
@@ -27,6 +31,10 @@ module _ {E : Type 0} where
       let h = begins_nested xs ys zs (a.0, same_rest x z (xs ++ a.0) zs a.1) (b.0, same_rest y z (ys ++ b.0) zs b.1) (omega (arith, le)) in
       let e : x ≡ y = same_head x z (xs ++ a.0) zs a.1 ∙ sym (same_head y z (ys ++ b.0) zs b.1) in
       (h.0, ap (λ l. x ∷ l) h.1 ∙ ap (λ w. w ∷ ys) e)
+
+  -- a prefix that isn't shorter is the whole
+  pub begins_whole : (xs ys : List E) → Begins xs ys → length ys ≤ length xs → xs ≡ ys
+  begins_whole xs ys b le = sym (no_rest xs b.0 (subst (λ l. length l ≤ length xs) (sym b.1) le)) ∙ b.1
 
   get_append : (xs r : List E) (p : ℕ) → p < length xs → get_elem? (xs ++ r) p ≡ get_elem? xs p
   get_append [] r p lt = absurd (omega (arith, lt))

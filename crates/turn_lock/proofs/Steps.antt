@@ -6,13 +6,14 @@ use mathlib.Core.Option.{none, some, some-injective, some-ne-none}
 use lib.ListN.{get_elem?}
 use Rattle.atomic_table.specs.Table.{State, Me, opening, Allows, Splits, Joins, keeps, takes, gives, stepped}
 use Rattle.atomic_table.proofs.Lists.{at_set, set_again, set_here, set_else, one_turn, at_longer}
-use Rattle.turn_lock.specs.Lists.{Begins, Has, Owns, Apart, Below, total, from_up, longer}
+use Rattle.turn_lock.specs.Lists.{Begins, Has, Owns, Apart, Below, total, from_up, below, longer}
 use Rattle.turn_lock.specs.Views.{Agrees, Extends, kept_now, kept_for, first_view, kept_below, kept_from, joining, settled, spent}
 use Rattle.turn_lock.specs.Rule.{LockHolds, Sound, one}
 use Rattle.turn_lock.specs.Steps.{number, with_ticket, taking, passed, telling, appended_to, Draws, Looks, Publishes, Serves, Settles}
 use Rattle.turn_lock.specs.declared.view.View.{View}
+use Rattle.turn_lock.specs.declared.recorded.TheConstants.{ACTORS}
 use Rattle.turn_lock.proofs.Sets.{within, all_set, pairs_set, total_set, total_le, next_mod, at_map_back, begins_same, begins_trans, total_snoc, below_has, above_has, cut_length, has_append, all_snoc, pairs_snoc, all_set_two, pairs_set_two, total_at}
-use Rattle.turn_lock.proofs.Positions.{begins_length, nested, longer_begins, longer_length, owns_append, distinct_append, below_weaken, below_append, distinct_new, below_new, from_up_range}
+use Rattle.turn_lock.proofs.Positions.{begins_length, begins_whole, nested, longer_begins, longer_length, owns_append, distinct_append, below_weaken, below_append, distinct_new, below_new, from_up_range}
 use Rattle.std.proofs.lemmas.List.{set-get_or, length-map, length-append}
 use native.Mathlib.Decide.{ℕ_discrete}
 
@@ -23,7 +24,7 @@ just_nothing : {A : Type 0} (a : A) (m : Maybe A) → m ≡ Nothing → m ≡ Ju
 just_nothing a m e f = let g : Nothing ≡ Just a = sym e ∙ f in cc
 
 module _ {T E O K : Type 0} (journal : T → List E) (origin : T → O) (kept : T → ℕ → K) where
-  few : (s : State (Maybe T) (View T E O K)) → (h : LockHolds journal origin kept s) → h.drawn ≤ h.served + 17
+  few : (s : State (Maybe T) (View T E O K)) → (h : LockHolds journal origin kept s) → h.drawn ≤ h.served + ACTORS
   few s h = let a = total_le (λ v. one v.ticket) (λ v. length v.kept) s.views h.each in let b = h.count in let c = h.actors in omega (arith, a, b, c)
 
   -- a telling view, in a list where another view changed
@@ -53,6 +54,33 @@ module _ {T E O K : Type 0} (journal : T → List E) (origin : T → O) (kept : 
         (λ j u ne there. ((λ p a b. h.separate id j v u (λ e. ne (sym e)) at there p (sub p a) b), (λ p b a. h.separate j id u v ne there at p b (sub p a))))
         (λ i j u q _ _ ne a b. h.separate i j u q ne a b)
 
+    -- where the view has seen the same, and has an actor if it had one
+    whole_kept : (0 < length v.kept → 0 < length w.kept) → w.seen ≡ v.seen → (i : ℕ) × (u : View T E O K) × (get_elem? (slice_set s.views id w) i ≡ some u) × (0 < length u.kept) × (u.seen ≡ journal h.current)
+    whole_kept more same =
+        let a = h.whole in elim (ℕ_discrete a.0 id) [
+          | yes e ↦
+              let is : v ≡ a.1 = some-injective v a.1 (sym at ∙ (ap (get_elem? s.views) (sym e) ∙ a.2)) in
+              (id, w, set_here s.views id w (within s.views id v at), more (subst (λ z. 0 < length z.kept) (sym is) a.3), same ∙ (ap (λ z. z.seen) is ∙ a.4))
+          | no ne ↦ (a.0, a.1, set_else s.views id a.0 w ne ∙ a.2, a.3, a.4)
+        ]
+
+    -- a view that speaks for all actors has seen the whole journal
+    all_seen : length v.kept ≡ ACTORS → v.seen ≡ journal h.current
+    all_seen all =
+        let a = h.whole in elim (ℕ_discrete a.0 id) [
+          | yes e ↦
+              let is : v ≡ a.1 = some-injective v a.1 (sym at ∙ (ap (get_elem? s.views) (sym e) ∙ a.2)) in
+              ap (λ z. z.seen) is ∙ a.4
+          | no ne ↦
+              let f : View T E O K → ℕ = λ v. length v.kept in
+              let z : View T E O K = spent in
+              let d : total f (slice_set s.views id z) + length v.kept ≡ total f s.views + 0 = total_set f s.views id v z at in
+              let b : length a.1.kept ≤ total f (slice_set s.views id z) = total_at f (slice_set s.views id z) a.0 a.1 (set_else s.views id a.0 z ne ∙ a.2) in
+              let c = h.actors in
+              let p = a.3 in
+              absurd (omega (arith, d, b, c, p, all))
+        ]
+
     sound_kept : Sound w.own w.seen w.other → (i : ℕ) (u : View T E O K) → get_elem? (slice_set s.views id w) i ≡ some u → Sound u.own u.seen u.other
     sound_kept here = all_set (λ i u. Sound u.own u.seen u.other) s.views id w here (λ j u ne. h.sound j u)
 
@@ -62,7 +90,7 @@ module _ {T E O K : Type 0} (journal : T → List E) (origin : T → O) (kept : 
     count_kept : w.ticket ≡ v.ticket → h.drawn ≡ h.served + total (λ v. one v.ticket) (slice_set s.views id w)
     count_kept same = let c = h.count in let f : View T E O K → ℕ = λ v. one v.ticket in let e : total f (slice_set s.views id w) + one v.ticket ≡ total f s.views + one w.ticket = total_set f s.views id v w at in let z : one w.ticket ≡ one v.ticket = ap one same in omega (arith, c, e, z)
 
-    actors_kept : length w.kept ≡ length v.kept → total (λ v. length v.kept) (slice_set s.views id w) ≡ 17
+    actors_kept : length w.kept ≡ length v.kept → total (λ v. length v.kept) (slice_set s.views id w) ≡ ACTORS
     actors_kept same = let a = h.actors in let f : View T E O K → ℕ = λ v. length v.kept in let e : total f (slice_set s.views id w) + length v.kept ≡ total f s.views + length w.kept = total_set f s.views id v w at in omega (arith, a, e, same)
 
     -- no other view has the ticket that is served
@@ -93,6 +121,7 @@ module _ {T E O K : Type 0} (journal : T → List E) (origin : T → O) (kept : 
           each = all_set (λ i u. one u.ticket ≤ length u.kept) s.views id w speaks (λ j u ne. h.each j u);
           apart = apart_kept s h id v w at (λ a k x. (k, x));
           agrees = all_set (λ i u. Agrees journal origin kept h.current u) s.views id w (let g = h.agrees id v at in record { seen = g.seen; kept_is = g.kept_is; origin_is = g.origin_is }) (λ j u ne. h.agrees j u);
+          whole = whole_kept s h id v w at (λ k. k) refl;
           sound = sound_kept s h id v w at (h.sound id v at);
           separate = separate_kept s h id v w at (λ p o. o);
           told = all_set (λ i u. (x : T) → u.told ≡ Just x → (x ≡ h.current) × (u.ticket ≡ Just h.served) × (s.homes ≡ none ∷ [])) s.views id w (λ x e. absurd (just_nothing x v.told quiet e)) (λ j u ne. h.told j u);
@@ -144,6 +173,7 @@ module _ {T E O K : Type 0} (journal : T → List E) (origin : T → O) (kept : 
             each = all_set (λ i u. one u.ticket ≤ length u.kept) s.views id w (h.each id v at) (λ j u ne. h.each j u);
             apart = apart_kept s h id v w at (λ a k x. (k, x));
             agrees = all_set (λ i u. Agrees journal origin kept h.current u) s.views id w (record { seen = g.seen; kept_is = g.kept_is; origin_is = g.origin_is }) (λ j u ne. h.agrees j u);
+            whole = whole_kept s h id v w at (λ k. k) refl;
             sound = sound_kept s h id v w at (h.sound id v at);
             separate = separate_kept s h id v w at (λ p o. o);
             told = all_set (λ i u. (x : T) → u.told ≡ Just x → (x ≡ h.current) × (u.ticket ≡ Just h.served) × (slice_set s.homes 0 none ≡ none ∷ [])) s.views id w
@@ -151,7 +181,7 @@ module _ {T E O K : Type 0} (journal : T → List E) (origin : T → O) (kept : 
                 (λ j u ne there x e. absurd (alone s h id v w at mine j u ne there (h.told j u there x e).1));
             home = inr (gone, (id, w, set_here s.views id w (within s.views id v at), refl, mine));
           },
-          inl (is, (h.current, g, refl)),
+          inl (is, (h.current, g, all_seen s h id v w at, refl)),
         )
   ]
 
@@ -204,6 +234,7 @@ module _ {T E O K : Type 0} (journal : T → List E) (origin : T → O) (kept : 
               kept_is = λ a k x. ext.others a (λ l z. h.apart j id u v a k l ne there at x z) ∙ (ap (λ z. kept z a) q.0 ∙ f.kept_is a k x);
               origin_is = λ o e. ext.same ∙ (ap origin q.0 ∙ f.origin_is o e);
             });
+        whole = (id, w, set_here s.views id w (within s.views id v at), (let t : one v.ticket ≡ 1 = ap one q.1 in let b = h.each id v at in omega (arith, t, b, long)), refl);
         sound = sound_kept s h id v w at (subst (λ ps. Sound ps (journal y) v.other) (sym own_is) ends);
         separate = pairs_set (λ u q. Apart u.own q.own) s.views id w (λ j u ne there. (alone_in j u ne there, (λ k b a. alone_in j u ne there k a b))) (λ i j u q _ _ ne a b. h.separate i j u q ne a b);
         told = all_set (λ i u. (x : T) → u.told ≡ Just x → (x ≡ y) × (u.ticket ≡ Just h.served) × (s.homes ≡ none ∷ [])) s.views id w
@@ -235,6 +266,7 @@ module _ {T E O K : Type 0} (journal : T → List E) (origin : T → O) (kept : 
           each = all_set (λ i u. one u.ticket ≤ length u.kept) s.views id w (omega arith) (λ j u ne. h.each j u);
           apart = apart_kept s h id v w at (λ a k x. (k, x));
           agrees = all_set (λ i u. Agrees journal origin kept h.current u) s.views id w (record { seen = g.seen; kept_is = g.kept_is; origin_is = g.origin_is }) (λ j u ne. h.agrees j u);
+          whole = whole_kept s h id v w at (λ k. k) refl;
           sound = sound_kept s h id v w at (h.sound id v at);
           separate = separate_kept s h id v w at (λ p o. o);
           told = all_set (λ i u. (x : T) → u.told ≡ Just x → (x ≡ h.current) × (u.ticket ≡ Just (h.served + 1)) × (slice_set s.homes 0 (some (Just y)) ≡ none ∷ [])) s.views id w
@@ -271,6 +303,7 @@ module _ {T E O K : Type 0} (journal : T → List E) (origin : T → O) (kept : 
           each = all_set (λ i u. one u.ticket ≤ length u.kept) s.views id w (h.each id v at) (λ j u ne. h.each j u);
           apart = apart_kept s h id v w at (λ a k x. (k, x));
           agrees = all_set (λ i u. Agrees journal origin kept h.current u) s.views id w (record { seen = g.seen; kept_is = g.kept_is; origin_is = g.origin_is }) (λ j u ne. h.agrees j u);
+          whole = whole_kept s h id v w at (λ k. k) refl;
           sound = sound_kept s h id v w at (record { distinct = q.distinct; within = q.within; grown = (v.seen, refl) });
           separate = separate_kept s h id v w at (λ p o. o);
           told = all_set (λ i u. (x : T) → u.told ≡ Just x → (x ≡ h.current) × (u.ticket ≡ Just h.served) × (s.homes ≡ none ∷ [])) s.views id w (λ x e. absurd (just_nothing x v.told quiet e)) (λ j u ne. h.told j u);
@@ -282,8 +315,8 @@ module _ {T E O K : Type 0} (journal : T → List E) (origin : T → O) (kept : 
         (q, refl),
       )
 
-  pub split_allows : (n id : ℕ) (v : View T E O K) → v.ticket ≡ Nothing → v.told ≡ Nothing → Splits (LockHolds journal origin kept) id v (kept_below n v) (kept_from n v)
-  split_allows n id v idle quiet s h at =
+  pub split_allows : (n id : ℕ) (v : View T E O K) → v.ticket ≡ Nothing → v.told ≡ Nothing → 0 < length (below n v.kept) → Splits (LockHolds journal origin kept) id v (kept_below n v) (kept_from n v)
+  split_allows n id v idle quiet lower' s h at =
       let w = kept_below n v in
       let r = kept_from n v in
       let l : List (View T E O K) = slice_set s.views id w in
@@ -313,6 +346,7 @@ module _ {T E O K : Type 0} (journal : T → List E) (origin : T → O) (kept : 
         agrees = all_snoc (Agrees journal origin kept h.current) l r
             (all_set (λ i u. Agrees journal origin kept h.current u) s.views id w (record { seen = g.seen; kept_is = λ a k x. g.kept_is a k (lower a k x).0; origin_is = g.origin_is }) (λ j u ne. h.agrees j u))
             (record { seen = g.seen; kept_is = λ a k x. g.kept_is a k (upper a k x).0; origin_is = g.origin_is });
+        whole = let a = whole_kept s h id v w at (λ k. lower') refl in (a.0, a.1, at_longer l (r ∷ []) a.0 a.1 a.2, a.3, a.4);
         sound = all_snoc (λ u. Sound u.own u.seen u.other) l r (sound_kept s h id v w at (h.sound id v at)) (record { distinct = λ i j p x y. absurd (some-ne-none p (sym x)); within = λ p o. absurd (some-ne-none p (sym o.1)); grown = (v.seen, refl) });
         separate = pairs_snoc (λ u q. Apart u.own q.own) l r (λ j u there. ((λ p a b. some-ne-none p (sym a.1)), (λ p a b. some-ne-none p (sym b.1)))) (separate_kept s h id v w at (λ p o. o));
         told = all_snoc (λ u. (x : T) → u.told ≡ Just x → (x ≡ h.current) × (u.ticket ≡ Just h.served) × (s.homes ≡ none ∷ [])) l r
@@ -323,6 +357,37 @@ module _ {T E O K : Type 0} (journal : T → List E) (origin : T → O) (kept : 
           | inr e ↦ let a = still s id v w h.current h.served at quiet e.1 in inr (e.0, (a.0, a.1, at_longer l (r ∷ []) a.0 a.1 a.2, a.3, a.4))
         ];
       }
+
+  -- of two views that become one, the one has seen the whole journal if one of the two had
+  whole_joined : (s : State (Maybe T) (View T E O K)) → (h : LockHolds journal origin kept s) → (id other : ℕ) (v w : View T E O K) → get_elem? s.views id ≡ some v → get_elem? s.views other ≡ some w → ¬ (other ≡ id)
+      → (i : ℕ) × (u : View T E O K) × (get_elem? (slice_set (slice_set s.views id (joining v w)) other spent) i ≡ some u) × (0 < length u.kept) × (u.seen ≡ journal h.current)
+  whole_joined s h id other v w at there ne =
+      let b = joining v w in
+      let t : View T E O K = spent in
+      let l : List (View T E O K) = slice_set s.views id b in
+      let a = h.whole in
+      let here : get_elem? (slice_set l other t) id ≡ some b = set_else l other id t (λ e. ne (sym e)) ∙ set_here s.views id b (within s.views id v at) in
+      let count : length b.kept ≡ length v.kept + length w.kept = length-append v.kept w.kept in
+      let most = longer_length v.seen w.seen in
+      let begun = longer_begins v.seen w.seen (journal h.current) (h.agrees id v at).seen (h.agrees other w there).seen in
+      let whole : length (journal h.current) ≤ length b.seen → b.seen ≡ journal h.current = begins_whole b.seen (journal h.current) begun in
+      elim (ℕ_discrete a.0 id) [
+        | yes e ↦
+            let is : v ≡ a.1 = some-injective v a.1 (sym at ∙ (ap (get_elem? s.views) (sym e) ∙ a.2)) in
+            let n : length v.seen ≡ length (journal h.current) = ap (λ z. length z.seen) is ∙ ap (λ z. length z) a.4 in
+            let k : 0 < length v.kept = subst (λ z. 0 < length z.kept) (sym is) a.3 in
+            let m = most.0 in
+            (id, b, here, omega (arith, count, k), whole (omega (arith, n, m)))
+        | no no_id ↦ elim (ℕ_discrete a.0 other) [
+          | yes e ↦
+              let is : w ≡ a.1 = some-injective w a.1 (sym there ∙ (ap (get_elem? s.views) (sym e) ∙ a.2)) in
+              let n : length w.seen ≡ length (journal h.current) = ap (λ z. length z.seen) is ∙ ap (λ z. length z) a.4 in
+              let k : 0 < length w.kept = subst (λ z. 0 < length z.kept) (sym is) a.3 in
+              let m = most.1 in
+              (id, b, here, omega (arith, count, k), whole (omega (arith, n, m)))
+          | no no_other ↦ (a.0, a.1, set_else l other a.0 t no_other ∙ (set_else s.views id a.0 b no_id ∙ a.2), a.3, a.4)
+        ]
+      ]
 
   pub join_allows : (id other : ℕ) (v w : View T E O K) → v.ticket ≡ Nothing → v.told ≡ Nothing → w.ticket ≡ Nothing → w.told ≡ Nothing
       → Joins (LockHolds journal origin kept) id v other w (joining v w) (spent)
@@ -366,6 +431,7 @@ module _ {T E O K : Type 0} (journal : T → List E) (origin : T → O) (kept : 
             })
             (record { seen = (journal h.current, refl); kept_is = λ a k x. absurd (some-ne-none (a, k) (sym x.1)); origin_is = λ o e. absurd (just_nothing o Nothing refl e) })
             (λ j u _ _. h.agrees j u);
+        whole = whole_joined s h id other v w at there' ne;
         sound = all_set_two s.views id other b t (λ u. Sound u.own u.seen u.other)
             (record {
               distinct = distinct_append v.own w.own p.distinct p'.distinct (h.separate id other v w (λ e. ne (sym e)) at there');
@@ -407,6 +473,7 @@ module _ {T E O K : Type 0} (journal : T → List E) (origin : T → O) (kept : 
           kept_is = λ a k h. let p = at_map_back (kept_for journal origin kept x) (from_up 0 17) h.0 (a, k) h.1 in let e0 : p.0 ≡ a = ap (λ z. z.0) p.2 in let e1 : kept x p.0 ≡ k = ap (λ z. z.1) p.2 in ap (kept x) (sym e0) ∙ e1;
           origin_is = λ o e. just_injective (origin x) o e;
         });
+        whole = (0, v, refl, omega arith, refl);
         sound = all_snoc (λ u. Sound u.own u.seen u.other) [] v (λ j u e. absurd (some-ne-none u (sym e))) (record { distinct = λ i j p x y. absurd (some-ne-none p (sym x)); within = λ p o. absurd (some-ne-none p (sym o.1)); grown = (journal x, refl) });
         separate = pairs_snoc (λ u q. Apart u.own q.own) [] v (λ j u e. absurd (some-ne-none u (sym e))) (λ i j u q ne e. absurd (some-ne-none u (sym e)));
         told = all_snoc (λ u. (y : T) → u.told ≡ Just y → (y ≡ x) × (u.ticket ≡ Just t) × (map some (Just x ∷ []) ≡ none ∷ [])) [] v (λ j u e. absurd (some-ne-none u (sym e))) (λ y e. absurd (just_nothing y Nothing refl e));
@@ -435,7 +502,7 @@ module _ {T E O K : Type 0} (journal : T → List E) (origin : T → O) (kept : 
       ]
 
   -- where one view speaks for all actors and has no ticket, as many were served as were drawn
-  pub all_served : (id : ℕ) (v : View T E O K) (s : State (Maybe T) (View T E O K)) (a b : ℕ) → LockHolds journal origin kept s → get_elem? s.views id ≡ some v → v.ticket ≡ Nothing → length v.kept ≡ 17
+  pub all_served : (id : ℕ) (v : View T E O K) (s : State (Maybe T) (View T E O K)) (a b : ℕ) → LockHolds journal origin kept s → get_elem? s.views id ≡ some v → v.ticket ≡ Nothing → length v.kept ≡ ACTORS
       → get_elem? s.words 0 ≡ some a → get_elem? s.words 1 ≡ some b → a ≡ b
   all_served id v s a b h at idle all zeroth first =
       let f : View T E O K → ℕ = λ v. one v.ticket in
@@ -449,7 +516,7 @@ module _ {T E O K : Type 0} (journal : T → List E) (origin : T → O) (kept : 
       let least : total f l ≤ total k l = total_le f k l (all_set (λ i u. one u.ticket ≤ length u.kept) s.views id w (omega arith) (λ j u ne. h.each j u)) in
       let z : one v.ticket ≡ 0 = ap one idle in
       let c : h.drawn ≡ h.served + total f s.views = h.count in
-      let n : total k s.views ≡ 17 = h.actors in
+      let n : total k s.views ≡ ACTORS = h.actors in
       let same : h.drawn ≡ h.served = omega (arith, none_left, tickets, least, z, c, n, all) in
       d ∙ (ap (λ n. n % 2 ^ 64) same ∙ sym e)
 
@@ -464,3 +531,6 @@ module _ {T E O K : Type 0} (journal : T → List E) (origin : T → O) (kept : 
 
     pub is_as_known : a ≡ b → (x : T) → m ≡ Just x → Agrees journal origin kept x v
     is_as_known same x is = subst (λ z. Agrees journal origin kept z v) (just_injective h.current x (sym (lies_there same) ∙ is)) (h.agrees id v at)
+
+    pub has_no_more : a ≡ b → (x : T) → m ≡ Just x → length v.kept ≡ ACTORS → v.seen ≡ journal x
+    has_no_more same x is all = all_seen s h id v v at all ∙ ap (λ z. journal z) (just_injective h.current x (sym (lies_there same) ∙ is))

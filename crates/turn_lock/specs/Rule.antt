@@ -5,6 +5,7 @@ use mathlib.Core.Option.{none, some}
 use lib.ListN.{get_elem?}
 use Rattle.atomic_table.specs.Table.{State}
 use Rattle.turn_lock.specs.declared.view.View.{View}
+use Rattle.turn_lock.specs.declared.recorded.TheConstants.{ACTORS}
 use Rattle.turn_lock.specs.Lists.{Begins, total, Has, Distinct, Below, Apart}
 use Rattle.turn_lock.specs.Views.{Agrees}
 
@@ -30,11 +31,13 @@ module _ {T E O K : Type 0} (journal : T → List E) (origin : T → O) (kept : 
     pub once : (i j : ℕ) (v w : View T E O K) (t : ℕ) → i ≢ j → get_elem? s.views i ≡ some v → get_elem? s.views j ≡ some w → v.ticket ≡ Just t → w.ticket ≡ Just t → ⊥
     pub count : drawn ≡ served + total (λ v. one v.ticket) s.views
     -- there are 17 actors, each in one view, and a view with a ticket has one: so at most 17 tickets are out
-    pub actors : total (λ v. length v.kept) s.views ≡ 17
+    pub actors : total (λ v. length v.kept) s.views ≡ ACTORS
     pub each : (i : ℕ) (v : View T E O K) → get_elem? s.views i ≡ some v → one v.ticket ≤ length v.kept
     pub apart : (i j : ℕ) (v w : View T E O K) (a : ℕ) (k l : K) → i ≢ j → get_elem? s.views i ≡ some v → get_elem? s.views j ≡ some w → Has v.kept a k → Has w.kept a l → ⊥
     -- each view has seen a prefix of the journal, and says the origin and what is kept for its actors
     pub agrees : (i : ℕ) (v : View T E O K) → get_elem? s.views i ≡ some v → Agrees journal origin kept current v
+    -- one with an actor has seen the whole journal
+    pub whole : (i : ℕ) × (v : View T E O K) × (get_elem? s.views i ≡ some v) × (0 < length v.kept) × (v.seen ≡ journal current)
     -- each entry is owned once
     pub sound : (i : ℕ) (v : View T E O K) → get_elem? s.views i ≡ some v → Sound v.own v.seen v.other
     pub separate : (i j : ℕ) (v w : View T E O K) → i ≢ j → get_elem? s.views i ≡ some v → get_elem? s.views j ≡ some w → Apart v.own w.own

@@ -1,8 +1,9 @@
 -- What each kind of step of the lock tells its pass.
-use Rattle.std.specs.Prelude.{ℕ, List, [], ◌∷◌, ◌++◌, ◌≡◌, ◌≢◌, ◌%◌, ◌^◌, map, ◌⊎◌}
+use Rattle.std.specs.Prelude.{ℕ, List, [], ◌∷◌, ◌++◌, ◌≡◌, ◌≢◌, ◌%◌, ◌^◌, length, map, ◌⊎◌}
 use Rattle.std.specs.Prelude.{Option as Maybe, Some as Just, None as Nothing}
 use Rattle.atomic_table.specs.Table.{Me, rest}
 use Rattle.turn_lock.specs.declared.view.View.{View}
+use Rattle.turn_lock.specs.declared.recorded.TheConstants.{ACTORS}
 use Rattle.turn_lock.specs.Rule.{Sound}
 use Rattle.turn_lock.specs.Views.{Agrees, appended, kept_now, settled}
 
@@ -35,7 +36,7 @@ module _ {T E O K : Type 0} where
 module _ {T E O K : Type 0} (journal : T → List E) (origin : T → O) (kept : T → ℕ → K) where
   -- the number found is the ticket, and the slot is taken with a value that agrees; or nothing changes
   abbrev pub Takes : Me (Maybe T) (View T E O K) → Me (Maybe T) (View T E O K) → Type 0
-  Takes me after = (x : T) × Agrees journal origin kept x me.0 × (after ≡ (taking me.0 x, (0, Just x) ∷ me.1))
+  Takes me after = (x : T) × Agrees journal origin kept x me.0 × (length me.0.kept ≡ ACTORS → me.0.seen ≡ journal x) × (after ≡ (taking me.0 x, (0, Just x) ∷ me.1))
 
   abbrev pub Looks : Me (Maybe T) (View T E O K) → ℕ → Me (Maybe T) (View T E O K) → Type 0
   Looks me n after = ((n ≡ number me.0.ticket % 2 ^ 64) × Takes me after) ⊎ ((n ≢ number me.0.ticket % 2 ^ 64) × (after ≡ me))

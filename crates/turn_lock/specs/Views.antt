@@ -3,6 +3,7 @@ use Rattle.std.specs.Prelude.{ℕ, List, [], ◌++◌, ◌≡◌, ◌<◌, ◌-�
 use Rattle.std.specs.Prelude.{Option as Maybe, Some as Just, None as Nothing}
 use Rattle.atomic_table.specs.Table.{Me}
 use Rattle.turn_lock.specs.declared.view.View.{View}
+use Rattle.turn_lock.specs.declared.recorded.TheConstants.{ACTORS}
 use Rattle.turn_lock.specs.Lists.{Begins, from_up, Has, entries_at, below, above, longer, shorter}
 
 module _ {T E O K : Type 0} where
@@ -54,7 +55,7 @@ module _ {T E O K : Type 0} (journal : T → List E) (origin : T → O) (kept : 
 
   -- the pass of a new lock has seen the whole journal, owns nothing of it and speaks for the actors 0 to 16
   abbrev pub first_view : T → View T E O K
-  first_view x = record { ticket = Nothing; told = Nothing; seen = journal x; own = []; origin = Just (origin x); kept = map (kept_for x) (from_up 0 17); other = [] }
+  first_view x = record { ticket = Nothing; told = Nothing; seen = journal x; own = []; origin = Just (origin x); kept = map (kept_for x) (from_up 0 ACTORS); other = [] }
 
   -- the positions of the entries that a turn appended
   abbrev pub appended : T → T → List ℕ
@@ -67,9 +68,27 @@ module _ {T E O K : Type 0} (journal : T → List E) (origin : T → O) (kept : 
   abbrev pub after_turn : View T E O K → T → T → View T E O K
   after_turn v x y = record v { ticket = Nothing; told = Nothing; seen = journal y; own = v.own ++ appended x y; kept = map (kept_now y) v.kept }
 
-  -- a turn took x, left y of it, and the pass knows it
+  -- a turn took x, left y of it, and the pass knows it. Where the pass speaks for all actors, x had what it has seen and no more
   pub record Turned (v : View T E O K) (x y : T) (w : View T E O K) : Type 0 where
     pub agrees : Agrees x v
+    pub whole : length v.kept ≡ ACTORS → v.seen ≡ journal x
     pub extends : Extends v x y
     pub view : w ≡ after_turn v x y
     pub entries : own_entries w ≡ own_entries v ++ extends.longer.0
+
+  -- what a turn's function may be called on, and what it may leave: takes and returns are those of the function
+  abbrev pub CanTake : (T → Type 0) → View T E O K → Type 0
+  CanTake takes v = (x : T) → Agrees x v → takes x
+
+  abbrev pub KeepsRecord : {R : Type 0} → (T → R → T → Type 0) → View T E O K → Type 0
+  KeepsRecord {R} returns v = (x y : T) (r : R) → Agrees x v → returns x r y → Extends v x y
+
+  -- one call of the function made the turn
+  abbrev pub TookTurn : (T → T → Type 0) → View T E O K → View T E O K → Type 0
+  TookTurn returns v w = (x y : T) × returns x y × Turned v x y w
+
+  -- the value that a closed lock gives back
+  pub record GivesBack (x : T) (v : View T E O K) : Type 0 where
+    pub agrees : Agrees x v
+    pub whole : length v.kept ≡ ACTORS → v.seen ≡ journal x
+    pub entries : entries_at (journal x) v.own ≡ own_entries v

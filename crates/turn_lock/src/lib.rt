@@ -7,6 +7,7 @@ mod pass;
 mod recorded;
 mod rule;
 mod step;
+mod turns;
 mod view;
 
 pub use lock::{LockFault, TurnLock};

@@ -17,11 +17,11 @@ pub(crate) const LENGTH: usize = 2;
 pub(crate) const HOME: usize = 0;
 
 /// The rule of the lock's table.
-pub struct Law<T> {
+pub struct LockRule<T> {
     of: PhantomData<T>,
 }
 
-impl<T: Recorded> TableRule<Option<T>, View<T>, Snapshot<T>> for Law<T> {
+impl<T: Recorded> TableRule<Option<T>, View<T>, Snapshot<T>> for LockRule<T> {
     ghost use Rattle.turn_lock.specs.Rule.{LockHolds};
     ghost use Rattle.turn_lock.specs.Views.{first_view};
 
@@ -30,8 +30,8 @@ impl<T: Recorded> TableRule<Option<T>, View<T>, Snapshot<T>> for Law<T> {
     ghost first = { λ k. first_view T.journal T.origin T.kept k.value };
 }
 
-pub(crate) type Place<T> = Seat<Option<T>, View<T>>;
+pub(crate) type LockSeat<T> = Seat<Option<T>, View<T>>;
 
-pub(crate) type Board<T> = Shared<Option<T>, View<T>, Snapshot<T>, Law<T>>;
+pub(crate) type LockShared<T> = Shared<Option<T>, View<T>, Snapshot<T>, LockRule<T>>;
 
-pub(crate) type Words<T> = Table<Option<T>, View<T>, Snapshot<T>, Law<T>, Global>;
+pub(crate) type LockTable<T> = Table<Option<T>, View<T>, Snapshot<T>, LockRule<T>, Global>;

@@ -1,10 +1,11 @@
 // The steps of a turn, each of which keeps the rule.
 ghost use Rattle.std.specs.Prelude.{ℕ, ◌≡◌, ◌<◌, ◌%◌, ◌^◌, length, None, Some, [], ◌∷◌};
+ghost use Rattle.turn_lock.specs.Lists.{below};
 ghost use Rattle.turn_lock.specs.Views.{Extends, joining, kept_below, kept_from};
 ghost use Rattle.turn_lock.specs.Steps.{Draws, Looks, Takes, Publishes, Serves, Settles, number};
 
 use crate::recorded::Recorded;
-use crate::rule::{Board, HOME, LENGTH, Place, SERVING, TICKETS};
+use crate::rule::{HOME, LENGTH, LockSeat, LockShared, SERVING, TICKETS};
 use crate::view::View;
 use atomic_table::{Join, Play, Split};
 use std::marker::{Brand, PhantomData};
@@ -97,7 +98,7 @@ impl<T: Recorded> Join<View<T>> for Joining {
     ghost spent = { spent };
 }
 
-pub(crate) fn draw<T: Recorded>(shared: &Board<T>, seat: &mut Place<T>) -> u64
+pub(crate) fn draw<T: Recorded>(shared: &LockShared<T>, seat: &mut LockSeat<T>) -> u64
     requires same { seat.old.table_id ≡ shared.now.table_id }
     requires words { shared.now.table_id.words ≡ 3 }
     requires idle { (seat.old.me.0.ticket ≡ None) × (seat.old.me.0.told ≡ None) }
@@ -108,7 +109,7 @@ pub(crate) fn draw<T: Recorded>(shared: &Board<T>, seat: &mut Place<T>) -> u64
     shared.fetch_add::<Drawing>(seat, TICKETS, 1)
 }
 
-fn look<T: Recorded>(shared: &Board<T>, seat: &mut Place<T>) -> u64
+fn look<T: Recorded>(shared: &LockShared<T>, seat: &mut LockSeat<T>) -> u64
     requires same { seat.old.table_id ≡ shared.now.table_id }
     requires words { shared.now.table_id.words ≡ 3 }
     requires waits { (t : ℕ) × (seat.old.me.0.ticket ≡ Some t) }
@@ -120,7 +121,7 @@ fn look<T: Recorded>(shared: &Board<T>, seat: &mut Place<T>) -> u64
 }
 
 // Sleeps until the number served may have changed, once there were enough looks.
-fn pause<T: Recorded, R: Wait>(shared: &Board<T>, rt: &R, looks: u32, found: u64)
+fn pause<T: Recorded, R: Wait>(shared: &LockShared<T>, rt: &R, looks: u32, found: u64)
     requires { shared.now.table_id.words ≡ 3 }
 {
     if looks >= LOOKS {
@@ -130,9 +131,9 @@ fn pause<T: Recorded, R: Wait>(shared: &Board<T>, rt: &R, looks: u32, found: u64
 
 // Waits until the ticket is served, and has the value then.
 pub(crate) fn wait<T: Recorded, R: Wait>(
-    shared: &Board<T>,
+    shared: &LockShared<T>,
     rt: &R,
-    seat: &mut Place<T>,
+    seat: &mut LockSeat<T>,
     ticket: u64,
 )
     requires same { seat.old.table_id ≡ shared.now.table_id }
@@ -155,7 +156,7 @@ pub(crate) fn wait<T: Recorded, R: Wait>(
     unreachable!()
 }
 
-pub(crate) fn take<T: Recorded>(shared: &Board<T>, seat: &mut Place<T>) -> T
+pub(crate) fn take<T: Recorded>(shared: &LockShared<T>, seat: &mut LockSeat<T>) -> T
     requires same { seat.old.table_id ≡ shared.now.table_id }
     requires out { (x : T) × (seat.old.me.1 ≡ (0, Some x) ∷ []) }
     ensures same { (seat.new.table_id ≡ seat.old.table_id) × (seat.new.id ≡ seat.old.id) }
@@ -169,8 +170,8 @@ pub(crate) fn take<T: Recorded>(shared: &Board<T>, seat: &mut Place<T>) -> T
 
 // Stores the journal's length while the value is out.
 pub(crate) fn publish<T: Recorded, V: Left<T>>(
-    shared: &Board<T>,
-    seat: &mut Place<T>,
+    shared: &LockShared<T>,
+    seat: &mut LockSeat<T>,
     value: &T,
     entries: u64,
 )
@@ -185,7 +186,7 @@ pub(crate) fn publish<T: Recorded, V: Left<T>>(
     shared.store::<Publishing<V>>(seat, LENGTH, entries);
 }
 
-pub(crate) fn give<T: Recorded>(shared: &Board<T>, seat: &mut Place<T>, value: T)
+pub(crate) fn give<T: Recorded>(shared: &LockShared<T>, seat: &mut LockSeat<T>, value: T)
     requires same { seat.old.table_id ≡ shared.now.table_id }
     requires out { seat.old.me.1 ≡ (0, None) ∷ [] }
     ensures same { (seat.new.table_id ≡ seat.old.table_id) × (seat.new.id ≡ seat.old.id) }
@@ -196,7 +197,7 @@ pub(crate) fn give<T: Recorded>(shared: &Board<T>, seat: &mut Place<T>, value: T
 }
 
 // Passes the number on, and wakes those who wait if there are any.
-pub(crate) fn serve<T: Recorded>(shared: &Board<T>, seat: &mut Place<T>, ticket: u64)
+pub(crate) fn serve<T: Recorded>(shared: &LockShared<T>, seat: &mut LockSeat<T>, ticket: u64)
     requires same { seat.old.table_id ≡ shared.now.table_id }
     requires words { shared.now.table_id.words ≡ 3 }
     requires out { (y : T) × (seat.old.me.1 ≡ (0, Some y) ∷ []) × (seat.old.me.0.told ≡ Some y) }
@@ -211,14 +212,15 @@ pub(crate) fn serve<T: Recorded>(shared: &Board<T>, seat: &mut Place<T>, ticket:
 }
 
 pub(crate) fn cut<T: Recorded, C: Bound>(
-    shared: &Board<T>,
-    seat: &mut Place<T>,
+    shared: &LockShared<T>,
+    seat: &mut LockSeat<T>,
     from: u32,
-) -> Place<T>
+) -> LockSeat<T>
     requires cut { C.bound ≡ from }
     requires same { seat.old.table_id ≡ shared.now.table_id }
     requires words { shared.now.table_id.words ≡ 3 }
     requires idle { (seat.old.me.0.ticket ≡ None) × (seat.old.me.0.told ≡ None) }
+    requires lower { 0 < length (below from seat.old.me.0.kept) }
     ensures same { (seat.new.table_id ≡ seat.old.table_id) × (result.table_id ≡ seat.old.table_id) }
     ensures stays { seat.new.me ≡ (kept_below from seat.old.me.0, seat.old.me.1) }
     ensures goes { result.me ≡ (kept_from from seat.old.me.0, []) }
@@ -227,7 +229,7 @@ pub(crate) fn cut<T: Recorded, C: Bound>(
 }
 
 // Two seats become one, and a look shows what the rule says of both.
-pub(crate) fn unite<T: Recorded>(shared: &Board<T>, seat: &mut Place<T>, other: Place<T>)
+pub(crate) fn unite<T: Recorded>(shared: &LockShared<T>, seat: &mut LockSeat<T>, other: LockSeat<T>)
     requires same { (seat.old.table_id ≡ shared.now.table_id) × (other.table_id ≡ shared.now.table_id) }
     requires words { shared.now.table_id.words ≡ 3 }
     requires idle { (seat.old.me.0.ticket ≡ None) × (seat.old.me.0.told ≡ None) }
