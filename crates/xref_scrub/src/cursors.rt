@@ -51,7 +51,7 @@ fn does_index_have<K: Indexed>(index: &[K::Rec], at: usize, rec: &K::Rec) -> boo
     if at == index.len() {
         return false;
     }
-    K::is_same(rec, &index[at])
+    <K as Indexed>::is_same(rec, &index[at])
 }
 
 // Whether this record of the index is derived, which only the last derived one that was passed can
@@ -66,7 +66,7 @@ fn is_derived<K: Indexed>(derived: &[K::Rec], at: usize, rec: &K::Rec) -> bool
     if at == 0 {
         return false;
     }
-    K::is_same(rec, &derived[at - 1])
+    <K as Indexed>::is_same(rec, &derived[at - 1])
 }
 
 // What the derived record at the cursor shows.
