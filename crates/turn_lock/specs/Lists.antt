@@ -1,5 +1,5 @@
 -- Prefixes of a journal, positions in it, and the entries at them.
-use Rattle.std.specs.Prelude.{ℕ, List, [], ◌∷◌, ◌++◌, ◌≡◌, ◌<◌, ◌+◌, length, zero, suc}
+use Rattle.std.specs.Prelude.{ℕ, List, [], ◌∷◌, ◌++◌, ◌≡◌, ◌<◌, ◌+◌, length, map, zero, suc}
 use mathlib.Core.Option.{Option, none, some}
 use lib.ListN.{get_elem?}
 use native.Mathlib.Decide.{dec_le}
@@ -46,6 +46,10 @@ entries_at log (p ∷ ps) = entry_of (get_elem? log p) ++ entries_at log ps
 -- k is what is kept for the actor a
 abbrev pub Has : {K : Type 0} → List (ℕ × K) → ℕ → K → Type 0
 Has xs a k = (m : ℕ) × (get_elem? xs m ≡ some (a, k))
+
+-- the actors for whom something is kept
+abbrev pub actors_of : {K : Type 0} → List (ℕ × K) → List ℕ
+actors_of xs = map (λ p. p.0) xs
 
 abbrev pub skip_if : {A P : Type 0} → Dec P → A → List A → List A
 skip_if (yes h) x xs = xs

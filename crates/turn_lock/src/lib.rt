@@ -2,6 +2,7 @@
 //! journal that it has seen, which entries are its own, and for which actors it speaks.
 #![tactic(auto)]
 
+mod crossing;
 mod lock;
 mod pass;
 mod recorded;
