@@ -4,7 +4,7 @@ use Rattle.std.specs.Prelude.{◌⊎◌}
 use Rattle.std.proofs.lemmas.Bool.{false≢true, cases_Bool}
 use Rattle.geom.specs.Layout.{Layout, device_block_of}
 use Rattle.sblock.specs.declared.kind.Kind.{Kind}
-use Rattle.tree_sizes.specs.Sizes.{times}
+use Rattle.tree_defs.specs.Lists.{times}
 use Rattle.fs_state.specs.Places.{Splits}
 use Rattle.fs_state.specs.Apart.{is_chunk, is_listed, unit_verifies, Part, TreeOf, Has, In}
 use Rattle.fs_state.specs.Frame.{Frame, Rest, Firm, UnitStays}

@@ -9,10 +9,10 @@ use Rattle.geom.specs.Numbers.{Fitting}
 use Rattle.geom.proofs.NumbersLemmas.{splits_back, within}
 use Rattle.sblock.specs.declared.kind.Kind.{Kind}
 use Rattle.tree_defs.specs.Sites.{site_of, group_blocks}
-use Rattle.tree_defs.specs.Tree.{no_block}
+use Rattle.sblock.specs.Headers.{no_block}
 use Rattle.tree_defs.proofs.Trees.{reads_trees_lem}
-use Rattle.tree_sizes.specs.Sizes.{times}
-use Rattle.tree_sizes.proofs.Rows.{blocks_differ_lem}
+use Rattle.tree_defs.specs.Lists.{times}
+use Rattle.tree_defs.proofs.Rows.{blocks_differ_lem}
 use Rattle.fs_state.specs.Places.{Splits, GroupsDiffer}
 use Rattle.fs_state.specs.Apart.{Part, Has, Apart, In, is_chunk, is_listed, unit_verifies}
 use Rattle.fs_state.specs.Frame.{Firm}

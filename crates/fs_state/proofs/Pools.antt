@@ -2,7 +2,7 @@
 use Rattle.std.proofs.Common.{◌≡◌, ℕ, ◌+◌, ◌≤◌, List, [], ◌∷◌, ◌++◌, refl, sym, ◌∙◌, inl, inr, arith}
 use Rattle.std.specs.Prelude.{◌⊎◌, ◌==◌, if◌then◌else◌}
 use Rattle.std.proofs.lemmas.Bool.{eqb-true, eq-eqb, cases_Bool}
-use Rattle.tree_sizes.specs.Sizes.{times}
+use Rattle.tree_defs.specs.Lists.{times}
 use Rattle.fs_state.specs.Apart.{Part, In}
 use Rattle.fs_state.specs.Pool.{Share, total, ShareOf}
 

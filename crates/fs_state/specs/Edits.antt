@@ -5,7 +5,7 @@ use Rattle.sblock.specs.declared.kind.Kind.{Kind}
 use Rattle.sblock.specs.declared.kind.Kind.TheVariants.{Bno, Cnt, Rmap, Refc, Ino, Fino}
 use Rattle.tree_defs.specs.Sites.{site_of, group_blocks}
 use Rattle.tree_defs.specs.Tree.{read_tree}
-use Rattle.tree_sizes.specs.Sizes.{times}
+use Rattle.tree_defs.specs.Lists.{times}
 use Rattle.fs_state.specs.Apart.{In}
 use Rattle.fs_state.specs.Kinds.{RecOf, form_of, Image}
 

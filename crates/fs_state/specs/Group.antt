@@ -5,7 +5,7 @@ use Rattle.geom.specs.Layout.{Layout, device_block_of, split_of}
 use Rattle.sblock.specs.declared.kind.Kind.{Kind}
 use Rattle.sblock.specs.declared.kind.Kind.TheVariants.{Rmap, Ino}
 use Rattle.dinode_core.specs.declared.mapping.Fork.{Fork}
-use Rattle.tree_sizes.specs.Sizes.{times}
+use Rattle.tree_defs.specs.Lists.{times}
 use Rattle.dinode_core.specs.Frame.{device_at}
 use Rattle.fs_state.specs.Apart.{is_chunk, Part, HeadsOf, LogPart, ListOf, TreeOf, ReserveOf, LimboOf, ChunkAt, ForkTreeOf, Has, In, verifies}
 use Rattle.fs_state.specs.Edits.{number_of, Among}

@@ -8,7 +8,7 @@ ghost use Rattle.space_check.specs.Checked.{CheckCause, MeetsCheck, agfs_from, c
 ghost use Rattle.space_check.specs.Groups.{group_entries};
 ghost use Rattle.space_check.specs.Progress.{Adds, Ends, HasCause, StopsWith};
 ghost use Rattle.space_check.specs.Session.{AddsGroup, AddsGroups, IsSession};
-ghost use Rattle.tree_blocks.specs.Reading.{OnlyRead};
+ghost use Rattle.blk_device.specs.Reading.{OnlyRead};
 
 use crate::group::check_group;
 use crate::halt::Halt;
@@ -54,7 +54,7 @@ fn check_one<D: Device, L: Ledger>(
     requires kept { (c : Contents) → D.content dev.old ≡ Some c → agfs.now ≡ agfs_from (layout geo.now) (c Image) 0 geo.now.agcount }
     ensures exact { (c : Contents) → D.content dev.old ≡ Some c → Adds journal.old.entries.items (group_entries (layout geo.now) (c Image) g (agf_of (heads_at (layout geo.now) (c Image) g))) journal.new.entries.items result }
     ensures group { AddsGroup g journal.old.entries.items journal.new.entries.items result }
-    ensures reading { OnlyRead D.content D.blocks D.faults D.reads D.clock D.may_have_held_since D.may_hold_now dev.old dev.new steps.old steps.new }
+    ensures reading { OnlyRead D.Device dev.old dev.new steps.old steps.new }
     ensures cause { HasCause (D.faults dev.old) (D.faults dev.new) result }
     ensures agrees { AgreesTold cache.new (D.content dev.new) }
 {
@@ -77,7 +77,7 @@ fn check_groups<D: Device, L: Ledger>(
     requires kept { (c : Contents) → D.content dev.old ≡ Some c → agfs.now ≡ agfs_from (layout geo.now) (c Image) 0 geo.now.agcount }
     ensures exact { (c : Contents) → D.content dev.old ≡ Some c → Adds journal.old.entries.items (entries_from (layout geo.now) (c Image) 0 geo.now.agcount) journal.new.entries.items result }
     ensures groups { AddsGroups geo.now.agcount journal.old.entries.items journal.new.entries.items result }
-    ensures reading { OnlyRead D.content D.blocks D.faults D.reads D.clock D.may_have_held_since D.may_hold_now dev.old dev.new steps.old steps.new }
+    ensures reading { OnlyRead D.Device dev.old dev.new steps.old steps.new }
     ensures cause { HasCause (D.faults dev.old) (D.faults dev.new) result }
     ensures agrees { AgreesTold cache.new (D.content dev.new) }
 {
@@ -104,7 +104,7 @@ fn check_all<D: Device, L: Ledger>(
     requires empty { journal.old.entries.items ≡ [] }
     ensures exact { (c : Contents) → D.content dev.old ≡ Some c → Ends (checked (layout geo.now) (c Image)) journal.new.entries.items result }
     ensures groups { AddsGroups geo.now.agcount journal.old.entries.items journal.new.entries.items result }
-    ensures reading { OnlyRead D.content D.blocks D.faults D.reads D.clock D.may_have_held_since D.may_hold_now dev.old dev.new steps.old steps.new }
+    ensures reading { OnlyRead D.Device dev.old dev.new steps.old steps.new }
     ensures cause { HasCause (D.faults dev.old) (D.faults dev.new) result }
 {
     match test_heads(alloc, dev, cache, geo, steps) {
@@ -125,7 +125,7 @@ fn check_by_cache<D: Device, L: Ledger>(
     requires agreed { AgreesTold cache.old (D.content dev.old) }
     ensures exact { IfSome (D.content dev.old) (λ c. MeetsCheck (checked (layout geo.now) (c Image)) result) }
     ensures session { IsSession geo.now.agcount result }
-    ensures reading { OnlyRead D.content D.blocks D.faults D.reads D.clock D.may_have_held_since D.may_hold_now dev.old dev.new steps.old steps.new }
+    ensures reading { OnlyRead D.Device dev.old dev.new steps.old steps.new }
     ensures cause { CheckCause (D.faults dev.old) (D.faults dev.new) result }
 {
     let mut journal = Journal::new(alloc);
@@ -150,7 +150,7 @@ pub fn check_space<D: Device, L: Ledger>(
     requires room { geo.now.dblocks ≤ D.blocks dev.old Image }
     ensures exact { IfSome (D.content dev.old) (λ c. MeetsCheck (checked (layout geo.now) (c Image)) result) }
     ensures session { IsSession geo.now.agcount result }
-    ensures reading { OnlyRead D.content D.blocks D.faults D.reads D.clock D.may_have_held_since D.may_hold_now dev.old dev.new steps.old steps.new }
+    ensures reading { OnlyRead D.Device dev.old dev.new steps.old steps.new }
     ensures cause { CheckCause (D.faults dev.old) (D.faults dev.new) result }
 {
     let mut cache = match BlkCache::new(alloc, 0) {

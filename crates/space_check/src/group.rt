@@ -12,7 +12,7 @@ ghost use Rattle.space_check.specs.Session.{AddsGroup, AddsUnit};
 ghost use Rattle.space_check.specs.Reads.{reading_of, IsSound};
 ghost use Rattle.span_recs.specs.Refcounts.{refc_form};
 ghost use Rattle.span_recs.specs.Spans.{bno_form, cnt_form};
-ghost use Rattle.tree_blocks.specs.Reading.{OnlyRead};
+ghost use Rattle.blk_device.specs.Reading.{OnlyRead};
 ghost use Rattle.tree_defs.specs.Sites.{bounds_of};
 ghost use Rattle.tree_walk.specs.Trails.{AreSound};
 
@@ -62,7 +62,7 @@ fn free_faults_of<D: Device, L: Ledger>(
     requires agreed { AgreesTold cache.old (D.content dev.old) }
     ensures exact { (c : Contents) → D.content dev.old ≡ Some c → AreFaults (free_faults (group_len_of geo.now g) agf.now mapped.now.recs.items (length mapped.now.blocks.items) (tree_of (layout geo.now) (c Image) g bno_form agf.now.bno_root agf.now.bno_level) (tree_of (layout geo.now) (c Image) g cnt_form agf.now.cnt_root agf.now.cnt_level)) result }
     ensures outside { IfErr result IsOutside }
-    ensures reading { OnlyRead D.content D.blocks D.faults D.reads D.clock D.may_have_held_since D.may_hold_now dev.old dev.new steps.old steps.new }
+    ensures reading { OnlyRead D.Device dev.old dev.new steps.old steps.new }
     ensures cause { HasCause (D.faults dev.old) (D.faults dev.new) result }
     ensures agrees { AgreesTold cache.new (D.content dev.new) }
 {
@@ -109,7 +109,7 @@ fn check_free<D: Device, L: Ledger>(
     requires agreed { AgreesTold cache.old (D.content dev.old) }
     ensures exact { (c : Contents) → D.content dev.old ≡ Some c → Adds journal.old.entries.items (free_entries (layout geo.now) (c Image) g agf.now mapped.now.recs.items (length mapped.now.blocks.items)) journal.new.entries.items result }
     ensures unit { AddsUnit g Unit.Free journal.old.entries.items journal.new.entries.items result }
-    ensures reading { OnlyRead D.content D.blocks D.faults D.reads D.clock D.may_have_held_since D.may_hold_now dev.old dev.new steps.old steps.new }
+    ensures reading { OnlyRead D.Device dev.old dev.new steps.old steps.new }
     ensures cause { HasCause (D.faults dev.old) (D.faults dev.new) result }
     ensures agrees { AgreesTold cache.new (D.content dev.new) }
 {
@@ -137,7 +137,7 @@ fn shared_faults_of<D: Device, L: Ledger>(
     requires agreed { AgreesTold cache.old (D.content dev.old) }
     ensures exact { (c : Contents) → D.content dev.old ≡ Some c → AreFaults (shared_faults agf.now mappings.now (tree_of (layout geo.now) (c Image) g refc_form agf.now.refcount_root agf.now.refcount_level)) result }
     ensures outside { IfErr result IsOutside }
-    ensures reading { OnlyRead D.content D.blocks D.faults D.reads D.clock D.may_have_held_since D.may_hold_now dev.old dev.new steps.old steps.new }
+    ensures reading { OnlyRead D.Device dev.old dev.new steps.old steps.new }
     ensures cause { HasCause (D.faults dev.old) (D.faults dev.new) result }
     ensures agrees { AgreesTold cache.new (D.content dev.new) }
 {
@@ -173,7 +173,7 @@ fn check_shared<D: Device, L: Ledger>(
     requires agreed { AgreesTold cache.old (D.content dev.old) }
     ensures exact { (c : Contents) → D.content dev.old ≡ Some c → Adds journal.old.entries.items (shared_entries (layout geo.now) (c Image) g agf.now mappings.now) journal.new.entries.items result }
     ensures unit { AddsUnit g Unit.Refc journal.old.entries.items journal.new.entries.items result }
-    ensures reading { OnlyRead D.content D.blocks D.faults D.reads D.clock D.may_have_held_since D.may_hold_now dev.old dev.new steps.old steps.new }
+    ensures reading { OnlyRead D.Device dev.old dev.new steps.old steps.new }
     ensures cause { HasCause (D.faults dev.old) (D.faults dev.new) result }
     ensures agrees { AgreesTold cache.new (D.content dev.new) }
 {
@@ -202,7 +202,7 @@ fn check_units<D: Device, L: Ledger>(
     requires agreed { AgreesTold cache.old (D.content dev.old) }
     ensures exact { (c : Contents) → D.content dev.old ≡ Some c → Adds journal.old.entries.items (free_entries (layout geo.now) (c Image) g agf.now mapped.now.recs.items (length mapped.now.blocks.items) ++ shared_entries (layout geo.now) (c Image) g agf.now mapped.now.recs.items) journal.new.entries.items result }
     ensures group { AddsGroup g journal.old.entries.items journal.new.entries.items result }
-    ensures reading { OnlyRead D.content D.blocks D.faults D.reads D.clock D.may_have_held_since D.may_hold_now dev.old dev.new steps.old steps.new }
+    ensures reading { OnlyRead D.Device dev.old dev.new steps.old steps.new }
     ensures cause { HasCause (D.faults dev.old) (D.faults dev.new) result }
     ensures agrees { AgreesTold cache.new (D.content dev.new) }
 {
@@ -232,7 +232,7 @@ fn check_by<D: Device, L: Ledger>(
     requires agreed { AgreesTold cache.old (D.content dev.old) }
     ensures exact { (c : Contents) → D.content dev.old ≡ Some c → Adds journal.old.entries.items (judged_entries (layout geo.now) (c Image) g agf.now (reading_of rmap.now)) journal.new.entries.items result }
     ensures group { AddsGroup g journal.old.entries.items journal.new.entries.items result }
-    ensures reading { OnlyRead D.content D.blocks D.faults D.reads D.clock D.may_have_held_since D.may_hold_now dev.old dev.new steps.old steps.new }
+    ensures reading { OnlyRead D.Device dev.old dev.new steps.old steps.new }
     ensures cause { HasCause (D.faults dev.old) (D.faults dev.new) result }
     ensures agrees { AgreesTold cache.new (D.content dev.new) }
 {
@@ -262,7 +262,7 @@ pub fn check_group<D: Device, L: Ledger>(
     requires agreed { AgreesTold cache.old (D.content dev.old) }
     ensures exact { (c : Contents) → D.content dev.old ≡ Some c → Adds journal.old.entries.items (group_entries (layout geo.now) (c Image) g agf.now) journal.new.entries.items result }
     ensures group { AddsGroup g journal.old.entries.items journal.new.entries.items result }
-    ensures reading { OnlyRead D.content D.blocks D.faults D.reads D.clock D.may_have_held_since D.may_hold_now dev.old dev.new steps.old steps.new }
+    ensures reading { OnlyRead D.Device dev.old dev.new steps.old steps.new }
     ensures cause { HasCause (D.faults dev.old) (D.faults dev.new) result }
     ensures agrees { AgreesTold cache.new (D.content dev.new) }
 {

@@ -7,7 +7,7 @@ ghost use Rattle.geom.specs.Places.{layout};
 ghost use Rattle.space_check.specs.Checked.{agfs_from, bad_head, bad_head_from, heads_at};
 ghost use Rattle.space_check.specs.Progress.{HasCause, IsOutside, MeetsHead, MeetsHeads};
 ghost use Rattle.space_check.specs.Session.{IsNotFull};
-ghost use Rattle.tree_blocks.specs.Reading.{OnlyRead};
+ghost use Rattle.blk_device.specs.Reading.{OnlyRead};
 
 use crate::halt::Halt;
 use ag_headers::{Agf, HeadFault, decode_agf, decode_agfl, decode_agi};
@@ -18,7 +18,7 @@ use fs_model::Head;
 use geom::Geometry;
 use std::alloc::Global;
 use std::sync::ledger::Ledger;
-use tree_blocks::load;
+use tree_blocks::{Blocks, Cached};
 use tree_defs::Site;
 
 // The AGF in block 0 of a group, where its three heads pass; else the first that is refused.
@@ -56,12 +56,18 @@ fn load_heads<D: Device, L: Ledger>(
     requires agreed { AgreesTold cache.old (D.content dev.old) }
     ensures told { IfOk result (λ block. (c : Contents) → D.content dev.old ≡ Some c → block.bytes ≡ heads_at (layout geo.now) (c Image) g) }
     ensures outside { IfErr result IsOutside }
-    ensures reading { OnlyRead D.content D.blocks D.faults D.reads D.clock D.may_have_held_since D.may_hold_now dev.old dev.new steps.old steps.new }
+    ensures reading { OnlyRead D.Device dev.old dev.new steps.old steps.new }
     ensures cause { HasCause (D.faults dev.old) (D.faults dev.new) result }
     ensures agrees { AgreesTold cache.new (D.content dev.new) }
 {
     let site = Site::of_group(geo, g);
-    match load(dev, cache, &site, 0, steps) {
+    let mut blocks = Cached {
+        dev,
+        cache,
+        site,
+        steps,
+    };
+    match blocks.load(0) {
         Ok(block) => Ok(block),
         Err(_) => Err(Halt::Failed),
     }
@@ -83,7 +89,7 @@ fn test_group<D: Device, L: Ledger>(
     ensures kept { (c : Contents) → D.content dev.old ≡ Some c → OnOk result (agfs.new.items ≡ agfs.old.items ++ agf_of (heads_at (layout geo.now) (c Image) g) ∷ []) }
     ensures one { OnOk result (length agfs.new.items ≡ length agfs.old.items + 1) }
     ensures clear { IfErr result IsNotFull }
-    ensures reading { OnlyRead D.content D.blocks D.faults D.reads D.clock D.may_have_held_since D.may_hold_now dev.old dev.new steps.old steps.new }
+    ensures reading { OnlyRead D.Device dev.old dev.new steps.old steps.new }
     ensures cause { HasCause (D.faults dev.old) (D.faults dev.new) result }
     ensures agrees { AgreesTold cache.new (D.content dev.new) }
 {
@@ -123,7 +129,7 @@ pub fn test_heads<D: Device, L: Ledger>(
     ensures kept { (c : Contents) → D.content dev.old ≡ Some c → IfOk result (λ agfs. agfs.items ≡ agfs_from (layout geo.now) (c Image) 0 geo.now.agcount) }
     ensures all { IfOk result (λ agfs. length agfs.items ≡ geo.now.agcount) }
     ensures clear { IfErr result IsNotFull }
-    ensures reading { OnlyRead D.content D.blocks D.faults D.reads D.clock D.may_have_held_since D.may_hold_now dev.old dev.new steps.old steps.new }
+    ensures reading { OnlyRead D.Device dev.old dev.new steps.old steps.new }
     ensures cause { HasCause (D.faults dev.old) (D.faults dev.new) result }
     ensures agrees { AgreesTold cache.new (D.content dev.new) }
 {

@@ -8,7 +8,8 @@ ghost use Rattle.space_check.specs.Groups.{tree_of};
 ghost use Rattle.space_check.specs.Progress.{HasCause, IsOutside};
 ghost use Rattle.space_check.specs.Reads.{IsBad, IsReading, IsSound};
 ghost use Rattle.tree_blocks.specs.Meets.{Refuses};
-ghost use Rattle.tree_blocks.specs.Reading.{OnlyRead, CauseOf};
+ghost use Rattle.blk_device.specs.Reading.{OnlyRead};
+ghost use Rattle.tree_blocks.specs.Reading.{CauseOf};
 ghost use Rattle.tree_defs.specs.Sites.{bounds_of};
 
 use crate::halt::Halt;
@@ -54,13 +55,14 @@ pub fn read_index<K: RecKind, D: Device, L: Ledger>(
     tree: &TreeAt,
     steps: &mut Steps<L>,
 ) -> Result<IndexRead<K::Rec>, Halt>
+    requires kind { tree.now.kind ≡ K.form.kind }
     requires group { tree.now.group < geo.now.agcount }
     requires room { geo.now.dblocks ≤ D.blocks dev.old Image }
     requires agreed { AgreesTold cache.old (D.content dev.old) }
     ensures exact { (c : Contents) → D.content dev.old ≡ Some c → IsReading (tree_of (layout geo.now) (c Image) tree.now.group K.form tree.now.root tree.now.levels) result }
     ensures outside { IfErr result IsOutside }
     ensures sound { IfOk result (IsSound K.form (bounds_of (layout geo.now) tree.now.group)) }
-    ensures reading { OnlyRead D.content D.blocks D.faults D.reads D.clock D.may_have_held_since D.may_hold_now dev.old dev.new steps.old steps.new }
+    ensures reading { OnlyRead D.Device dev.old dev.new steps.old steps.new }
     ensures cause { HasCause (D.faults dev.old) (D.faults dev.new) result }
     ensures agrees { AgreesTold cache.new (D.content dev.new) }
 {

@@ -6,7 +6,8 @@ use Rattle.std.proofs.lemmas.Bool.Decides.{nat_tests}
 use Rattle.sblock.specs.Form.{Form}
 use Rattle.sblock.proofs.BlockLemmas.{has_level}
 use Rattle.tree_defs.specs.Claims.{Leads, is_named, lone_fault, opens, IsReached, IsClaimed}
-use Rattle.tree_defs.specs.Tree.{top_of, left_of, want_of}
+use Rattle.sblock.specs.Headers.{left_of}
+use Rattle.tree_defs.specs.Tree.{top_of, want_of}
 use Rattle.tree_defs.specs.declared.site.Site.{Site}
 use Rattle.tree_claims.specs.Looks.{LieBelow, Looks}
 use Rattle.tree_claims.proofs.LookLemmas.{opens_none}

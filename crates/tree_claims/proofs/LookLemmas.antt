@@ -8,7 +8,7 @@ use Rattle.sblock.specs.Form.{Form}
 use Rattle.sblock.specs.declared.block.BlockFault.{BlockFault}
 use Rattle.tree_defs.specs.Claims.{Leads, is_named, lone_fault, opens}
 use Rattle.tree_defs.specs.declared.site.Site.{Site}
-use Rattle.tree_blocks.proofs.LoneFacts.{child_inside}
+use Rattle.tree_defs.proofs.LoneFacts.{child_inside}
 use Rattle.tree_claims.specs.Looks.{Grows, LieBelow, Looks}
 use Rattle.tree_claims.proofs.RunLemmas.{or_none}
 use Rattle.tree_claims.proofs.GrowLemmas.{grows_not, grows_on, grows_as, lie_on}

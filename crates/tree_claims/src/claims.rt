@@ -1,16 +1,17 @@
-ghost use Rattle.std.specs.Prelude.{◌≡◌, ℕ, ◌+◌, ◌*◌, ◌^◌, ◌<◌, ◌≤◌, ◌==◌, ◌↔◌, true, if◌then◌else◌, IfOk, IfErr, IfSome, OnOk, Some};
+ghost use Rattle.std.specs.Prelude.{◌≡◌, List, ℕ, ◌+◌, ◌*◌, ◌<◌, ◌≤◌, ◌==◌, true, if◌then◌else◌, IfOk, IfErr, OnOk, Some};
 ghost use Rattle.blk_cache.specs.Cache.{AgreesTold};
-ghost use Rattle.blk_device.specs.Contents.{Contents};
 ghost use Rattle.blk_device.specs.declared.device.Region.TheVariants.{Image};
 ghost use Rattle.geom.specs.Layout.{group_len_of};
 ghost use Rattle.geom.specs.Places.{layout};
 ghost use Rattle.run_sets.specs.Runs.{most};
 ghost use Rattle.run_sets.specs.Sets.{has};
-ghost use Rattle.tree_defs.specs.Claims.{IsClaimed};
-ghost use Rattle.tree_defs.specs.Sites.{site_of, group_blocks};
-ghost use Rattle.tree_blocks.specs.Reading.{OnlyRead, HasCause};
+ghost use Rattle.tree_defs.specs.Sites.{site_of};
+ghost use Rattle.tree_blocks.specs.Told.{OfTree};
+ghost use Rattle.tree_blocks.specs.Calls.{Reads};
+ghost use Rattle.blk_device.specs.Reading.{OnlyRead};
+ghost use Rattle.tree_blocks.specs.Reading.{HasCause};
 ghost use Rattle.tree_claims.specs.Looks.{IsOutside, LieBelow};
-ghost use Rattle.tree_claims.specs.Rows.{ReadsRows};
+ghost use Rattle.tree_claims.specs.Rows.{AreClaims, ReadsInGroup, ReadsRows};
 
 use crate::frontier::look_level;
 use crate::listed::{empty_set, one_block, set_of};
@@ -22,7 +23,7 @@ use run_sets::RunSet;
 use sblock::RecKind;
 use std::alloc::Global;
 use std::sync::ledger::Ledger;
-use tree_blocks::{TreeAt, WalkFault, top_level};
+use tree_blocks::{Blocks, Cached, TreeAt, WalkFault, top_level};
 use tree_defs::Site;
 
 // How many levels there are to look at, from this one down. No block passes on level 9.
@@ -34,29 +35,24 @@ fn levels_below(top: u8) -> u8
 }
 
 // Looks at a tree level by level, from a root in the group.
-fn claimed_from<K: RecKind, D: Device, L: Ledger>(
+fn claimed_from<K: RecKind, B: Blocks>(
     alloc: Global,
-    dev: &mut D,
-    cache: &mut BlkCache,
+    blocks: &mut B,
     site: &Site,
     root: u32,
     levels: u32,
-    steps: &mut Steps<L>,
 ) -> Result<RunSet, WalkFault>
     requires some { 1 ≤ root }
     requires inside { root < site.now.bounds.length }
     requires short { site.now.bounds.length ≤ most }
-    requires room { site.now.first + site.now.bounds.length ≤ D.blocks dev.old Image }
-    requires fits { 8 * (site.now.first + site.now.bounds.length) < 2 ^ 64 }
-    requires agreed { AgreesTold cache.old (D.content dev.old) }
-    ensures exact { (c : Contents) → D.content dev.old ≡ Some c → IfOk result (λ set. (b : ℕ) → (has set b ≡ true) ↔ IsClaimed K.form site.now (group_blocks site.now (c Image)) root levels b) }
+    requires here { B.place blocks.old ≡ site.now }
+    ensures exact { (m : ℕ → List ℕ) → B.told blocks.old ≡ Some m → IfOk result (λ set. AreClaims K.form site.now m root levels (has set)) }
     ensures lies { IfOk result (λ set. LieBelow site.now.bounds.length (has set)) }
     ensures refused { IfErr result IsOutside }
-    ensures reading { OnlyRead D.content D.blocks D.faults D.reads D.clock D.may_have_held_since D.may_hold_now dev.old dev.new steps.old steps.new }
-    ensures cause { HasCause (D.faults dev.old) (D.faults dev.new) result }
-    ensures agrees { AgreesTold cache.new (D.content dev.new) }
-    ensures few { steps.new.reads ≤ steps.old.reads + 9 * site.now.bounds.length }
-    ensures each { (c : Contents) → D.content dev.old ≡ Some c → OnOk result (ReadsRows K.form site.now (group_blocks site.now (c Image)) root levels steps.old.reads steps.new.reads) }
+    ensures reading { Reads B.Blocks blocks.old blocks.new }
+    ensures cause { HasCause (B.faults blocks.old) (B.faults blocks.new) result }
+    ensures few { B.count blocks.new ≤ B.count blocks.old + 9 * site.now.bounds.length }
+    ensures each { (m : ℕ → List ℕ) → B.told blocks.old ≡ Some m → OnOk result (ReadsRows K.form site.now m root levels (B.count blocks.old) (B.count blocks.new)) }
 {
     let mut claimed = Vec::new(alloc);
     let mut frontier = match one_block(alloc, root) {
@@ -65,16 +61,14 @@ fn claimed_from<K: RecKind, D: Device, L: Ledger>(
     };
     let top = top_level(levels);
     for depth in 0..levels_below(top) {
-        let next = match look_level::<K, D, L>(
+        let next = match look_level::<K, B>(
             alloc,
-            dev,
-            cache,
+            blocks,
             site,
             top - depth,
             depth == 0,
             &frontier,
             &mut claimed,
-            steps,
         ) {
             Ok(next) => next,
             Err(fault) => return Err(fault),
@@ -88,32 +82,27 @@ fn claimed_from<K: RecKind, D: Device, L: Ledger>(
 }
 
 // The blocks that the tree of this root and count of levels claims.
-fn claimed_at<K: RecKind, D: Device, L: Ledger>(
+fn claimed_at<K: RecKind, B: Blocks>(
     alloc: Global,
-    dev: &mut D,
-    cache: &mut BlkCache,
+    blocks: &mut B,
     site: &Site,
     tree: &TreeAt,
-    steps: &mut Steps<L>,
 ) -> Result<RunSet, WalkFault>
     requires short { site.now.bounds.length ≤ most }
-    requires room { site.now.first + site.now.bounds.length ≤ D.blocks dev.old Image }
-    requires fits { 8 * (site.now.first + site.now.bounds.length) < 2 ^ 64 }
-    requires agreed { AgreesTold cache.old (D.content dev.old) }
-    ensures exact { (c : Contents) → D.content dev.old ≡ Some c → IfOk result (λ set. (b : ℕ) → (has set b ≡ true) ↔ IsClaimed K.form site.now (group_blocks site.now (c Image)) tree.now.root tree.now.levels b) }
+    requires here { B.place blocks.old ≡ site.now }
+    ensures exact { (m : ℕ → List ℕ) → B.told blocks.old ≡ Some m → IfOk result (λ set. AreClaims K.form site.now m tree.now.root tree.now.levels (has set)) }
     ensures lies { IfOk result (λ set. LieBelow site.now.bounds.length (has set)) }
     ensures refused { IfErr result IsOutside }
-    ensures reading { OnlyRead D.content D.blocks D.faults D.reads D.clock D.may_have_held_since D.may_hold_now dev.old dev.new steps.old steps.new }
-    ensures cause { HasCause (D.faults dev.old) (D.faults dev.new) result }
-    ensures agrees { AgreesTold cache.new (D.content dev.new) }
-    ensures few { steps.new.reads ≤ steps.old.reads + 9 * site.now.bounds.length }
-    ensures each { (c : Contents) → D.content dev.old ≡ Some c → OnOk result (1 ≤ tree.now.root → tree.now.root < site.now.bounds.length → ReadsRows K.form site.now (group_blocks site.now (c Image)) tree.now.root tree.now.levels steps.old.reads steps.new.reads) }
+    ensures reading { Reads B.Blocks blocks.old blocks.new }
+    ensures cause { HasCause (B.faults blocks.old) (B.faults blocks.new) result }
+    ensures few { B.count blocks.new ≤ B.count blocks.old + 9 * site.now.bounds.length }
+    ensures each { (m : ℕ → List ℕ) → B.told blocks.old ≡ Some m → OnOk result (ReadsInGroup K.form site.now m tree.now.root tree.now.levels (B.count blocks.old) (B.count blocks.new)) }
 {
     let root = tree.root;
     if root == 0 || root >= site.bounds.length {
         return empty_set(alloc);
     }
-    claimed_from::<K, D, L>(alloc, dev, cache, site, root, tree.levels, steps)
+    claimed_from::<K, B>(alloc, blocks, site, root, tree.levels)
 }
 
 /// The blocks, group-relative, that a tree claims even where it can't be read: those that are
@@ -121,6 +110,7 @@ fn claimed_at<K: RecKind, D: Device, L: Ledger>(
 /// root included, and that have the magic number, place, owner and UUID of such a block. A root
 /// outside the group claims nothing. It refuses only where the device fails or there is no memory
 /// (XFS Algorithms and Data Structures, "Short Format B+trees").
+#[tactic(auto, unfolding(tree_defs::specs::Sites::site_of))]
 pub fn claimed<K: RecKind, D: Device, L: Ledger>(
     alloc: Global,
     dev: &mut D,
@@ -129,18 +119,25 @@ pub fn claimed<K: RecKind, D: Device, L: Ledger>(
     tree: &TreeAt,
     steps: &mut Steps<L>,
 ) -> Result<RunSet, WalkFault>
+    requires kind { tree.now.kind ≡ K.form.kind }
     requires group { tree.now.group < geo.now.agcount }
     requires room { geo.now.dblocks ≤ D.blocks dev.old Image }
     requires agreed { AgreesTold cache.old (D.content dev.old) }
-    ensures exact { IfSome (D.content dev.old) (λ c. let site = site_of (layout geo.now) tree.now.group in IfOk result (λ set. (b : ℕ) → (has set b ≡ true) ↔ IsClaimed K.form site (group_blocks site (c Image)) tree.now.root tree.now.levels b)) }
+    ensures exact { OfTree (layout geo.now) tree.now (D.content dev.old) (λ s m r n. IfOk result (λ set. AreClaims K.form s m r n (has set))) }
     ensures inside { IfOk result (λ set. (b : ℕ) → has set b ≡ true → b < group_len_of (layout geo.now) tree.now.group) }
     ensures refused { IfErr result IsOutside }
-    ensures reading { OnlyRead D.content D.blocks D.faults D.reads D.clock D.may_have_held_since D.may_hold_now dev.old dev.new steps.old steps.new }
+    ensures reading { OnlyRead D.Device dev.old dev.new steps.old steps.new }
     ensures cause { HasCause (D.faults dev.old) (D.faults dev.new) result }
     ensures agrees { AgreesTold cache.new (D.content dev.new) }
     ensures few { steps.new.reads ≤ steps.old.reads + 9 * group_len_of (layout geo.now) tree.now.group }
-    ensures each { IfSome (D.content dev.old) (λ c. let site = site_of (layout geo.now) tree.now.group in OnOk result (1 ≤ tree.now.root → tree.now.root < site.bounds.length → ReadsRows K.form site (group_blocks site (c Image)) tree.now.root tree.now.levels steps.old.reads steps.new.reads)) }
+    ensures each { OfTree (layout geo.now) tree.now (D.content dev.old) (λ s m r n. OnOk result (ReadsInGroup K.form s m r n steps.old.reads steps.new.reads)) }
 {
     let site = Site::of_group(geo, tree.group);
-    claimed_at::<K, D, L>(alloc, dev, cache, &site, tree, steps)
+    let mut blocks = Cached {
+        dev,
+        cache,
+        site,
+        steps,
+    };
+    claimed_at::<K, Cached<D, L>>(alloc, &mut blocks, &site, tree)
 }

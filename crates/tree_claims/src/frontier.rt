@@ -1,28 +1,22 @@
-ghost use Rattle.std.specs.Prelude.{◌≡◌, ℕ, ◌+◌, ◌*◌, ◌^◌, ◌<◌, ◌≤◌, ◌==◌, ◌&&◌, ◌||◌, false, IfOk, IfErr, OnOk, Some};
-ghost use Rattle.blk_cache.specs.Cache.{AgreesTold};
-ghost use Rattle.blk_device.specs.Contents.{Contents};
-ghost use Rattle.blk_device.specs.declared.device.Region.TheVariants.{Image};
+ghost use Rattle.std.specs.Prelude.{◌≡◌, List, ℕ, ◌+◌, ◌*◌, ◌^◌, ◌<◌, ◌≤◌, ◌==◌, ◌&&◌, ◌||◌, false, IfOk, IfErr, OnOk, Some};
 ghost use Rattle.run_sets.specs.Runs.{is_within, most};
 ghost use Rattle.run_sets.specs.Sets.{has, runs_of};
 ghost use Rattle.sblock.specs.Area.{area_of, child_of};
 ghost use Rattle.sblock.specs.Blocks.{numrecs};
 ghost use Rattle.sblock.specs.Kinds.{node_most_of};
 ghost use Rattle.tree_defs.specs.Claims.{Leads, is_named};
-ghost use Rattle.tree_defs.specs.Sites.{group_blocks};
 ghost use Rattle.tree_blocks.specs.Meets.{IsMemory};
-ghost use Rattle.tree_blocks.specs.Reading.{OnlyRead, HasCause};
+ghost use Rattle.tree_blocks.specs.Calls.{Reads};
+ghost use Rattle.tree_blocks.specs.Reading.{HasCause};
 ghost use Rattle.tree_claims.specs.Lists.{lists};
 ghost use Rattle.tree_claims.specs.Looks.{blocks_in, Grows, IsOutside, LieBelow, Looks};
 
 use crate::listed::put_block;
-use blk_cache::BlkCache;
-use blk_device::Device;
-use byte_fields::{Block, Steps, get_u16, get_u32, get_u64, is_uuid_at};
+use byte_fields::{Block, get_u32, is_uuid_at};
 use run_sets::{Run, RunSet};
-use sblock::{Kind, RecKind, child_at, data_area};
+use sblock::{Kind, RecKind, child_at, count_of, data_area, owner_of, place_of};
 use std::alloc::Global;
-use std::sync::ledger::Ledger;
-use tree_blocks::{WalkFault, load, lone_fault_of};
+use tree_blocks::{Blocks, WalkFault, lone_fault_of};
 use tree_defs::Site;
 
 // Whether the block says of itself that it is block `p` of the group, of a tree of this kind.
@@ -32,8 +26,8 @@ fn does_name<K: RecKind>(block: &Block, site: &Site, p: u32) -> bool
     ensures { result ≡ is_named K.form.kind site.now p block.now.bytes }
 {
     get_u32(&block.bytes, 0) == K::kind().magic()
-        && get_u64(&block.bytes, 16) == 8 * (site.first + u64::from(p))
-        && get_u32(&block.bytes, 48) == site.group
+        && place_of(block) == 8 * (site.first + u64::from(p))
+        && owner_of(block) == site.group
         && is_uuid_at(&block.bytes, 32, &site.uuid)
 }
 
@@ -44,7 +38,7 @@ fn put_children(kind: Kind, block: &Block, list: &mut Vec<u32>) -> Result<(), Wa
     ensures memory { IfErr result IsMemory }
 {
     let area = data_area(block);
-    for i in 0..get_u16(&block.bytes, 6) {
+    for i in 0..count_of(block) {
         match put_block(list, child_at(kind, area, i as usize)) {
             Ok(()) => {}
             Err(fault) => return Err(fault),
@@ -96,31 +90,26 @@ fn claim<K: RecKind>(
 
 // Reads block `p` on this level: it is claimed where it is named, and the children of a node that
 // passes are put behind `next`.
-fn look_at<K: RecKind, D: Device, L: Ledger>(
-    dev: &mut D,
-    cache: &mut BlkCache,
+fn look_at<K: RecKind, B: Blocks>(
+    blocks: &mut B,
     site: &Site,
     level: u8,
     root: bool,
     p: u32,
     claimed: &mut Vec<u32>,
     next: &mut Vec<u32>,
-    steps: &mut Steps<L>,
 ) -> Result<(), WalkFault>
     requires inside { p < site.now.bounds.length }
-    requires room { site.now.first + site.now.bounds.length ≤ D.blocks dev.old Image }
-    requires fits { 8 * (site.now.first + site.now.bounds.length) < 2 ^ 64 }
-    requires agreed { AgreesTold cache.old (D.content dev.old) }
-    ensures exact { (c : Contents) → D.content dev.old ≡ Some c → OnOk result (Looks K.form site.now (group_blocks site.now (c Image)) level root (λ b. b == p) (lists claimed.old.items) (lists claimed.new.items) (lists next.old.items) (lists next.new.items)) }
+    requires here { B.place blocks.old ≡ site.now }
+    ensures exact { (m : ℕ → List ℕ) → B.told blocks.old ≡ Some m → OnOk result (Looks K.form site.now m level root (λ b. b == p) (lists claimed.old.items) (lists claimed.new.items) (lists next.old.items) (lists next.new.items)) }
     ensures claims_lie { LieBelow site.now.bounds.length (lists claimed.old.items) → OnOk result (LieBelow site.now.bounds.length (lists claimed.new.items)) }
     ensures next_lies { LieBelow site.now.bounds.length (lists next.old.items) → OnOk result (LieBelow site.now.bounds.length (lists next.new.items)) }
     ensures refused { IfErr result IsOutside }
-    ensures reading { OnlyRead D.content D.blocks D.faults D.reads D.clock D.may_have_held_since D.may_hold_now dev.old dev.new steps.old steps.new }
-    ensures cause { HasCause (D.faults dev.old) (D.faults dev.new) result }
-    ensures agrees { AgreesTold cache.new (D.content dev.new) }
-    ensures one { steps.new.reads ≡ steps.old.reads + 1 }
+    ensures reading { Reads B.Blocks blocks.old blocks.new }
+    ensures cause { HasCause (B.faults blocks.old) (B.faults blocks.new) result }
+    ensures one { B.count blocks.new ≡ B.count blocks.old + 1 }
 {
-    let block = match load(dev, cache, site, p, steps) {
+    let block = match blocks.load(p) {
         Ok(block) => block,
         Err(fault) => return Err(fault),
     };
@@ -132,34 +121,29 @@ fn look_at<K: RecKind, D: Device, L: Ledger>(
 }
 
 // Reads the blocks of a run on this level.
-fn look_along<K: RecKind, D: Device, L: Ledger>(
-    dev: &mut D,
-    cache: &mut BlkCache,
+fn look_along<K: RecKind, B: Blocks>(
+    blocks: &mut B,
     site: &Site,
     level: u8,
     root: bool,
     run: &Run,
     claimed: &mut Vec<u32>,
     next: &mut Vec<u32>,
-    steps: &mut Steps<L>,
 ) -> Result<(), WalkFault>
     requires inside { run.now.start + run.now.count ≤ site.now.bounds.length }
     requires short { site.now.bounds.length ≤ most }
-    requires room { site.now.first + site.now.bounds.length ≤ D.blocks dev.old Image }
-    requires fits { 8 * (site.now.first + site.now.bounds.length) < 2 ^ 64 }
-    requires agreed { AgreesTold cache.old (D.content dev.old) }
-    ensures exact { (c : Contents) → D.content dev.old ≡ Some c → OnOk result (Looks K.form site.now (group_blocks site.now (c Image)) level root (λ b. is_within b run.now) (lists claimed.old.items) (lists claimed.new.items) (lists next.old.items) (lists next.new.items)) }
+    requires here { B.place blocks.old ≡ site.now }
+    ensures exact { (m : ℕ → List ℕ) → B.told blocks.old ≡ Some m → OnOk result (Looks K.form site.now m level root (λ b. is_within b run.now) (lists claimed.old.items) (lists claimed.new.items) (lists next.old.items) (lists next.new.items)) }
     ensures claims_lie { LieBelow site.now.bounds.length (lists claimed.old.items) → OnOk result (LieBelow site.now.bounds.length (lists claimed.new.items)) }
     ensures next_lies { LieBelow site.now.bounds.length (lists next.old.items) → OnOk result (LieBelow site.now.bounds.length (lists next.new.items)) }
     ensures refused { IfErr result IsOutside }
-    ensures reading { OnlyRead D.content D.blocks D.faults D.reads D.clock D.may_have_held_since D.may_hold_now dev.old dev.new steps.old steps.new }
-    ensures cause { HasCause (D.faults dev.old) (D.faults dev.new) result }
-    ensures agrees { AgreesTold cache.new (D.content dev.new) }
-    ensures most_reads { steps.new.reads ≤ steps.old.reads + run.now.count }
-    ensures each { OnOk result (steps.new.reads ≡ steps.old.reads + run.now.count) }
+    ensures reading { Reads B.Blocks blocks.old blocks.new }
+    ensures cause { HasCause (B.faults blocks.old) (B.faults blocks.new) result }
+    ensures most_reads { B.count blocks.new ≤ B.count blocks.old + run.now.count }
+    ensures each { OnOk result (B.count blocks.new ≡ B.count blocks.old + run.now.count) }
 {
     for p in run.start..run.start + run.count {
-        match look_at::<K, D, L>(dev, cache, site, level, root, p, claimed, next, steps) {
+        match look_at::<K, B>(blocks, site, level, root, p, claimed, next) {
             Ok(()) => {}
             Err(fault) => return Err(fault),
         }
@@ -171,38 +155,31 @@ fn look_along<K: RecKind, D: Device, L: Ledger>(
 /// `claimed`, and the children of the nodes that pass their tests are answered, as often as they are
 /// pointed to (group-relative blocks)
 /// (XFS Algorithms and Data Structures, "Short Format B+trees").
-pub fn look_level<K: RecKind, D: Device, L: Ledger>(
+pub fn look_level<K: RecKind, B: Blocks>(
     alloc: Global,
-    dev: &mut D,
-    cache: &mut BlkCache,
+    blocks: &mut B,
     site: &Site,
     level: u8,
     root: bool,
-    blocks: &RunSet,
+    reached: &RunSet,
     claimed: &mut Vec<u32>,
-    steps: &mut Steps<L>,
 ) -> Result<Vec<u32>, WalkFault>
-    requires inside { LieBelow site.now.bounds.length (has blocks.now) }
+    requires inside { LieBelow site.now.bounds.length (has reached.now) }
     requires short { site.now.bounds.length ≤ most }
-    requires room { site.now.first + site.now.bounds.length ≤ D.blocks dev.old Image }
-    requires fits { 8 * (site.now.first + site.now.bounds.length) < 2 ^ 64 }
-    requires agreed { AgreesTold cache.old (D.content dev.old) }
-    ensures exact { (c : Contents) → D.content dev.old ≡ Some c → IfOk result (λ next. Looks K.form site.now (group_blocks site.now (c Image)) level root (has blocks.now) (lists claimed.old.items) (lists claimed.new.items) (λ b. false) (lists next.items)) }
+    requires here { B.place blocks.old ≡ site.now }
+    ensures exact { (m : ℕ → List ℕ) → B.told blocks.old ≡ Some m → IfOk result (λ next. Looks K.form site.now m level root (has reached.now) (lists claimed.old.items) (lists claimed.new.items) (λ b. false) (lists next.items)) }
     ensures claims_lie { LieBelow site.now.bounds.length (lists claimed.old.items) → OnOk result (LieBelow site.now.bounds.length (lists claimed.new.items)) }
     ensures next_lies { IfOk result (λ next. LieBelow site.now.bounds.length (lists next.items)) }
     ensures refused { IfErr result IsOutside }
-    ensures reading { OnlyRead D.content D.blocks D.faults D.reads D.clock D.may_have_held_since D.may_hold_now dev.old dev.new steps.old steps.new }
-    ensures cause { HasCause (D.faults dev.old) (D.faults dev.new) result }
-    ensures agrees { AgreesTold cache.new (D.content dev.new) }
-    ensures few { steps.new.reads ≤ steps.old.reads + site.now.bounds.length }
-    ensures each { OnOk result (steps.new.reads ≡ steps.old.reads + blocks_in (runs_of blocks.now)) }
+    ensures reading { Reads B.Blocks blocks.old blocks.new }
+    ensures cause { HasCause (B.faults blocks.old) (B.faults blocks.new) result }
+    ensures few { B.count blocks.new ≤ B.count blocks.old + site.now.bounds.length }
+    ensures each { OnOk result (B.count blocks.new ≡ B.count blocks.old + blocks_in (runs_of reached.now)) }
 {
     let mut next = Vec::new(alloc);
-    let runs = blocks.runs();
+    let runs = reached.runs();
     for run in runs {
-        match look_along::<K, D, L>(
-            dev, cache, site, level, root, run, claimed, &mut next, steps,
-        ) {
+        match look_along::<K, B>(blocks, site, level, root, run, claimed, &mut next) {
             Ok(()) => {}
             Err(fault) => return Err(fault),
         }

@@ -8,7 +8,9 @@ use Rattle.sblock.specs.Kinds.{has_high_keys_of}
 use Rattle.sblock.proofs.BlockLemmas.{records_lie_inside, records_are_supported}
 use Rattle.tree_defs.specs.Claims.{lone_fault}
 use Rattle.tree_defs.specs.Levels.{over, AllEntries, entries, recs_of, IsRight, IsSound, IsTree}
-use Rattle.tree_defs.specs.Tree.{Entry, want_of, left_of, agrees, span_of}
+use Rattle.sblock.specs.Headers.{left_of}
+use Rattle.sblock.specs.Spans.{span_of}
+use Rattle.tree_defs.specs.Tree.{Entry, want_of, agrees}
 use Rattle.tree_defs.specs.declared.site.Site.{Site}
 use Rattle.tree_defs.proofs.Trees.{reads_trees_lem}
 use Rattle.tree_cover.specs.Answers.{SearchesTrees}
@@ -47,8 +49,8 @@ module _ {R K : Type 0} (form : Form R K) (law : IsLawful form) (covers : Covers
 
   module _ (short : site.bounds.length < 2 ^ 32) where
     fit_one : (r : R) → form.is_in_range site.bounds r ≡ true → form.is_supported r ≡ true → Fit form run after r
-    fit_one r inside built = record {
-      some = covers.some site.bounds r inside built;
+    fit_one r inside supported = record {
+      some = covers.some site.bounds r inside supported;
       end = λ high. law.ends high r (law.reaches site.bounds r short inside);
     }
 
@@ -56,8 +58,8 @@ module _ {R K : Type 0} (form : Form R K) (law : IsLawful form) (covers : Covers
     fit_leaf root p right =
         let want = want_of form.kind site 0 root (left_of (m p)) p in
         let inside = all_each (form.is_in_range site.bounds) (records_of form (m p)) (records_lie_inside form (m p) want right refl) in
-        let built = all_each form.is_supported (records_of form (m p)) (records_are_supported form (m p) want right refl) in
-        all_map (λ r. (form.is_in_range site.bounds r ≡ true) × (form.is_supported r ≡ true)) (Fit form run after) (records_of form (m p)) (λ r k. fit_one r k.0 k.1) (all_both (λ r. form.is_in_range site.bounds r ≡ true) (λ r. form.is_supported r ≡ true) (records_of form (m p)) inside built)
+        let supported = all_each form.is_supported (records_of form (m p)) (records_are_supported form (m p) want right refl) in
+        all_map (λ r. (form.is_in_range site.bounds r ≡ true) × (form.is_supported r ≡ true)) (Fit form run after) (records_of form (m p)) (λ r k. fit_one r k.0 k.1) (all_both (λ r. form.is_in_range site.bounds r ≡ true) (λ r. form.is_supported r ≡ true) (records_of form (m p)) inside supported)
 
     fit_over : (level : ℕ) → ((q : ℕ) → IsSound form m site level false q → AllOf (Fit form run after) (recs_of form m level q)) → (es : List (Entry K)) → AllEntries (Fits level) es → AllOf (Fit form run after) (over (recs_of form m level) es)
     fit_over level below [] h = tt

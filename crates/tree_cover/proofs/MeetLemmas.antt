@@ -1,5 +1,5 @@
 -- Which records are the answer of some that stand one behind the other.
-use Rattle.std.proofs.Common.{◌≡◌, ℕ, ◌+◌, ◌<◌, ◌≤◌, Bool, true, false, List, [], ◌∷◌, ◌++◌, Option, Some, None, refl, sym, ◌∙◌, inl, inr, arith}
+use Rattle.std.proofs.Common.{◌≡◌, ℕ, ◌+◌, ◌^◌, ◌<◌, ◌≤◌, Bool, true, false, List, [], ◌∷◌, ◌++◌, Option, Some, None, refl, sym, ◌∙◌, inl, inr, arith}
 use Rattle.std.specs.Prelude.{nat_lt, ◌&&◌, ◌||◌, if◌then◌else◌, IfSome}
 use Rattle.std.proofs.lemmas.Bool.{false≢true}
 use Rattle.std.proofs.lemmas.Bool.Decides.{nat_tests}
@@ -9,6 +9,8 @@ use Rattle.sblock.specs.Kinds.{has_high_keys_of}
 use Rattle.sblock.specs.Lists.{Each}
 use Rattle.sblock.specs.declared.block.Bounds.{Bounds}
 use Rattle.tree_cover.specs.Covers.{CoversBlocks, ends_behind, start_of, meets, is_above, begins_behind, is_looked_at, is_first_met, first_met, IsSought}
+use Rattle.span_recs.specs.Refcounts.{is_shared}
+use Rattle.tree_cover.specs.Answers.{StagingMeetsNone}
 use Rattle.tree_cover.proofs.ListFacts.{AllOf, SomeOf, all_map, all_left, all_right, either, IsBefore, Ordered, starts_later}
 
 first_fails : (a b c : Bool) → a ≡ false → (a && b && c) ≡ false
@@ -22,6 +24,10 @@ pub third_fails : (a b c : Bool) → c ≡ false → (a && b && c) ≡ false
 third_fails true true c h = h
 third_fails true false c h = refl
 third_fails false b c h = refl
+
+both_false : (a : Bool) → (a && false) ≡ false
+both_false true = refl
+both_false false = refl
 
 pub not_less : (a b : ℕ) → b ≤ a → nat_lt a b ≡ false
 not_less a b h = grind (arith, nat_tests)
@@ -190,10 +196,17 @@ sought_if false r x P h k = k
 module _ {R K : Type 0} (form : Form R K) (bounds : Bounds) (run : Run) (after : Option K) where
   sought_one : (r : R) (rs : List R) → form.is_in_range bounds r ≡ true → form.is_supported r ≡ true → is_first_met form run after r rs ≡ true → IsSought form bounds run after r
   unfolding is_first_met
-  sought_one r rs inside built h = let parts = asked_parts (is_above form after (form.key_of r)) (meets form run r) (is_looked_at form run rs) h in record { above = parts.0; met = parts.1; inside = inside; built = built }
+  sought_one r rs inside supported h = let parts = asked_parts (is_above form after (form.key_of r)) (meets form run r) (is_looked_at form run rs) h in record { above = parts.0; met = parts.1; inside = inside; supported = supported }
 
-  -- of records that are built and in range, the one that is found is too
+  -- of records of supported forms that are in range, the one that is found is too
   pub sought : (rs : List R) → Each (form.is_in_range bounds) rs → Each form.is_supported rs → IfSome (first_met form run after rs) (IsSought form bounds run after)
   unfolding first_met
   sought [] h k = tt
   sought (r ∷ rs) h k = sought_if (is_first_met form run after r rs) r (first_met form run after rs) (IsSought form bounds run after) (λ met. sought_one r rs h.0 k.0 met) (sought rs h.1 k.1)
+
+-- a record of copy-on-write staging begins at 2^31 or behind it
+pub staging_meets_none_lem : StagingMeetsNone
+unfolding meets ends_behind is_shared
+staging_meets_none_lem run r short staging =
+    let e : nat_lt r.start (run.start + run.count) ≡ false = not_less r.start (run.start + run.count) (omega (arith, short, at_least r.start (2 ^ 31) staging)) in
+    first_fails (nat_lt 0 run.count && nat_lt r.start (run.start + run.count)) _ _ (rw e (both_false (nat_lt 0 run.count)))

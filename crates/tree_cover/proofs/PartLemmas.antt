@@ -5,8 +5,9 @@ use Rattle.std.proofs.lemmas.Bool.{false≢true, and_parts}
 use Rattle.std.proofs.lemmas.Bool.Decides.{nat_tests}
 use Rattle.sblock.specs.Form.{Form, IsLawful, same_key}
 use Rattle.sblock.specs.Kinds.{has_high_keys_of}
-use Rattle.tree_defs.specs.Tree.{Entry, later_key, join, span_of, agrees}
-use Rattle.tree_defs.specs.declared.span.Span.{Span}
+use Rattle.sblock.specs.Spans.{later_key, join, span_of}
+use Rattle.tree_defs.specs.Tree.{Entry, agrees}
+use Rattle.sblock.specs.declared.spans.Span.{Span}
 use Rattle.tree_cover.specs.Covers.{CoversBlocks, start_of}
 use Rattle.tree_cover.proofs.ListFacts.{AllOf, SomeOf, all_map, some_and_all, either, not_back}
 use Rattle.tree_cover.proofs.MeetLemmas.{chosen_true, chosen_false}

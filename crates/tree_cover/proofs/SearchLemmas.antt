@@ -15,7 +15,7 @@ use Rattle.tree_blocks.specs.declared.tree.WalkFault.{WalkFault}
 use Rattle.tree_blocks.specs.declared.tree.WalkFault.TheVariants.{Bad, Failed, Memory}
 use Rattle.tree_cover.specs.Covers.{first_met, IsSought}
 use Rattle.tree_cover.specs.Covering.{Search, found_or, search_or, choice_or, spare_of, first_in, choice_in, spare_in, resumed, cover_in}
-use Rattle.tree_blocks.proofs.LoneFacts.{child_inside, leaf_inside, leaf_built}
+use Rattle.tree_defs.proofs.LoneFacts.{child_inside, leaf_inside, leaf_supported}
 use Rattle.tree_cover.specs.Found.{MeetsSearch, IsChild, IsSpare}
 use Rattle.tree_cover.specs.declared.entry.Choice.{Choice}
 use Rattle.tree_cover.specs.declared.search.Spare.{Spare}
@@ -127,4 +127,4 @@ spare_below len level (Some s) None pos old new = (old.0, omega (arith, old.1))
 pub leaf_sought : {R K : Type 0} (form : Form R K) (site : Site) (run : Run) (after : Option K) (level : ℕ) (root : Bool) (p : ℕ) (bytes : List ℕ) → lone_fault form site level root p bytes ≡ None → level ≡ 0 → (n : ℕ) (area : List ℕ) (found : Option R) → n ≡ numrecs bytes → area ≡ area_of bytes → found ≡ first_met form run after (items_from (form.record_at area) n 0) → IfSome found (IsSought form site.bounds run after)
 unfolding records_of
 leaf_sought form site run after level root p bytes pass z n area found count shows e =
-    rw (e, shows, count) (sought form site.bounds run after (records_of form bytes) (leaf_inside form site level root p bytes pass z) (leaf_built form site level root p bytes pass z))
+    rw (e, shows, count) (sought form site.bounds run after (records_of form bytes) (leaf_inside form site level root p bytes pass z) (leaf_supported form site level root p bytes pass z))

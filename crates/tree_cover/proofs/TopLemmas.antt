@@ -7,7 +7,8 @@ use Rattle.sblock.specs.Form.{Form}
 use Rattle.sblock.specs.declared.block.BlockFault.TheVariants.{Range}
 use Rattle.sblock.proofs.BlockLemmas.{has_level}
 use Rattle.tree_defs.specs.Claims.{lone_fault}
-use Rattle.tree_defs.specs.Tree.{top_of, want_of, left_of}
+use Rattle.sblock.specs.Headers.{left_of}
+use Rattle.tree_defs.specs.Tree.{top_of, want_of}
 use Rattle.tree_defs.specs.declared.site.Site.{Site}
 use Rattle.tree_blocks.specs.Meets.{Refuses, RefusesBlock}
 use Rattle.tree_blocks.specs.declared.tree.WalkFault.{WalkFault}

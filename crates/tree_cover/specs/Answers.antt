@@ -1,9 +1,11 @@
 -- What a search of a readable tree answers.
-use Rattle.std.specs.Prelude.{◌≡◌, ◌⊎◌, ℕ, ◌+◌, ◌^◌, ◌<◌, ◌≤◌, ◌↔◌, true, ◌&&◌, List, Option, Result, Ok, find}
+use Rattle.std.specs.Prelude.{◌≡◌, ◌⊎◌, ℕ, ◌+◌, ◌^◌, ◌<◌, ◌≤◌, ◌↔◌, true, false, ◌&&◌, List, Option, Result, Ok, find}
 use Rattle.run_sets.specs.Runs.{is_within}
 use Rattle.run_sets.specs.declared.run.Run.{Run}
 use Rattle.sblock.specs.Form.{Form}
 use Rattle.sblock.specs.Kinds.{has_high_keys_of}
+use Rattle.span_recs.specs.Refcounts.{refc_form, is_shared}
+use Rattle.span_recs.specs.declared.refcount.RefcRec.{RefcRec}
 use Rattle.tree_defs.specs.Tree.{read_tree}
 use Rattle.tree_defs.specs.declared.site.Site.{Site}
 use Rattle.tree_cover.specs.Covers.{start_of, meets, is_above, first_met, AreApart}
@@ -38,3 +40,7 @@ module _ {R K : Type 0} (form : Form R K) where
   -- where the tree is readable, it answers that
   abbrev pub AnswersReadable : Site → (ℕ → List ℕ) → Run → Option K → ℕ → ℕ → Result (Option R) WalkFault → Type 0
   AnswersReadable site m run after root levels result = (recs : List R) (blocks : List ℕ) → read_tree form site m root levels ≡ Ok (recs, blocks) → AnswersTree run after recs result
+
+-- In a group's blocks, which lie below 2^31, no record of copy-on-write staging has one.
+abbrev pub StagingMeetsNone : Type 0
+StagingMeetsNone = (run : Run) (r : RefcRec) → run.start + run.count ≤ 2 ^ 31 → is_shared r ≡ false → meets refc_form run r ≡ false

@@ -11,15 +11,15 @@ use Rattle.span_recs.specs.declared.span.SpanRec.{SpanRec}
 use Rattle.ino_recs.specs.Chunks.{ino_form, fino_form}
 use Rattle.tree_cover.specs.Covers.{CoversBlocks}
 
--- a number that counts where the record is built
-counted : (built : Bool) (n : ℕ) → 0 < n → built ≡ true → 0 < (if built then n else 0)
+-- a number that counts where the form of the record is supported
+counted : (supported : Bool) (n : ℕ) → 0 < n → supported ≡ true → 0 < (if supported then n else 0)
 counted true n h e = h
 counted false n h e = cc
 
 pub covers_rmap : CoversBlocks rmap_form
 covers_rmap = record {
   by_block = λ e. cc;
-  some = λ bounds r inside built. leb-true 1 r.count (and_parts _ _ (and_parts _ _ inside).0).0;
+  some = λ bounds r inside supported. leb-true 1 r.count (and_parts _ _ (and_parts _ _ inside).0).0;
 }
 
 span_some : (bounds : Bounds) (r : SpanRec) → is_span_in_range bounds r ≡ true → 0 < r.count
@@ -27,17 +27,17 @@ unfolding is_span_in_range
 span_some bounds r inside = leb-true 1 r.count (and_parts _ _ (and_parts _ _ inside).0).1
 
 pub covers_bno : CoversBlocks bno_form
-covers_bno = record { by_block = λ e. cc; some = λ bounds r inside built. span_some bounds r inside }
+covers_bno = record { by_block = λ e. cc; some = λ bounds r inside supported. span_some bounds r inside }
 
 refc_some : (bounds : Bounds) (r : RefcRec) → is_refc_in_range bounds r ≡ true → 0 < r.count
 unfolding is_refc_in_range
 refc_some bounds r inside = leb-true 1 r.count (and_parts _ _ (and_parts _ _ (and_parts _ _ inside).0).0).1
 
 pub covers_refc : CoversBlocks refc_form
-covers_refc = record { by_block = λ e. cc; some = λ bounds r inside built. refc_some bounds r inside }
+covers_refc = record { by_block = λ e. cc; some = λ bounds r inside supported. refc_some bounds r inside }
 
 pub covers_ino : CoversBlocks ino_form
-covers_ino = record { by_block = λ e. cc; some = λ bounds r inside built. counted _ 8 (omega arith) built }
+covers_ino = record { by_block = λ e. cc; some = λ bounds r inside supported. counted _ 8 (omega arith) supported }
 
 pub covers_fino : CoversBlocks fino_form
-covers_fino = record { by_block = λ e. cc; some = λ bounds r inside built. counted _ 8 (omega arith) built }
+covers_fino = record { by_block = λ e. cc; some = λ bounds r inside supported. counted _ 8 (omega arith) supported }

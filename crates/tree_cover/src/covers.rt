@@ -4,8 +4,8 @@ use sblock::RecKind;
 use span_recs::{BnoKind, RefcKind};
 
 /// The kinds whose records are ordered by the blocks that they cover: all but free space by count.
-/// The blocks are those from the record's key on; a record of copy-on-write staging and a chunk of
-/// inodes with holes cover none
+/// The blocks are those from the record's key on: of a record of copy-on-write staging blocks from
+/// 2^31 on, where no group has any; of a chunk of inodes with holes none
 /// (XFS Algorithms and Data Structures, "Allocation Groups").
 pub trait Covers: RecKind {
     ghost use Rattle.tree_cover.specs.Covers.{CoversBlocks};

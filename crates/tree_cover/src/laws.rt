@@ -1,4 +1,4 @@
-ghost use Rattle.tree_cover.specs.Answers.{SearchesTrees, LooksAtAll, MeetsByBlock};
+ghost use Rattle.tree_cover.specs.Answers.{SearchesTrees, LooksAtAll, MeetsByBlock, StagingMeetsNone};
 
 use crate::covers::Covers;
 
@@ -19,4 +19,10 @@ pub fn looks_at_all<K: Covers>()
 /// A record meets a run exactly where some block is one of both.
 pub fn meets_by_block<K: Covers>()
     ensures { MeetsByBlock K.form }
+{}
+
+/// No record of copy-on-write staging meets a run that ends at block 2^31 or before it, as each run
+/// of a group's blocks does (XFS Algorithms and Data Structures, "Reference Count B+tree").
+pub fn staging_meets_none()
+    ensures { StagingMeetsNone }
 {}

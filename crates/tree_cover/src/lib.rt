@@ -10,8 +10,5 @@ mod search;
 mod top;
 
 pub use covers::Covers;
-pub use laws::{looks_at_all, meets_by_block, searches_trees};
+pub use laws::{looks_at_all, meets_by_block, searches_trees, staging_meets_none};
 pub use top::covering;
-
-#[cfg(test)]
-mod tests;

@@ -1,12 +1,14 @@
-ghost use Rattle.std.specs.Prelude.{◌≡◌, ◌+◌, ◌*◌, ◌^◌, ◌<◌, ◌≤◌, true, IfOk, IfErr, IfSome, Some};
+ghost use Rattle.std.specs.Prelude.{◌≡◌, List, ℕ, ◌+◌, ◌*◌, ◌<◌, ◌≤◌, true, IfOk, IfErr, IfSome, Some};
 ghost use Rattle.blk_cache.specs.Cache.{AgreesTold};
-ghost use Rattle.blk_device.specs.Contents.{Contents};
 ghost use Rattle.blk_device.specs.declared.device.Region.TheVariants.{Image};
 ghost use Rattle.geom.specs.Places.{layout};
 ghost use Rattle.tree_defs.specs.Claims.{lone_fault};
-ghost use Rattle.tree_defs.specs.Sites.{bounds_of, site_of, group_blocks};
+ghost use Rattle.tree_defs.specs.Sites.{bounds_of};
+ghost use Rattle.tree_blocks.specs.Told.{OfTree};
 ghost use Rattle.tree_blocks.specs.Meets.{RefusesBlock, IsNoMemory};
-ghost use Rattle.tree_blocks.specs.Reading.{OnlyRead, HasCause, CauseOf};
+ghost use Rattle.tree_blocks.specs.Calls.{Reads};
+ghost use Rattle.blk_device.specs.Reading.{OnlyRead};
+ghost use Rattle.tree_blocks.specs.Reading.{HasCause, CauseOf};
 ghost use Rattle.tree_cover.specs.Answers.{AnswersReadable};
 ghost use Rattle.tree_cover.specs.Covers.{IsSought};
 ghost use Rattle.tree_cover.specs.Covering.{covering_in};
@@ -22,54 +24,40 @@ use geom::Geometry;
 use run_sets::Run;
 use sblock::{BlockFault, RecKind};
 use std::sync::ledger::Ledger;
-use tree_blocks::{TreeAt, WalkFault, open_block};
+use tree_blocks::{Blocks, Cached, TreeAt, WalkFault, open_block};
 use tree_defs::Site;
 
 // A root whose head has a count of levels that no tree has: Magic, or else Level.
-fn refuse_levels<K: RecKind, D: Device, L: Ledger>(
-    dev: &mut D,
-    cache: &mut BlkCache,
-    site: &Site,
-    root: u32,
-    steps: &mut Steps<L>,
-) -> WalkFault
+fn refuse_levels<K: RecKind, B: Blocks>(blocks: &mut B, site: &Site, root: u32) -> WalkFault
     requires inside { root < site.now.bounds.length }
-    requires room { site.now.first + site.now.bounds.length ≤ D.blocks dev.old Image }
-    requires fits { 8 * (site.now.first + site.now.bounds.length) < 2 ^ 64 }
-    requires agreed { AgreesTold cache.old (D.content dev.old) }
-    ensures refused { (c : Contents) → D.content dev.old ≡ Some c → RefusesBlock root (lone_fault K.form site.now 9 true root (group_blocks site.now (c Image) root)) result }
+    requires here { B.place blocks.old ≡ site.now }
+    ensures refused { (m : ℕ → List ℕ) → B.told blocks.old ≡ Some m → RefusesBlock root (lone_fault K.form site.now 9 true root (m root)) result }
     ensures no_memory { IsNoMemory result }
-    ensures reading { OnlyRead D.content D.blocks D.faults D.reads D.clock D.may_have_held_since D.may_hold_now dev.old dev.new steps.old steps.new }
-    ensures cause { CauseOf (D.faults dev.old) (D.faults dev.new) result }
-    ensures agrees { AgreesTold cache.new (D.content dev.new) }
-    ensures one { steps.new.reads ≡ steps.old.reads + 1 }
+    ensures reading { Reads B.Blocks blocks.old blocks.new }
+    ensures cause { CauseOf (B.faults blocks.old) (B.faults blocks.new) result }
+    ensures one { B.count blocks.new ≡ B.count blocks.old + 1 }
 {
-    match open_block::<K, D, L>(dev, cache, site, 9, true, root, steps) {
+    match open_block::<K, B>(blocks, site, 9, true, root) {
         Ok(_block) => unreachable!(),
         Err(fault) => fault,
     }
 }
 
 // Searches the tree of this root and count of levels.
-fn search_site<K: RecKind, D: Device, L: Ledger>(
-    dev: &mut D,
-    cache: &mut BlkCache,
+fn search_site<K: RecKind, B: Blocks>(
+    blocks: &mut B,
     site: &Site,
     tree: &TreeAt,
     asked: &Asked<K::Key>,
-    steps: &mut Steps<L>,
 ) -> Result<Option<K::Rec>, WalkFault>
-    requires room { site.now.first + site.now.bounds.length ≤ D.blocks dev.old Image }
-    requires fits { 8 * (site.now.first + site.now.bounds.length) < 2 ^ 64 }
-    requires agreed { AgreesTold cache.old (D.content dev.old) }
-    ensures exact { (c : Contents) → D.content dev.old ≡ Some c → MeetsSearch (covering_in K.form site.now (group_blocks site.now (c Image)) asked.now.run asked.now.after tree.now.root tree.now.levels) result }
+    requires here { B.place blocks.old ≡ site.now }
+    ensures exact { (m : ℕ → List ℕ) → B.told blocks.old ≡ Some m → MeetsSearch (covering_in K.form site.now m asked.now.run asked.now.after tree.now.root tree.now.levels) result }
     ensures sought { IfOk result (λ found. IfSome found (IsSought K.form site.now.bounds asked.now.run asked.now.after)) }
     ensures no_memory { IfErr result IsNoMemory }
-    ensures reading { OnlyRead D.content D.blocks D.faults D.reads D.clock D.may_have_held_since D.may_hold_now dev.old dev.new steps.old steps.new }
-    ensures cause { HasCause (D.faults dev.old) (D.faults dev.new) result }
-    ensures agrees { AgreesTold cache.new (D.content dev.new) }
-    ensures few { steps.new.reads ≤ steps.old.reads + 18 }
-    ensures two_a_level { 1 ≤ tree.now.levels → steps.new.reads ≤ steps.old.reads + 2 * tree.now.levels }
+    ensures reading { Reads B.Blocks blocks.old blocks.new }
+    ensures cause { HasCause (B.faults blocks.old) (B.faults blocks.new) result }
+    ensures few { B.count blocks.new ≤ B.count blocks.old + 18 }
+    ensures two_a_level { 1 ≤ tree.now.levels → B.count blocks.new ≤ B.count blocks.old + 2 * tree.now.levels }
 {
     let root = tree.root;
     if root == 0 || root >= site.bounds.length {
@@ -79,10 +67,10 @@ fn search_site<K: RecKind, D: Device, L: Ledger>(
         });
     }
     if tree.levels == 0 || tree.levels > 9 {
-        return Err(refuse_levels::<K, D, L>(dev, cache, site, root, steps));
+        return Err(refuse_levels::<K, B>(blocks, site, root));
     }
     let level = (tree.levels - 1) as u8;
-    search::<K, D, L>(dev, cache, site, level, true, root, None, asked, steps)
+    search::<K, B>(blocks, site, level, true, root, None, asked)
 }
 
 /// The first record of a tree, above `after` in key order (of all, where it is None), that has a
@@ -100,16 +88,17 @@ pub fn covering<K: Covers, D: Device, L: Ledger>(
     after: Option<K::Key>,
     steps: &mut Steps<L>,
 ) -> Result<Option<K::Rec>, WalkFault>
+    requires kind { tree.now.kind ≡ K.form.kind }
     requires group { tree.now.group < geo.now.agcount }
     requires room { geo.now.dblocks ≤ D.blocks dev.old Image }
     requires agreed { AgreesTold cache.old (D.content dev.old) }
-    ensures exact { IfSome (D.content dev.old) (λ c. let site = site_of (layout geo.now) tree.now.group in MeetsSearch (covering_in K.form site (group_blocks site (c Image)) run after tree.now.root tree.now.levels) result) }
+    ensures exact { OfTree (layout geo.now) tree.now (D.content dev.old) (λ s m r n. MeetsSearch (covering_in K.form s m run after r n) result) }
     // On a readable tree it is the first record that has a block of the run, of the kinds without
     // high keys where no record has a block of the next one.
-    ensures readable { IfSome (D.content dev.old) (λ c. let site = site_of (layout geo.now) tree.now.group in AnswersReadable K.form site (group_blocks site (c Image)) run after tree.now.root tree.now.levels result) }
+    ensures readable { OfTree (layout geo.now) tree.now (D.content dev.old) (λ s m r n. AnswersReadable K.form s m run after r n result) }
     ensures sought { IfOk result (λ found. IfSome found (IsSought K.form (bounds_of (layout geo.now) tree.now.group) run after)) }
     ensures no_memory { IfErr result IsNoMemory }
-    ensures reading { OnlyRead D.content D.blocks D.faults D.reads D.clock D.may_have_held_since D.may_hold_now dev.old dev.new steps.old steps.new }
+    ensures reading { OnlyRead D.Device dev.old dev.new steps.old steps.new }
     ensures cause { HasCause (D.faults dev.old) (D.faults dev.new) result }
     ensures agrees { AgreesTold cache.new (D.content dev.new) }
     ensures few { steps.new.reads ≤ steps.old.reads + 18 }
@@ -117,5 +106,11 @@ pub fn covering<K: Covers, D: Device, L: Ledger>(
 {
     let site = Site::of_group(geo, tree.group);
     let asked = Asked { run, after };
-    search_site::<K, D, L>(dev, cache, &site, tree, &asked, steps)
+    let mut blocks = Cached {
+        dev,
+        cache,
+        site,
+        steps,
+    };
+    search_site::<K, Cached<D, L>>(&mut blocks, &site, tree, &asked)
 }

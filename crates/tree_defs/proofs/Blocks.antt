@@ -12,7 +12,8 @@ use Rattle.sblock.specs.declared.block.BlockFault.TheVariants.{Sibling, Order}
 use Rattle.byte_fields.proofs.TestLemmas.{all_pass, none_fails}
 use Rattle.sblock.proofs.BlockLemmas.{records_rise}
 use Rattle.tree_defs.specs.Levels.{RisesAfter, IsRight}
-use Rattle.tree_defs.specs.Tree.{Trail, no_block, left_of, want_of, sibling_fault, order_fault, fault_here, comes_after}
+use Rattle.sblock.specs.Headers.{no_block, left_of}
+use Rattle.tree_defs.specs.Tree.{Trail, want_of, sibling_fault, order_fault, fault_here, comes_after}
 use Rattle.tree_defs.specs.declared.site.Site.{Site}
 use Rattle.tree_defs.proofs.Moves.{FollowsOn}
 use Rattle.tree_defs.proofs.Parts.{last_rec, last_is, sooner_none, rises_behind}

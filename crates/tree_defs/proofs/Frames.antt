@@ -5,8 +5,9 @@ use Rattle.sblock.specs.Form.{Form}
 use Rattle.sblock.specs.declared.block.BlockFault.TheVariants.{Key}
 use Rattle.tree_defs.specs.Frame.{SameAt, ReadsOwnBlocks}
 use Rattle.tree_defs.specs.Levels.{over, entries, blocks_of}
-use Rattle.tree_defs.specs.Tree.{Trail, Entry, Read, agrees, join, noted, fault_here, tested, fresh, top_of, read_children, read_node, read_tree}
-use Rattle.tree_defs.specs.declared.span.Span.{Span}
+use Rattle.sblock.specs.Spans.{join}
+use Rattle.tree_defs.specs.Tree.{Trail, Entry, Read, agrees, noted, fault_here, tested, fresh, top_of, read_children, read_node, read_tree}
+use Rattle.sblock.specs.declared.spans.Span.{Span}
 use Rattle.tree_defs.specs.declared.site.Site.{Site}
 
 same_left : (m n : ℕ → List ℕ) (xs ys : List ℕ) → SameAt m n (xs ++ ys) → SameAt m n xs

@@ -1,8 +1,16 @@
 pub mod Blocks
+pub mod Chains
+pub mod ClaimLemmas
+pub mod Counts
+pub mod Counted
+pub mod Depths
+pub mod EachLemmas
 pub mod Frames
+pub mod LoneFacts
 pub mod Moves
 pub mod Parts
+pub mod Rows
 pub mod SiteLemmas
-pub mod Spans
+pub mod Stays
 pub mod Trees
 pub mod Walks

@@ -6,7 +6,8 @@ use Rattle.std.proofs.lemmas.Bool.{eqb-true}
 use Rattle.std.proofs.lemmas.Bool.Decides.{nat_tests}
 use Rattle.sblock.specs.Form.{Form}
 use Rattle.tree_defs.specs.Levels.{IsChain, last_right, RisesAfter, here}
-use Rattle.tree_defs.specs.Tree.{Trail, no_block, left_of, right_of, noted, with_recs}
+use Rattle.sblock.specs.Headers.{no_block, left_of, right_of}
+use Rattle.tree_defs.specs.Tree.{Trail, noted, with_recs}
 use Rattle.tree_defs.proofs.Parts.{last_block, last_rec, last_block_append, last_right_append, last_rec_append, chain_join, rising_join}
 
 pub record Sized {R : Type 0} (t : Trail R) : Type 0 where

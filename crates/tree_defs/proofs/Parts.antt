@@ -5,8 +5,9 @@ use Rattle.sblock.specs.Blocks.{IsRising}
 use Rattle.sblock.specs.Form.{Form}
 use Rattle.sblock.specs.declared.block.BlockFault.{BlockFault}
 use Rattle.tree_defs.specs.Levels.{IsChain, last_right, RisesAfter}
-use Rattle.tree_defs.specs.Tree.{Trail, Entry, Read, right_of, sooner, agrees, tested}
-use Rattle.tree_defs.specs.declared.span.Span.{Span}
+use Rattle.sblock.specs.Headers.{right_of}
+use Rattle.tree_defs.specs.Tree.{Trail, Entry, Read, sooner, agrees, tested}
+use Rattle.sblock.specs.declared.spans.Span.{Span}
 
 abbrev pub last_block : ℕ → List ℕ → ℕ
 last_block before [] = before

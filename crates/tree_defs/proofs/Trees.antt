@@ -9,8 +9,9 @@ use Rattle.sblock.specs.declared.block.BlockFault.{BlockFault}
 use Rattle.sblock.specs.declared.block.BlockFault.TheVariants.{Sibling}
 use Rattle.sblock.proofs.BlockLemmas.{has_level}
 use Rattle.tree_defs.specs.Levels.{IsChain, RisesAfter, IsTree, ReadsTrees, recs_of, row}
-use Rattle.tree_defs.specs.Tree.{Trail, Read, no_block, left_of, want_of, open_end, fresh, top_of, closed, read_tree, read_node}
-use Rattle.tree_defs.specs.declared.span.Span.{Span}
+use Rattle.sblock.specs.Headers.{no_block, left_of}
+use Rattle.tree_defs.specs.Tree.{Trail, Read, want_of, open_end, fresh, top_of, closed, read_tree, read_node}
+use Rattle.sblock.specs.declared.spans.Span.{Span}
 use Rattle.tree_defs.specs.declared.site.Site.{Site}
 use Rattle.tree_defs.proofs.Blocks.{stands}
 use Rattle.tree_defs.proofs.Moves.{Sized}
@@ -45,7 +46,7 @@ end_ok : {A : Type 0} (o : Option ℕ) (v z : A) → ◌≡◌ {A = Result A (�
 end_ok None v z h = (refl, cc)
 end_ok (Some p) v z h = cc
 
-closed_ok : {R K : Type 0} (levels : ℕ) (read : Read R K) (recs : List R) (blocks : List ℕ) → closed levels read ≡ Ok (recs, blocks) → (x : Trail R × Option (Span K)) × (read ≡ Ok x) × (open_end x.0 0 levels ≡ None) × (x.0.recs ≡ recs) × (x.0.blocks ≡ blocks)
+pub closed_ok : {R K : Type 0} (levels : ℕ) (read : Read R K) (recs : List R) (blocks : List ℕ) → closed levels read ≡ Ok (recs, blocks) → (x : Trail R × Option (Span K)) × (read ≡ Ok x) × (open_end x.0 0 levels ≡ None) × (x.0.recs ≡ recs) × (x.0.blocks ≡ blocks)
 closed_ok levels (Err f) recs blocks h = cc
 closed_ok {R} levels (Ok x) recs blocks h =
     let a = end_ok (open_end x.0 0 levels) (x.0.recs, x.0.blocks) (recs, blocks) h in
@@ -66,7 +67,7 @@ lies root len h = let parts = and_parts _ _ h in (leb-true 1 root parts.0, ltb-t
 does_lie : (root len : ℕ) → (1 ≤ root) × (root < len) → (nat_le 1 root && nat_lt root len) ≡ true
 does_lie root len h = grind (arith, nat_tests)
 
-is_level : (levels : ℕ) → (1 ≤ levels) × (levels ≤ 9) → top_of levels ≡ levels - 1
+pub is_level : (levels : ℕ) → (1 ≤ levels) × (levels ≤ 9) → top_of levels ≡ levels - 1
 is_level levels h =
     let e : (nat_le 1 levels && nat_le levels 9) ≡ true = grind (arith, nat_tests) in
     rw e refl

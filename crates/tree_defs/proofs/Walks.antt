@@ -6,13 +6,14 @@ use Rattle.sblock.specs.Form.{Form, IsLawful}
 use Rattle.sblock.specs.declared.block.BlockFault.TheVariants.{Key}
 use Rattle.sblock.specs.declared.block.BlockFault.{BlockFault}
 use Rattle.tree_defs.specs.Levels.{IsChain, RisesAfter, here, recs_of, blocks_of, row, IsSound, AllEntries, over, entries}
-use Rattle.tree_defs.specs.Tree.{Trail, Entry, Read, join, span_of, agrees, noted, with_recs, read_children, read_node}
-use Rattle.tree_defs.specs.declared.span.Span.{Span}
+use Rattle.sblock.specs.Spans.{join, span_of}
+use Rattle.tree_defs.specs.Tree.{Trail, Entry, Read, agrees, noted, with_recs, read_children, read_node}
+use Rattle.sblock.specs.declared.spans.Span.{Span}
 use Rattle.tree_defs.specs.declared.site.Site.{Site}
 use Rattle.tree_defs.proofs.Blocks.{stands, stood, leaf_rises, first_after, same_number}
 use Rattle.tree_defs.proofs.Moves.{Sized, Moved, moved_join, moved_none, entered, last_after, no_more}
 use Rattle.tree_defs.proofs.Parts.{last_rec, chain_left, chain_right, rising_left, rising_right, tested_ok, both_same, child_ok}
-use Rattle.tree_defs.proofs.Spans.{span_append, join_none, join_regroup}
+use Rattle.sblock.proofs.SpanLemmas.{span_append, join_none, join_regroup}
 
 module _ {R K : Type 0} (form : Form R K) (m : ℕ → List ℕ) (site : Site) where
   abbrev Fits : ℕ → Entry K → Type 0

@@ -2,7 +2,9 @@
 use Rattle.std.specs.Prelude.{◌≡◌, ℕ, zero, suc, ◌-◌, ◌<◌, ◌≤◌, ◌==◌, ◌⊎◌, ◌↔◌, Bool, true, false, if◌then◌else◌, List, [], ◌∷◌, ◌++◌, Option, Some, None, Ok}
 use Rattle.sblock.specs.Blocks.{numrecs, block_fault, records_of, IsRising}
 use Rattle.sblock.specs.Form.{Form}
-use Rattle.tree_defs.specs.Tree.{no_block, left_of, right_of, want_of, comes_after, Entry, agrees, span_of, entries_from, read_tree}
+use Rattle.sblock.specs.Headers.{no_block, left_of, right_of}
+use Rattle.sblock.specs.Spans.{span_of}
+use Rattle.tree_defs.specs.Tree.{want_of, comes_after, Entry, agrees, entries_from, read_tree}
 use Rattle.tree_defs.specs.declared.site.Site.{Site}
 
 -- what the children have, from left to right

@@ -1,29 +1,20 @@
 -- What a walk of a tree reads: its records and blocks, or the first fault in walk order with its
 -- block. Blocks are group-relative, and an image of a group gives the bytes of each.
 use Rattle.std.specs.Prelude.{ℕ, zero, suc, ◌+◌, ◌-◌, ◌*◌, ◌==◌, nat_lt, nat_le, Bool, true, false, ◌&&◌, ◌||◌, not, if◌then◌else◌, List, [], ◌∷◌, ◌++◌, length, replicate, slice_index, slice_set, slice_get, Option, Some, None, Result, Ok, Err}
-use Rattle.byte_fields.specs.Fields.{field}
 use Rattle.sblock.specs.Area.{area_of, child_of}
 use Rattle.sblock.specs.Blocks.{numrecs, block_fault, records_of}
 use Rattle.sblock.specs.Form.{Form, same_key}
+use Rattle.sblock.specs.Headers.{no_block, right_of}
 use Rattle.sblock.specs.Kinds.{has_high_keys_of}
 use Rattle.sblock.specs.Lists.{items_from}
+use Rattle.sblock.specs.Spans.{join, span_of}
 use Rattle.sblock.specs.declared.block.BlockFault.{BlockFault}
 use Rattle.sblock.specs.declared.block.BlockFault.TheVariants as faults
 use Rattle.sblock.specs.declared.block.BlockFault.TheVariants.{Magic, Level, Count, Sibling, Place, Owner, Uuid, Checksum, Order, Key, Range, Later}
 use Rattle.sblock.specs.declared.block.Want.{Want}
 use Rattle.sblock.specs.declared.kind.Kind.{Kind}
 use Rattle.tree_defs.specs.declared.site.Site.{Site}
-use Rattle.tree_defs.specs.declared.span.Span.{Span}
-
--- a sibling that isn't there
-abbrev pub no_block : ℕ
-no_block = 0xffff_ffff
-
-abbrev pub left_of : List ℕ → ℕ
-left_of bytes = field 4 bytes 8
-
-abbrev pub right_of : List ℕ → ℕ
-right_of bytes = field 4 bytes 12
+use Rattle.sblock.specs.declared.spans.Span.{Span}
 
 -- what a block of a group is to be
 abbrev pub want_of : Kind → Site → ℕ → Bool → ℕ → ℕ → Want
@@ -138,19 +129,6 @@ module _ {R K : Type 0} (form : Form R K) where
   unfoldable pub entries_from : List ℕ → ℕ → ℕ → List (Entry K)
   entries_from bytes i n = items_from (entry_at (area_of bytes)) n i
 
-  abbrev pub later_key : K → K → K
-  later_key a b = if form.is_before a b then b else a
-
-  -- of two parts, one behind the other, of which one may be empty
-  abbrev pub join : Option (Span K) → Option (Span K) → Option (Span K)
-  join None b = b
-  join (Some a) None = Some a
-  join (Some a) (Some b) = Some (record { low = a.low; high = later_key a.high b.high })
-
-  unfoldable pub span_of : List R → Option (Span K)
-  span_of [] = None
-  span_of (r ∷ rs) = join (Some (record { low = form.key_of r; high = form.high_key_of r })) (span_of rs)
-
   -- an entry's keys are its subtree's: the low one, and the high one where the kind has it
   abbrev pub agrees : Entry K → Option (Span K) → Bool
   agrees e None = false
@@ -163,13 +141,13 @@ module _ {R K : Type 0} (form : Form R K) where
   read_children below p (e ∷ es) t span =
       elim (below e.child t) [
         | Err fault ↦ Err fault
-        | Ok read ↦ if agrees e read.1 then read_children below p es read.0 (join span read.1) else Err (p, faults.Key)
+        | Ok read ↦ if agrees e read.1 then read_children below p es read.0 (join form span read.1) else Err (p, faults.Key)
       ]
 
   -- the subtree of a block
   unfoldable pub read_node : Site → (ℕ → List ℕ) → ℕ → Bool → ℕ → Trail R → Read R K
   read_node site m zero root p t =
-      tested (fault_here site t 0 root p (m p)) p (Ok (with_recs (noted t 0 p (m p)) (records_of form (m p)), span_of (records_of form (m p))))
+      tested (fault_here site t 0 root p (m p)) p (Ok (with_recs (noted t 0 p (m p)) (records_of form (m p)), span_of form (records_of form (m p))))
   read_node site m (suc level) root p t =
       tested (fault_here site t (suc level) root p (m p)) p (read_children (read_node site m level false) p (entries_from (m p) 0 (numrecs (m p))) (noted t (suc level) p (m p)) None)
 

@@ -1,13 +1,12 @@
-//! What a short-form btree is: what a walk of it reads, and the tree by its levels.
+//! What a short-form btree is: what a walk of it reads, the tree by its levels, what it claims
+//! where it can't be read, and how large it may be.
 #![tactic(auto)]
 
 mod laws;
 mod site;
-mod span;
 
-pub use laws::{reads_own_blocks, reads_trees};
+pub use laws::{
+    blocks_differ, claims_are_listed, counts_blocks, has_few_levels, reads_own_blocks, reads_trees,
+    stays_readable,
+};
 pub use site::Site;
-pub use span::Span;
-
-#[cfg(test)]
-mod tests;

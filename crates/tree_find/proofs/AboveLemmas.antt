@@ -9,9 +9,10 @@ use Rattle.sblock.proofs.BlockLemmas.{records_rise}
 use Rattle.sblock.specs.Form.{Form, IsLawful}
 use Rattle.sblock.specs.Lists.{items_from, Each}
 use Rattle.tree_defs.specs.Claims.{lone_fault}
-use Rattle.tree_defs.specs.Tree.{want_of, left_of}
+use Rattle.sblock.specs.Headers.{left_of}
+use Rattle.tree_defs.specs.Tree.{want_of}
 use Rattle.tree_defs.specs.declared.site.Site.{Site}
-use Rattle.tree_blocks.proofs.LoneFacts.{leaf_inside, leaf_built}
+use Rattle.tree_defs.proofs.LoneFacts.{leaf_inside, leaf_supported}
 use Rattle.tree_find.specs.Next.{is_above, records_above, place_above, AreAbove}
 use Rattle.tree_find.specs.Places.{behind_last, is_reached, place_behind}
 use Rattle.tree_find.proofs.OpenLemmas.{leaf_rising}
@@ -45,7 +46,7 @@ module _ {R K : Type 0} (form : Form R K) (law : IsLawful form) (bytes : List �
       let a = placed_at (is_reached form key true (area_of bytes)) (numrecs bytes) i e in
       fails (form.is_before key (form.key_of (form.record_at (area_of bytes) k))) (reached_below form law true (area_of bytes) (numrecs bytes) rising key i a.1 a.0 k (omega arith))
 
-  from_place : (key : K) (k : ℕ) → place_behind form key true (area_of bytes) (numrecs bytes) ≤ k → k < numrecs bytes → form.is_before key (form.key_of (form.record_at (area_of bytes) k)) ≡ true
+  pub from_place : (key : K) (k : ℕ) → place_behind form key true (area_of bytes) (numrecs bytes) ≤ k → k < numrecs bytes → form.is_before key (form.key_of (form.record_at (area_of bytes) k)) ≡ true
   unfolding place_behind is_reached key_in
   from_place key k le lt = passes (form.is_before key (form.key_of (form.record_at (area_of bytes) k))) (placed_above (is_reached form key true (area_of bytes)) (numrecs bytes) k le lt)
 
@@ -104,7 +105,7 @@ each_passes test (x ∷ xs) =
     ]
 
 module _ {R K : Type 0} (form : Form R K) (law : IsLawful form) where
-  place_within : (after : Option K) (bytes : List ℕ) → place_above form after true (area_of bytes) (numrecs bytes) ≤ numrecs bytes
+  pub place_within : (after : Option K) (bytes : List ℕ) → place_above form after true (area_of bytes) (numrecs bytes) ≤ numrecs bytes
   unfolding place_behind
   place_within None bytes = omega arith
   place_within (Some key) bytes = behind_within (is_reached form key true (area_of bytes)) (numrecs bytes)
@@ -128,5 +129,5 @@ module _ {R K : Type 0} (form : Form R K) (law : IsLawful form) where
     rising = above_rises after bytes (leaf_rising form site level root p bytes pass z) (records_rise form bytes (want_of form.kind site level root (left_of bytes) p) pass z);
     above = each_passes (is_above form after) (records_of form bytes);
     inside = each_kept (is_above form after) (form.is_in_range site.bounds) (records_of form bytes) (leaf_inside form site level root p bytes pass z);
-    built = each_kept (is_above form after) form.is_supported (records_of form bytes) (leaf_built form site level root p bytes pass z);
+    supported = each_kept (is_above form after) form.is_supported (records_of form bytes) (leaf_supported form site level root p bytes pass z);
   })

@@ -4,8 +4,9 @@ use Rattle.std.proofs.lemmas.Bool.{false≢true, and_parts}
 use Rattle.sblock.specs.Form.{Form, IsLawful, same_key}
 use Rattle.sblock.specs.Lists.{items_from}
 use Rattle.tree_defs.specs.Levels.{over, AllEntries}
-use Rattle.tree_defs.specs.Tree.{Entry, join, agrees, span_of}
-use Rattle.tree_defs.specs.declared.span.Span.{Span}
+use Rattle.sblock.specs.Spans.{join, span_of}
+use Rattle.tree_defs.specs.Tree.{Entry, agrees}
+use Rattle.sblock.specs.declared.spans.Span.{Span}
 use Rattle.tree_find.proofs.Facts.{is_either, fails}
 use Rattle.tree_find.proofs.Parting.{Begins, LiesAbove}
 

@@ -8,7 +8,8 @@ use Rattle.sblock.specs.Blocks.{numrecs, records_of, IsRising}
 use Rattle.sblock.specs.Form.{Form, IsLawful}
 use Rattle.sblock.specs.Lists.{items_from, Each}
 use Rattle.tree_defs.specs.Levels.{over, AllEntries, recs_of, IsSound, IsTree}
-use Rattle.tree_defs.specs.Tree.{Entry, entries_from, agrees, span_of}
+use Rattle.sblock.specs.Spans.{span_of}
+use Rattle.tree_defs.specs.Tree.{Entry, entries_from, agrees}
 use Rattle.tree_defs.specs.declared.site.Site.{Site}
 use Rattle.tree_defs.proofs.Trees.{reads_trees_lem}
 use Rattle.tree_blocks.specs.declared.tree.WalkFault.{WalkFault}
@@ -66,13 +67,13 @@ module _ {R K : Type 0} (form : Form R K) (law : IsLawful form) where
 one_first : {A K : Type 0} (f : ℕ → List A) (item : ℕ → Entry K) (n k from : ℕ) → n ≡ suc k → over f (items_from item n from) ≡ f (item from).child ++ over f (items_from item k (from + 1))
 one_first f item n k from e = rw e refl
 
-place_within : {R K : Type 0} (form : Form R K) (key : K) (bytes : List ℕ) → 1 ≤ numrecs bytes → place_behind form key false (area_of bytes) (numrecs bytes) - 1 < numrecs bytes
+pub place_within : {R K : Type 0} (form : Form R K) (key : K) (bytes : List ℕ) → 1 ≤ numrecs bytes → place_behind form key false (area_of bytes) (numrecs bytes) - 1 < numrecs bytes
 unfolding place_behind
 place_within form key bytes some = let le = behind_within (is_reached form key false (area_of bytes)) (numrecs bytes) in omega (arith, le, some)
 
 module _ {R K : Type 0} (form : Form R K) (law : IsLawful form) (site : Site) (m : ℕ → List ℕ) where
   -- an entry whose keys are its subtree's leads to records
-  has_records : (level : ℕ) (rs : List R) (i : ℕ) (bytes : List ℕ) → agrees form (entry form law site m bytes i) (span_of form rs) ≡ true → rs ≡ [] → ⊥
+  pub has_records : (level : ℕ) (rs : List R) (i : ℕ) (bytes : List ℕ) → agrees form (entry form law site m bytes i) (span_of form rs) ≡ true → rs ≡ [] → ⊥
   has_records level rs i bytes h e = none_agrees form law (entry form law site m bytes i) (let P : List R → Type 0 = λ v. agrees form (entry form law site m bytes i) (span_of form v) ≡ true in subst P e h)
 
   module _ (level : ℕ) (bytes : List ℕ) where

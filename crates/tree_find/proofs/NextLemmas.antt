@@ -157,7 +157,7 @@ both_ways levels level before after e h =
 
 -- what was found, as a list
 pub sound_list : {R K Z : Type 0} (form : Form R K) (bounds : Bounds) (after : Option K) (found : Option (Vec R Z)) (recs : Vec R Z) → IfSome found (λ v. AreAbove form bounds after v.items) → IfSome found (λ v. recs.items ≡ v.items) → IfNone found (recs.items ≡ []) → AreAbove form bounds after recs.items
-sound_list form bounds after None recs sound some none = rw none (record { rising = tt; above = tt; inside = tt; built = tt })
+sound_list form bounds after None recs sound some none = rw none (record { rising = tt; above = tt; inside = tt; supported = tt })
 sound_list form bounds after (Some v) recs sound some none = rw some sound
 
 module _ {R K : Type 0} (form : Form R K) (site : Site) (m : ℕ → List ℕ) (after : Option K) (root levels : ℕ) where

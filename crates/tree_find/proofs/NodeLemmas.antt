@@ -5,7 +5,8 @@ use Rattle.sblock.specs.Blocks.{numrecs, key_in}
 use Rattle.sblock.specs.Form.{Form, IsLawful}
 use Rattle.sblock.specs.Lists.{items_from}
 use Rattle.tree_defs.specs.Levels.{over, AllEntries, recs_of, IsSound}
-use Rattle.tree_defs.specs.Tree.{Entry, entry_at, agrees, span_of}
+use Rattle.sblock.specs.Spans.{span_of}
+use Rattle.tree_defs.specs.Tree.{Entry, entry_at, agrees}
 use Rattle.tree_defs.specs.declared.site.Site.{Site}
 use Rattle.tree_find.specs.Places.{is_reached, place_behind}
 use Rattle.tree_find.proofs.Facts.{passes, fails}
@@ -27,7 +28,7 @@ module _ {R K : Type 0} (form : Form R K) (law : IsLawful form) (site : Site) (m
     abbrev pub behind : ℕ → List (Entry K)
     behind i = items_from entry (numrecs bytes - i - 1) (i + 1)
 
-    split_at : (i : ℕ) → i < numrecs bytes → items_from entry (numrecs bytes) 0 ≡ in_front i ++ entry i ∷ behind i
+    pub split_at : (i : ℕ) → i < numrecs bytes → items_from entry (numrecs bytes) 0 ≡ in_front i ++ entry i ∷ behind i
     split_at i lt =
         let e : 0 + i ≡ i = omega arith in
         rw e at (items_split entry (numrecs bytes) 0 i lt)

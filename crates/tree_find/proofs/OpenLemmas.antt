@@ -10,9 +10,10 @@ use Rattle.sblock.specs.declared.kind.Kind.{Kind}
 use Rattle.sblock.specs.declared.kind.Kind.TheVariants.{Bno, Cnt, Rmap, Refc, Ino, Fino}
 use Rattle.sblock.proofs.BlockLemmas.{passed, has_level}
 use Rattle.tree_defs.specs.Claims.{lone_fault}
-use Rattle.tree_defs.specs.Tree.{want_of, left_of}
+use Rattle.sblock.specs.Headers.{left_of}
+use Rattle.tree_defs.specs.Tree.{want_of}
 use Rattle.tree_defs.specs.declared.site.Site.{Site}
-use Rattle.tree_blocks.proofs.LoneFacts.{child_inside}
+use Rattle.tree_defs.proofs.LoneFacts.{child_inside}
 use Rattle.tree_find.specs.Places.{is_reached, place_behind, child_before, child_for}
 use Rattle.tree_find.proofs.PlaceLemmas.{placed_at}
 

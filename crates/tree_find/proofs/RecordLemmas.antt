@@ -99,8 +99,8 @@ is_one test other (y ∷ ys) x all h =
 
 -- the record that is found in a leaf has an equal key, and is as the leaf's tests say
 pub sound_record : {R K : Type 0} (form : Form R K) (bounds : Bounds) (key : K) (bytes : List ℕ) (o : Option R) → AllInside form bounds (records_of form bytes) → AllSupported form (records_of form bytes) → o ≡ record_with form key (records_of form bytes) → IfSome o (λ rec. IsFound form bounds key rec)
-sound_record form bounds key bytes None inside built h = tt
-sound_record form bounds key bytes (Some r) inside built h =
+sound_record form bounds key bytes None inside supported h = tt
+sound_record form bounds key bytes (Some r) inside supported h =
     let a = is_one (λ r. same_key form (form.key_of r) key) (form.is_in_range bounds) (records_of form bytes) r inside (sym h) in
-    let b = is_one (λ r. same_key form (form.key_of r) key) form.is_supported (records_of form bytes) r built (sym h) in
-    record { equal = a.0; inside = a.1; built = b.1 }
+    let b = is_one (λ r. same_key form (form.key_of r) key) form.is_supported (records_of form bytes) r supported (sym h) in
+    record { equal = a.0; inside = a.1; supported = b.1 }

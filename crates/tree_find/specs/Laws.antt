@@ -12,6 +12,10 @@ module _ {R K : Type 0} (form : Form R K) where
   abbrev pub Holds : Site → (ℕ → List ℕ) → ℕ → ℕ → List R → Type 0
   Holds site m root levels recs = (blocks : List ℕ) × (read_tree form site m root levels ≡ Ok (recs, blocks))
 
+  -- what holds of the records of such a tree
+  abbrev pub WhereHolds : Site → (ℕ → List ℕ) → ℕ → ℕ → (List R → Type 0) → Type 0
+  WhereHolds site m root levels P = (recs : List R) → Holds site m root levels recs → P recs
+
   -- in such a tree the record of these with an equal key is found
   abbrev pub FindsInTrees : Type 0
   FindsInTrees = (site : Site) (m : ℕ → List ℕ) (root levels : ℕ) (recs : List R) (key : K) → Holds site m root levels recs → find_in form site m root levels key ≡ Ok (record_with form key recs)
@@ -20,8 +24,8 @@ module _ {R K : Type 0} (form : Form R K) where
   abbrev pub GivesNextInTrees : Type 0
   GivesNextInTrees = (site : Site) (m : ℕ → List ℕ) (root levels : ℕ) (recs : List R) (after : Option K) → Holds site m root levels recs → (rs : List R) × (next_in form site m root levels after ≡ Ok rs) × AreNext form after recs rs
 
-  -- a record with an equal key, of a form that is built, with its numbers in range
+  -- a record with an equal key, of a supported form, with its numbers in range
   pub record IsFound (bounds : Bounds) (key : K) (rec : R) : Type 0 where
     pub equal : same_key form (form.key_of rec) key ≡ true
     pub inside : form.is_in_range bounds rec ≡ true
-    pub built : form.is_supported rec ≡ true
+    pub supported : form.is_supported rec ≡ true

@@ -5,6 +5,7 @@ use Rattle.sblock.specs.declared.block.BlockFault.{BlockFault}
 use Rattle.tree_blocks.specs.Meets.{Refuses}
 use Rattle.tree_blocks.specs.declared.tree.WalkFault.{WalkFault}
 use Rattle.tree_blocks.specs.declared.tree.WalkFault.TheVariants.{Bad, Failed, Memory}
+use Rattle.tree_find.specs.Find.{record_with}
 use Rattle.tree_find.specs.Next.{AreNext}
 
 abbrev pub Meets : {A : Type 0} → Result A (ℕ × BlockFault) → Result A WalkFault → Type 0
@@ -19,6 +20,11 @@ abbrev pub MeetsFound : {R Z : Type 0} → Result (Option (List R)) (ℕ × Bloc
 MeetsFound read (Ok None) = read ≡ Ok None
 MeetsFound read (Ok (Some recs)) = read ≡ Ok (Some recs.items)
 MeetsFound read (Err fault) = Refuses read fault
+
+-- of these records the one with an equal key is answered, none where there is none, and no fault of a
+-- block
+abbrev pub Finds : {R K : Type 0} → Form R K → K → List R → Result (Option R) WalkFault → Type 0
+Finds form key recs result = Meets (Ok (record_with form key recs)) result
 
 -- the next of these records are answered, and no fault of a block
 abbrev pub GivesNext : {R K Z : Type 0} → Form R K → Option K → List R → Result (Vec R Z) WalkFault → Type 0

@@ -77,12 +77,12 @@ module _ {R K : Type 0} (form : Form R K) where
   next_in site m root levels after =
       if nat_le 1 root && nat_lt root site.bounds.length then or_empty (next_below site m after (top_of levels) true root) else Err (root, faults.Range)
 
-  -- records that rise, above the key, each of a form that is built and in range
+  -- records that rise, above the key, each of a supported form and in range
   pub record AreAbove (bounds : Bounds) (after : Option K) (recs : List R) : Type 0 where
     pub rising : IsRising form recs
     pub above : Each (is_above after) recs
     pub inside : AllInside form bounds recs
-    pub built : AllSupported form recs
+    pub supported : AllSupported form recs
 
   -- of these records, the first ones above the key; none only where there are none
   pub record AreNext (after : Option K) (recs rs : List R) : Type 0 where

@@ -1,28 +1,22 @@
-ghost use Rattle.std.specs.Prelude.{◌≡◌, ◌+◌, ◌*◌, ◌^◌, ◌<◌, ◌≤◌, ℕ, nat_le, if◌then◌else◌, true, Ok, IfOk, IfErr, IfSome, IfNone, Some};
-ghost use Rattle.blk_cache.specs.Cache.{AgreesTold};
-ghost use Rattle.blk_device.specs.Contents.{Contents};
-ghost use Rattle.blk_device.specs.declared.device.Region.TheVariants.{Image};
+ghost use Rattle.std.specs.Prelude.{◌≡◌, List, ℕ, ◌+◌, ◌*◌, ◌<◌, ◌≤◌, nat_le, if◌then◌else◌, true, Ok, IfOk, IfErr, IfSome, IfNone, Some};
 ghost use Rattle.sblock.specs.Area.{area_of, child_of};
 ghost use Rattle.sblock.specs.Blocks.{numrecs, is_rising, records_of};
 ghost use Rattle.sblock.specs.Kinds.{leaf_most_of, node_most_of};
-ghost use Rattle.tree_defs.specs.Sites.{group_blocks};
 ghost use Rattle.tree_blocks.specs.Meets.{IsMemory};
-ghost use Rattle.tree_blocks.specs.Reading.{OnlyRead, HasCause};
+ghost use Rattle.tree_blocks.specs.Calls.{Reads};
+ghost use Rattle.tree_blocks.specs.Reading.{HasCause};
 ghost use Rattle.tree_find.specs.Meets.{MeetsRecords, MeetsFound};
 ghost use Rattle.tree_find.specs.Next.{some_of, records_above, first_below, leaf_behind, next_below, AreAbove};
 
 use crate::places::{records_after, start_for};
-use blk_cache::BlkCache;
-use blk_device::Device;
-use byte_fields::{Block, Steps, get_u16};
-use sblock::{RecKind, child_at, data_area};
+use byte_fields::Block;
+use sblock::{RecKind, child_at, count_of, data_area};
 use std::alloc::Global;
-use std::sync::ledger::Ledger;
-use tree_blocks::{WalkFault, open_block};
+use tree_blocks::{Blocks, WalkFault, open_block};
 use tree_defs::Site;
 
-// The child of entry `i` of a node.
-fn child_in<K: RecKind>(block: &Block, i: usize) -> u32
+/// The child of entry `i` of a node.
+pub fn child_in<K: RecKind>(block: &Block, i: usize) -> u32
     requires { i < node_most_of K.form.kind }
     ensures { result ≡ child_of K.form.kind (area_of block.now.bytes) i }
 {
@@ -51,28 +45,23 @@ fn found_after<K: RecKind>(
 }
 
 // The records above the key in the first leaf below a block of this level that isn't the root.
-fn first_node<K: RecKind, D: Device, L: Ledger>(
+fn first_node<K: RecKind, B: Blocks>(
     alloc: Global,
-    dev: &mut D,
-    cache: &mut BlkCache,
+    blocks: &mut B,
     site: &Site,
     level: u8,
     p: u32,
     after: &Option<K::Key>,
-    steps: &mut Steps<L>,
 ) -> Result<Vec<K::Rec>, WalkFault>
     requires inside { p < site.now.bounds.length }
-    requires room { site.now.first + site.now.bounds.length ≤ D.blocks dev.old Image }
-    requires fits { 8 * (site.now.first + site.now.bounds.length) < 2 ^ 64 }
-    requires agreed { AgreesTold cache.old (D.content dev.old) }
-    ensures exact { (c : Contents) → D.content dev.old ≡ Some c → MeetsRecords (first_below K.form site.now (group_blocks site.now (c Image)) after.now level p) result }
+    requires here { B.place blocks.old ≡ site.now }
+    ensures exact { (m : ℕ → List ℕ) → B.told blocks.old ≡ Some m → MeetsRecords (first_below K.form site.now m after.now level p) result }
     ensures sound { IfOk result (λ recs. AreAbove K.form site.now.bounds after.now recs.items) }
-    ensures reading { OnlyRead D.content D.blocks D.faults D.reads D.clock D.may_have_held_since D.may_hold_now dev.old dev.new steps.old steps.new }
-    ensures cause { HasCause (D.faults dev.old) (D.faults dev.new) result }
-    ensures agrees { AgreesTold cache.new (D.content dev.new) }
-    ensures few { steps.new.reads ≤ steps.old.reads + level + 1 }
+    ensures reading { Reads B.Blocks blocks.old blocks.new }
+    ensures cause { HasCause (B.faults blocks.old) (B.faults blocks.new) result }
+    ensures few { B.count blocks.new ≤ B.count blocks.old + level + 1 }
 {
-    let block = match open_block::<K, D, L>(dev, cache, site, level, false, p, steps) {
+    let block = match open_block::<K, B>(blocks, site, level, false, p) {
         Ok(block) => block,
         Err(fault) => return Err(fault),
     };
@@ -80,39 +69,34 @@ fn first_node<K: RecKind, D: Device, L: Ledger>(
         return records_after::<K>(alloc, &block, after);
     }
     let child = child_in::<K>(&block, 0);
-    first_node::<K, D, L>(alloc, dev, cache, site, level - 1, child, after, steps)
+    first_node::<K, B>(alloc, blocks, site, level - 1, child, after)
 }
 
 // Those of the first leaf below entry `i` of a node, if it has one; its children are of this level.
-fn behind<K: RecKind, D: Device, L: Ledger>(
+fn behind<K: RecKind, B: Blocks>(
     alloc: Global,
-    dev: &mut D,
-    cache: &mut BlkCache,
+    blocks: &mut B,
     site: &Site,
     level: u8,
     block: &Block,
     i: usize,
     after: &Option<K::Key>,
-    steps: &mut Steps<L>,
 ) -> Result<Option<Vec<K::Rec>>, WalkFault>
     requires most { numrecs block.now.bytes ≤ node_most_of K.form.kind }
     requires inside { (k : ℕ) → k < numrecs block.now.bytes → child_of K.form.kind (area_of block.now.bytes) k < site.now.bounds.length }
-    requires room { site.now.first + site.now.bounds.length ≤ D.blocks dev.old Image }
-    requires fits { 8 * (site.now.first + site.now.bounds.length) < 2 ^ 64 }
-    requires agreed { AgreesTold cache.old (D.content dev.old) }
-    ensures exact { (c : Contents) → D.content dev.old ≡ Some c → MeetsFound (leaf_behind K.form site.now (group_blocks site.now (c Image)) after.now level block.now.bytes i) result }
+    requires here { B.place blocks.old ≡ site.now }
+    ensures exact { (m : ℕ → List ℕ) → B.told blocks.old ≡ Some m → MeetsFound (leaf_behind K.form site.now m after.now level block.now.bytes i) result }
     ensures sound { IfOk result (λ found. IfSome found (λ recs. AreAbove K.form site.now.bounds after.now recs.items)) }
-    ensures reading { OnlyRead D.content D.blocks D.faults D.reads D.clock D.may_have_held_since D.may_hold_now dev.old dev.new steps.old steps.new }
-    ensures cause { HasCause (D.faults dev.old) (D.faults dev.new) result }
-    ensures agrees { AgreesTold cache.new (D.content dev.new) }
-    ensures few { steps.new.reads ≤ steps.old.reads + level + 1 }
-    ensures none { IfOk result (λ found. IfNone found (steps.new.reads ≡ steps.old.reads)) }
+    ensures reading { Reads B.Blocks blocks.old blocks.new }
+    ensures cause { HasCause (B.faults blocks.old) (B.faults blocks.new) result }
+    ensures few { B.count blocks.new ≤ B.count blocks.old + level + 1 }
+    ensures none { IfOk result (λ found. IfNone found (B.count blocks.new ≡ B.count blocks.old)) }
 {
-    if i >= get_u16(&block.bytes, 6) as usize {
+    if i >= count_of(block) as usize {
         return Ok(None);
     }
     let child = child_in::<K>(block, i);
-    match first_node::<K, D, L>(alloc, dev, cache, site, level, child, after, steps) {
+    match first_node::<K, B>(alloc, blocks, site, level, child, after) {
         Ok(recs) => Ok(Some(recs)),
         Err(fault) => Err(fault),
     }
@@ -120,30 +104,25 @@ fn behind<K: RecKind, D: Device, L: Ledger>(
 
 /// The records above the key in the first leaf below a block of this level that has some; none
 /// where no leaf below it has one.
-pub fn next_node<K: RecKind, D: Device, L: Ledger>(
+pub fn next_node<K: RecKind, B: Blocks>(
     alloc: Global,
-    dev: &mut D,
-    cache: &mut BlkCache,
+    blocks: &mut B,
     site: &Site,
     level: u8,
     root: bool,
     p: u32,
     after: &Option<K::Key>,
-    steps: &mut Steps<L>,
 ) -> Result<Option<Vec<K::Rec>>, WalkFault>
     requires inside { p < site.now.bounds.length }
-    requires room { site.now.first + site.now.bounds.length ≤ D.blocks dev.old Image }
-    requires fits { 8 * (site.now.first + site.now.bounds.length) < 2 ^ 64 }
-    requires agreed { AgreesTold cache.old (D.content dev.old) }
-    ensures exact { (c : Contents) → D.content dev.old ≡ Some c → MeetsFound (next_below K.form site.now (group_blocks site.now (c Image)) after.now level root p) result }
+    requires here { B.place blocks.old ≡ site.now }
+    ensures exact { (m : ℕ → List ℕ) → B.told blocks.old ≡ Some m → MeetsFound (next_below K.form site.now m after.now level root p) result }
     ensures sound { IfOk result (λ found. IfSome found (λ recs. AreAbove K.form site.now.bounds after.now recs.items)) }
-    ensures reading { OnlyRead D.content D.blocks D.faults D.reads D.clock D.may_have_held_since D.may_hold_now dev.old dev.new steps.old steps.new }
-    ensures cause { HasCause (D.faults dev.old) (D.faults dev.new) result }
-    ensures agrees { AgreesTold cache.new (D.content dev.new) }
-    ensures few { steps.new.reads ≤ steps.old.reads + (if nat_le level 8 then 2 * level + 1 else 1) }
-    ensures none { IfOk result (λ found. IfNone found (steps.new.reads ≤ steps.old.reads + level + 1)) }
+    ensures reading { Reads B.Blocks blocks.old blocks.new }
+    ensures cause { HasCause (B.faults blocks.old) (B.faults blocks.new) result }
+    ensures few { B.count blocks.new ≤ B.count blocks.old + (if nat_le level 8 then 2 * level + 1 else 1) }
+    ensures none { IfOk result (λ found. IfNone found (B.count blocks.new ≤ B.count blocks.old + level + 1)) }
 {
-    let block = match open_block::<K, D, L>(dev, cache, site, level, root, p, steps) {
+    let block = match open_block::<K, B>(blocks, site, level, root, p) {
         Ok(block) => block,
         Err(fault) => return Err(fault),
     };
@@ -152,32 +131,12 @@ pub fn next_node<K: RecKind, D: Device, L: Ledger>(
     }
     let start = start_for::<K>(&block, after);
     let child = child_in::<K>(&block, start);
-    let found = match next_node::<K, D, L>(
-        alloc,
-        dev,
-        cache,
-        site,
-        level - 1,
-        false,
-        child,
-        after,
-        steps,
-    ) {
+    let found = match next_node::<K, B>(alloc, blocks, site, level - 1, false, child, after) {
         Ok(found) => found,
         Err(fault) => return Err(fault),
     };
     match found {
         Some(recs) => Ok(Some(recs)),
-        None => behind::<K, D, L>(
-            alloc,
-            dev,
-            cache,
-            site,
-            level - 1,
-            &block,
-            start + 1,
-            after,
-            steps,
-        ),
+        None => behind::<K, B>(alloc, blocks, site, level - 1, &block, start + 1, after),
     }
 }

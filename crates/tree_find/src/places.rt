@@ -7,8 +7,8 @@ ghost use Rattle.tree_blocks.specs.Meets.{IsMemory};
 ghost use Rattle.tree_find.specs.Find.{record_with};
 ghost use Rattle.tree_find.specs.Next.{place_above, records_above, start_of};
 
-use byte_fields::{Block, get_u16};
-use sblock::{RecKind, child_at, data_area};
+use byte_fields::Block;
+use sblock::{RecKind, child_at, count_of, data_area};
 use std::alloc::Global;
 use tree_blocks::WalkFault;
 
@@ -56,7 +56,7 @@ pub fn child_of_key<K: RecKind>(block: &Block, key: &K::Key) -> Option<u32>
     ensures { result ≡ child_for K.form key.now block.now.bytes }
 {
     let area = data_area(block);
-    let place = place_of::<K>(area, false, get_u16(&block.bytes, 6), key);
+    let place = place_of::<K>(area, false, count_of(block), key);
     if place == 0 {
         return None;
     }
@@ -70,7 +70,7 @@ pub fn record_of_key<K: RecKind>(block: &Block, key: &K::Key) -> Option<K::Rec>
     ensures { result ≡ record_with K.form key.now (records_of K.form block.now.bytes) }
 {
     let area = data_area(block);
-    let place = place_of::<K>(area, true, get_u16(&block.bytes, 6), key);
+    let place = place_of::<K>(area, true, count_of(block), key);
     if place == 0 {
         return None;
     }
@@ -81,8 +81,8 @@ pub fn record_of_key<K: RecKind>(block: &Block, key: &K::Key) -> Option<K::Rec>
     Some(rec)
 }
 
-// How many of these keys aren't above this one, none where there is no key.
-fn place_after<K: RecKind>(area: &[u8], leaf: bool, n: u16, after: &Option<K::Key>) -> usize
+/// How many of these keys aren't above this one, none where there is no key.
+pub fn place_after<K: RecKind>(area: &[u8], leaf: bool, n: u16, after: &Option<K::Key>) -> usize
     requires whole { length area.now ≡ 4040 }
     requires room { n ≤ (if leaf then leaf_most_of K.form.kind else node_most_of K.form.kind) }
     requires rising { is_rising K.form leaf area.now n ≡ true }
@@ -105,7 +105,7 @@ pub fn start_for<K: RecKind>(block: &Block, after: &Option<K::Key>) -> usize
     ensures within { result < numrecs block.now.bytes }
 {
     let area = data_area(block);
-    place_after::<K>(area, false, get_u16(&block.bytes, 6), after).saturating_sub(1)
+    place_after::<K>(area, false, count_of(block), after).saturating_sub(1)
 }
 
 /// The records of a leaf above a key, or all of them. No memory is the one refusal.
@@ -120,7 +120,7 @@ pub fn records_after<K: RecKind>(
     ensures memory { IfErr result IsMemory }
 {
     let area = data_area(block);
-    let n = get_u16(&block.bytes, 6);
+    let n = count_of(block);
     let mut recs = Vec::new(alloc);
     for i in place_after::<K>(area, true, n, after)..n as usize {
         match recs.push(K::record_at(area, i)) {

@@ -1,12 +1,14 @@
-ghost use Rattle.std.specs.Prelude.{◌≡◌, ◌+◌, ◌*◌, ◌^◌, ◌<◌, ◌≤◌, List, [], IfOk, IfSome, IfNone, Some};
+ghost use Rattle.std.specs.Prelude.{◌≡◌, List, ℕ, ◌+◌, ◌*◌, ◌<◌, ◌≤◌, [], IfOk, IfSome, IfNone, Some};
 ghost use Rattle.blk_cache.specs.Cache.{AgreesTold};
-ghost use Rattle.blk_device.specs.Contents.{Contents};
 ghost use Rattle.blk_device.specs.declared.device.Region.TheVariants.{Image};
 ghost use Rattle.geom.specs.Places.{layout};
-ghost use Rattle.tree_defs.specs.Sites.{bounds_of, site_of, group_blocks};
-ghost use Rattle.tree_blocks.specs.Reading.{OnlyRead, HasCause};
+ghost use Rattle.tree_defs.specs.Sites.{bounds_of};
+ghost use Rattle.tree_blocks.specs.Told.{OfTree};
+ghost use Rattle.tree_blocks.specs.Calls.{Reads};
+ghost use Rattle.blk_device.specs.Reading.{OnlyRead};
+ghost use Rattle.tree_blocks.specs.Reading.{HasCause};
 ghost use Rattle.tree_find.specs.Find.{way_of};
-ghost use Rattle.tree_find.specs.Laws.{Holds};
+ghost use Rattle.tree_find.specs.Laws.{WhereHolds};
 ghost use Rattle.tree_find.specs.Meets.{MeetsRecords, GivesNext};
 ghost use Rattle.tree_find.specs.Next.{next_in, AreAbove};
 
@@ -18,7 +20,7 @@ use geom::Geometry;
 use sblock::{BlockFault, RecKind};
 use std::alloc::Global;
 use std::sync::ledger::Ledger;
-use tree_blocks::{TreeAt, WalkFault, top_level};
+use tree_blocks::{Blocks, Cached, TreeAt, WalkFault, top_level};
 use tree_defs::Site;
 
 // The records that were found, or none.
@@ -33,24 +35,19 @@ fn records_in<R: Drop>(alloc: Global, found: Option<Vec<R>>) -> Vec<R>
 }
 
 // The next leaf's records in the tree of this root and count of levels.
-fn next_site<K: RecKind, D: Device, L: Ledger>(
+fn next_site<K: RecKind, B: Blocks>(
     alloc: Global,
-    dev: &mut D,
-    cache: &mut BlkCache,
+    blocks: &mut B,
     site: &Site,
     tree: &TreeAt,
     after: &Option<K::Key>,
-    steps: &mut Steps<L>,
 ) -> Result<Vec<K::Rec>, WalkFault>
-    requires room { site.now.first + site.now.bounds.length ≤ D.blocks dev.old Image }
-    requires fits { 8 * (site.now.first + site.now.bounds.length) < 2 ^ 64 }
-    requires agreed { AgreesTold cache.old (D.content dev.old) }
-    ensures exact { (c : Contents) → D.content dev.old ≡ Some c → MeetsRecords (next_in K.form site.now (group_blocks site.now (c Image)) tree.now.root tree.now.levels after.now) result }
+    requires here { B.place blocks.old ≡ site.now }
+    ensures exact { (m : ℕ → List ℕ) → B.told blocks.old ≡ Some m → MeetsRecords (next_in K.form site.now m tree.now.root tree.now.levels after.now) result }
     ensures sound { IfOk result (λ recs. AreAbove K.form site.now.bounds after.now recs.items) }
-    ensures reading { OnlyRead D.content D.blocks D.faults D.reads D.clock D.may_have_held_since D.may_hold_now dev.old dev.new steps.old steps.new }
-    ensures cause { HasCause (D.faults dev.old) (D.faults dev.new) result }
-    ensures agrees { AgreesTold cache.new (D.content dev.new) }
-    ensures few { steps.new.reads ≤ steps.old.reads + 2 * way_of tree.now.levels }
+    ensures reading { Reads B.Blocks blocks.old blocks.new }
+    ensures cause { HasCause (B.faults blocks.old) (B.faults blocks.new) result }
+    ensures few { B.count blocks.new ≤ B.count blocks.old + 2 * way_of tree.now.levels }
 {
     let root = tree.root;
     if root == 0 || root >= site.bounds.length {
@@ -60,7 +57,7 @@ fn next_site<K: RecKind, D: Device, L: Ledger>(
         });
     }
     let level = top_level(tree.levels);
-    match next_node::<K, D, L>(alloc, dev, cache, site, level, true, root, after, steps) {
+    match next_node::<K, B>(alloc, blocks, site, level, true, root, after) {
         Ok(found) => Ok(records_in(alloc, found)),
         Err(fault) => Err(fault),
     }
@@ -81,17 +78,24 @@ pub fn next_leaf<K: RecKind, D: Device, L: Ledger>(
     after: Option<K::Key>,
     steps: &mut Steps<L>,
 ) -> Result<Vec<K::Rec>, WalkFault>
+    requires kind { tree.now.kind ≡ K.form.kind }
     requires group { tree.now.group < geo.now.agcount }
     requires room { geo.now.dblocks ≤ D.blocks dev.old Image }
     requires agreed { AgreesTold cache.old (D.content dev.old) }
-    ensures exact { IfSome (D.content dev.old) (λ c. let site = site_of (layout geo.now) tree.now.group in MeetsRecords (next_in K.form site (group_blocks site (c Image)) tree.now.root tree.now.levels after) result) }
-    ensures right { IfSome (D.content dev.old) (λ c. let site = site_of (layout geo.now) tree.now.group in (recs : List K.Rec) → Holds K.form site (group_blocks site (c Image)) tree.now.root tree.now.levels recs → GivesNext K.form after recs result) }
+    ensures exact { OfTree (layout geo.now) tree.now (D.content dev.old) (λ s m r n. MeetsRecords (next_in K.form s m r n after) result) }
+    ensures right { OfTree (layout geo.now) tree.now (D.content dev.old) (λ s m r n. WhereHolds K.form s m r n (λ recs. GivesNext K.form after recs result)) }
     ensures sound { IfOk result (λ recs. AreAbove K.form (bounds_of (layout geo.now) tree.now.group) after recs.items) }
-    ensures reading { OnlyRead D.content D.blocks D.faults D.reads D.clock D.may_have_held_since D.may_hold_now dev.old dev.new steps.old steps.new }
+    ensures reading { OnlyRead D.Device dev.old dev.new steps.old steps.new }
     ensures cause { HasCause (D.faults dev.old) (D.faults dev.new) result }
     ensures agrees { AgreesTold cache.new (D.content dev.new) }
     ensures few { steps.new.reads ≤ steps.old.reads + 2 * way_of tree.now.levels }
 {
     let site = Site::of_group(geo, tree.group);
-    next_site::<K, D, L>(alloc, dev, cache, &site, tree, &after, steps)
+    let mut blocks = Cached {
+        dev,
+        cache,
+        site,
+        steps,
+    };
+    next_site::<K, Cached<D, L>>(alloc, &mut blocks, &site, tree, &after)
 }

@@ -1,6 +1,6 @@
 -- What follows where a block passes its tests in its place.
 use Rattle.std.proofs.Common.{◌≡◌, ℕ, ◌+◌, ◌<◌, ◌≤◌, Bool, true, false, List, [], ◌∷◌, ◌++◌, length, length-append, None, refl, ap, ◌∙◌, arith}
-use Rattle.std.specs.Prelude.{slice_index, ◌==◌}
+use Rattle.std.specs.Prelude.{slice_index, ◌==◌, nat_lt, OnOk, Result, Ok, Err}
 use Rattle.std.proofs.lemmas.Bool.Decides.{nat_tests}
 use Rattle.std.proofs.lemmas.Bool.{and_parts, ltb-true}
 use Rattle.sblock.specs.Area.{area_of, child_of}
@@ -13,12 +13,25 @@ use Rattle.tree_defs.specs.Tree.{Trail, want_of, fault_here, noted, with_recs}
 use Rattle.tree_defs.specs.declared.site.Site.{Site}
 use Rattle.tree_defs.proofs.Blocks.{stands, leaf_rises}
 use Rattle.tree_defs.proofs.Parts.{sooner_none, last_rec, rising_join, to_rising, from_rising}
-use Rattle.tree_walk.specs.Trails.{AreSound}
-use Rattle.tree_blocks.proofs.EachLemmas.{each_item, each_append}
+use Rattle.tree_walk.specs.Trails.{AreSound, LieInside}
+use Rattle.tree_defs.proofs.EachLemmas.{each_item, each_append}
 
 pub noted_blocks : {R : Type 0} (t u : Trail R) (level p : ℕ) (bytes : List ℕ) → u ≡ noted t level p bytes → length u.blocks ≡ length t.blocks + 1
 unfolding noted
 noted_blocks t u level p bytes e = ap (λ x. length x.blocks) e ∙ length-append t.blocks (p ∷ [])
+
+is_less : (p len : ℕ) → p < len → nat_lt p len ≡ true
+is_less p len h = grind (arith, nat_tests)
+
+pub noted_lie : {R : Type 0} (t u : Trail R) (level p : ℕ) (bytes : List ℕ) (len : ℕ) → u ≡ noted t level p bytes → p < len → LieInside len t.blocks → LieInside len u.blocks
+unfolding noted
+noted_lie t u level p bytes len e lt h =
+    let b : u.blocks ≡ t.blocks ++ p ∷ [] = ap (λ x. x.blocks) e in
+    rw b (each_append (λ q. nat_lt q len) t.blocks (p ∷ []) h (is_less p len lt, tt))
+
+pub lie_still : {A E : Type 0} (len : ℕ) (xs ys : List ℕ) (result : Result A E) → ys ≡ xs → LieInside len xs → OnOk result (LieInside len ys)
+lie_still len xs ys (Ok x) e h = rw e h
+lie_still len xs ys (Err f) e h = tt
 
 pub noted_recs : {R : Type 0} (t u : Trail R) (level p : ℕ) (bytes : List ℕ) → u ≡ noted t level p bytes → u.recs ≡ t.recs
 unfolding noted
@@ -59,7 +72,7 @@ module _ {R K : Type 0} (form : Form R K) (site : Site) (t : Trail R) (level : �
   sound_more z before = record {
     rising = to_rising form (t.recs ++ records_of form bytes) (rising_join form None t.recs (records_of form bytes) (from_rising form t.recs before.rising) (rises z));
     inside = each_append (form.is_in_range site.bounds) t.recs (records_of form bytes) before.inside (leaf_inside z);
-    built = each_append form.is_supported t.recs (records_of form bytes) before.built (records_are_supported form bytes (want_of form.kind site level root (slice_index t.before level) p) own z);
+    supported = each_append form.is_supported t.recs (records_of form bytes) before.supported (records_are_supported form bytes (want_of form.kind site level root (slice_index t.before level) p) own z);
   }
 
 pub child_inside : {R K : Type 0} (form : Form R K) (len : ℕ) (bytes : List ℕ) → AreBlocks len (children_of form bytes) → (i : ℕ) → i < numrecs bytes → child_of form.kind (area_of bytes) i < len

@@ -3,20 +3,15 @@ use Rattle.std.proofs.Common.{◌≡◌, ℕ, ◌<◌, List, [], ◌∷◌, ◌+
 use Rattle.std.proofs.lemmas.List.{append-nil}
 use Rattle.sblock.specs.Area.{area_of}
 use Rattle.sblock.specs.Blocks.{numrecs, records_of, AllInside}
-use Rattle.sblock.specs.Form.{Form, IsLawful}
+use Rattle.sblock.specs.Form.{Form}
 use Rattle.sblock.specs.declared.block.Bounds.{Bounds}
-use Rattle.tree_defs.specs.Tree.{Trail, with_recs, join, span_of}
-use Rattle.tree_defs.proofs.Spans.{span_append}
-use Rattle.tree_blocks.proofs.EachLemmas.{each_item}
+use Rattle.tree_defs.specs.Tree.{Trail, with_recs}
+use Rattle.tree_defs.proofs.EachLemmas.{each_item}
 use Rattle.std.proofs.Common.{true}
 
 pub in_range : {R K : Type 0} (form : Form R K) (bounds : Bounds) (bytes : List ℕ) (i : ℕ) → AllInside form bounds (records_of form bytes) → i < numrecs bytes → form.is_in_range bounds (form.record_at (area_of bytes) i) ≡ true
 unfolding records_of
 in_range form bounds bytes i h lt = each_item (form.is_in_range bounds) (form.record_at (area_of bytes)) (numrecs bytes) i h lt
-
-pub span_more : {R K : Type 0} (form : Form R K) → IsLawful form → (rs : List R) (r : R) → span_of form (rs ++ r ∷ []) ≡ join form (span_of form rs) (Some (record { low = form.key_of r; high = form.high_key_of r }))
-unfolding span_of
-span_more form law rs r = span_append form law rs (r ∷ [])
 
 recs_more : {R : Type 0} (t : Trail R) (rs : List R) (r : R) → with_recs (with_recs t rs) (r ∷ []) ≡ with_recs t (rs ++ r ∷ [])
 unfolding with_recs

@@ -7,13 +7,15 @@ use Rattle.sblock.specs.Form.{Form}
 use Rattle.sblock.specs.Lists.{items_from}
 use Rattle.sblock.specs.declared.block.BlockFault.{BlockFault}
 use Rattle.sblock.specs.declared.block.BlockFault.TheVariants.{Key}
-use Rattle.tree_defs.specs.Tree.{Trail, Read, entry_at, entries_from, agrees, join, span_of, noted, with_recs, fault_here, read_children, read_node}
+use Rattle.tree_defs.specs.Walked.{walked_children, walked_node}
+use Rattle.sblock.specs.Spans.{join, span_of}
+use Rattle.tree_defs.specs.Tree.{Trail, Read, entry_at, entries_from, agrees, noted, with_recs, fault_here, read_children, read_node}
 use Rattle.tree_defs.specs.declared.site.Site.{Site}
-use Rattle.tree_defs.specs.declared.span.Span.{Span}
+use Rattle.sblock.specs.declared.spans.Span.{Span}
 use Rattle.tree_walk.specs.Trails.{AreSound}
 use Rattle.tree_walk.proofs.BlockFacts.{noted_recs, with_more, sound_more}
 use Rattle.tree_blocks.specs.Meets.{Refuses, RefusesBlock, IsMemory}
-use Rattle.tree_walk.specs.Meets.{MeetsNode}
+use Rattle.tree_walk.specs.Meets.{MeetsNode, CountedBy, HasRead}
 use Rattle.tree_blocks.specs.declared.tree.WalkFault.{WalkFault}
 use Rattle.tree_blocks.specs.declared.tree.WalkFault.TheVariants.{Bad, Failed, Memory}
 
@@ -41,6 +43,37 @@ module _ {R K : Type 0} (form : Form R K) (site : Site) (m : ℕ → List ℕ) w
   leaf_meets zero root p t u v bytes (Ok s) z e h n a b q = leaf_taken root p t bytes e h ∙ sym (rw (a, b, n) refl)
   leaf_meets zero root p t u v bytes (Err f) z e h n a b q = rw q tt
   leaf_meets (suc level) root p t u v bytes result z e h n a b q = absurd (omega arith)
+
+-- how many blocks are counted with a block
+module _ {R K : Type 0} (form : Form R K) (site : Site) (m : ℕ → List ℕ) where
+  leaf_counted : (level : ℕ) (root : Bool) (p : ℕ) (t : Trail R) → level ≡ 0 → walked_node form site m level root p t ≡ 1
+  unfolding walked_node
+  leaf_counted zero root p t z = refl
+  leaf_counted (suc level) root p t z = absurd (omega (arith, z))
+
+  some_counted : (level : ℕ) (root : Bool) (p : ℕ) (t : Trail R) → 1 ≤ walked_node form site m level root p t
+  unfolding walked_node
+  some_counted zero root p t = omega arith
+  some_counted (suc level) root p t = omega arith
+
+  fault_counted : (level : ℕ) (root : Bool) (p : ℕ) (t : Trail R) (fault : BlockFault) → fault_here form site t level root p (m p) ≡ Some fault → walked_node form site m level root p t ≡ 1
+  unfolding walked_node
+  fault_counted zero root p t fault h = refl
+  fault_counted (suc level) root p t fault h = rw h refl
+
+  pub node_counted : (level : ℕ) (root : Bool) (p : ℕ) (t : Trail R) (bytes : List ℕ) → 0 < level → bytes ≡ m p → fault_here form site t level root p bytes ≡ None → walked_node form site m level root p t ≡ suc (walked_children form (read_node form site m (level - 1) false) (walked_node form site m (level - 1) false) (items_from (entry_at form (area_of bytes)) (numrecs bytes) 0) (noted t level p bytes))
+  unfolding walked_node entries_from
+  node_counted zero root p t bytes pos e h = absurd (omega (arith, pos))
+  node_counted (suc level) root p t bytes pos e h = let s : suc level - 1 ≡ level = omega arith in rw (e, s) (rw (rw e at h) refl)
+
+  pub refused_counted : (level : ℕ) (root : Bool) (p : ℕ) (t : Trail R) (fault : WalkFault) (before after : ℕ) → RefusesBlock p (fault_here form site t level root p (m p)) fault → after ≡ before + 1 → CountedBy before (walked_node form site m level root p t) after fault
+  refused_counted level root p t (Bad q f) before after h one = rw (fault_counted level root p t f h.1) one
+  refused_counted level root p t Failed before after h one = omega (arith, one, some_counted level root p t)
+  refused_counted level root p t Memory before after h one = omega (arith, one, some_counted level root p t)
+
+  pub leaf_has_read : {A : Type 0} (level : ℕ) (root : Bool) (p : ℕ) (t : Trail R) (result : Result A WalkFault) (before after : ℕ) → level ≡ 0 → IfErr result IsMemory → after ≡ before + 1 → HasRead before (walked_node form site m level root p t) after result
+  leaf_has_read level root p t (Ok x) before after z memory one = rw (leaf_counted level root p t z) one
+  leaf_has_read level root p t (Err f) before after z memory one = rw (memory, leaf_counted level root p t z) (omega (arith, one))
 
 pub leaf_sound : {R K S : Type 0} (form : Form R K) (site : Site) (level : ℕ) (root : Bool) (p : ℕ) (t u v : Trail R) (bytes : List ℕ) (result : Result S WalkFault) → level ≡ 0 → fault_here form site t level root p bytes ≡ None → u ≡ noted t level p bytes → OnOk result (v ≡ with_recs u (records_of form bytes)) → AreSound form site.bounds t.recs → OnOk result (AreSound form site.bounds v.recs)
 leaf_sound form site level root p t u v bytes (Ok s) z pass n more before =
@@ -80,6 +113,45 @@ module _ {R K : Type 0} (form : Form R K) (below : ℕ → Trail R → Read R K)
 
     pub all_read : n ≤ i → read_children form below p (items_from (entry_at form area) (n - i) i) t span ≡ whole → whole ≡ Ok (t, span)
     all_read lt w = sym w ∙ children_done n i t span lt
+
+-- how many are counted with the subtrees of a node's entries
+module _ {R K : Type 0} (form : Form R K) (below : ℕ → Trail R → Read R K) (count : ℕ → Trail R → ℕ) (area : List ℕ) where
+  abbrev left : ℕ → ℕ → Trail R → ℕ
+  left n i t = walked_children form below count (items_from (entry_at form area) (n - i) i) t
+
+  pub none_counted : (n i : ℕ) (t : Trail R) → n ≤ i → left n i t ≡ 0
+  unfolding walked_children
+  none_counted n i t h = let e : n - i ≡ 0 = omega arith in rw e refl
+
+  module _ (n i q : ℕ) (t : Trail R) (lt : i < n) (child : q ≡ (entry_at form area i).child) where
+    pub child_counted : (u : Trail R) (s : Option (Span K)) (b : Bool) → below q t ≡ Ok (u, s) → b ≡ agrees form (entry_at form area i) s → b ≡ true → left n i t ≡ count q t + left n (i + 1) u
+    unfolding walked_children
+    child_counted u s b h a agreed =
+        let e : n - i ≡ suc (n - (i + 1)) = omega (arith, lt) in
+        rw (e, ← child, h, sym a ∙ agreed) refl
+
+    pub wrong_counted : (u : Trail R) (s : Option (Span K)) (b : Bool) → below q t ≡ Ok (u, s) → b ≡ agrees form (entry_at form area i) s → b ≡ false → left n i t ≡ count q t
+    unfolding walked_children
+    wrong_counted u s b h a differs =
+        let e : n - i ≡ suc (n - (i + 1)) = omega (arith, lt) in
+        rw (e, ← child, h, sym a ∙ differs) (omega arith)
+
+    bad_counted : (f : ℕ × BlockFault) → below q t ≡ Err f → left n i t ≡ count q t
+    unfolding walked_children
+    bad_counted f h =
+        let e : n - i ≡ suc (n - (i + 1)) = omega (arith, lt) in
+        rw (e, ← child, h) (omega arith)
+
+    part_counted : count q t ≤ left n i t
+    unfolding walked_children
+    part_counted =
+        let e : n - i ≡ suc (n - (i + 1)) = omega (arith, lt) in
+        rw (e, ← child) (omega arith)
+
+    pub cut_off : (fault : WalkFault) (start now after whole : ℕ) → now + left n i t ≡ start + whole → Refuses (below q t) fault → CountedBy now (count q t) after fault → CountedBy start whole after fault
+    cut_off (Bad x f) start now after whole w h c = omega (arith, w, bad_counted (x, f) h, c)
+    cut_off Failed start now after whole w h c = omega (arith, w, part_counted, c)
+    cut_off Memory start now after whole w h c = omega (arith, w, part_counted, c)
 
 pub on_ok : {A E : Type 0} {a b : ℕ} (result : Result A E) → a ≡ b → OnOk result (a ≡ b)
 on_ok (Ok x) h = h

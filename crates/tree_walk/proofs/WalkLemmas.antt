@@ -1,5 +1,5 @@
 -- What a walk from the root meets.
-use Rattle.std.proofs.Common.{◌≡◌, ℕ, ◌-◌, ◌<◌, ◌≤◌, Bool, true, false, List, Option, Some, None, Result, Err, refl, ◌∙◌, arith}
+use Rattle.std.proofs.Common.{◌≡◌, ℕ, ◌+◌, ◌-◌, ◌<◌, ◌≤◌, Bool, true, false, List, Option, Some, None, Result, Err, refl, ◌∙◌, arith}
 use Rattle.std.specs.Prelude.{◌==◌, ◌&&◌, nat_le, nat_lt, if◌then◌else◌, IfSome}
 use Rattle.std.proofs.lemmas.Bool.Decides.{nat_tests}
 use Rattle.byte_fields.specs.Fields.{field}
@@ -9,9 +9,10 @@ use Rattle.sblock.specs.Kinds.{magic_of}
 use Rattle.sblock.specs.declared.block.BlockFault.{BlockFault}
 use Rattle.sblock.specs.declared.block.BlockFault.TheVariants.{Magic, Level, Sibling, Range}
 use Rattle.tree_defs.specs.Tree.{Trail, fresh, top_of, sooner, sibling_fault, order_fault, fault_here, closed, read_node, read_tree}
+use Rattle.tree_defs.specs.Walked.{walked_node, walked}
 use Rattle.tree_defs.specs.declared.site.Site.{Site}
 use Rattle.tree_blocks.specs.Meets.{Refuses}
-use Rattle.tree_walk.specs.Meets.{MeetsTree}
+use Rattle.tree_walk.specs.Meets.{MeetsTree, CountedBy, HasRead}
 use Rattle.tree_blocks.specs.declared.tree.TreeRead.{TreeRead}
 use Rattle.tree_blocks.specs.declared.tree.WalkFault.{WalkFault}
 use Rattle.tree_blocks.specs.declared.tree.WalkFault.TheVariants.{Bad, Failed, Memory}
@@ -83,3 +84,25 @@ module _ {R K : Type 0} (form : Form R K) (site : Site) (m : ℕ → List ℕ) w
   pub tree_read : (root levels : ℕ) (result : Result (TreeRead R) WalkFault) → 1 ≤ root → root < site.bounds.length → 1 ≤ levels → levels ≤ 9 → MeetsTree (closed levels (read_node form site m (levels - 1) true root fresh)) result → MeetsTree (read_tree form site m root levels) result
   unfolding read_tree
   tree_read root levels result some below least most h = rw (does_lie root site.bounds.length some below, is_level levels least most) h
+
+  -- of a root with a count of levels that no tree has one block is read
+  pub root_counted : (root : ℕ) → walked_node form site m 9 true root fresh ≡ 1
+  unfolding walked_node
+  root_counted root = rw (none_wanted root fresh) refl
+
+  pub levels_counted : (root : ℕ) (fault : WalkFault) (before after : ℕ) → after ≡ before + 1 → CountedBy before (walked_node form site m 9 true root fresh) after fault
+  levels_counted root (Bad q f) before after one = rw (root_counted root) one
+  levels_counted root Failed before after one = rw (root_counted root) (omega (arith, one))
+  levels_counted root Memory before after one = rw (root_counted root) (omega (arith, one))
+
+  pub outside_counted : (root levels : ℕ) → (1 ≤ root → root < site.bounds.length → ⊥) → walked form site m root levels ≡ 0
+  unfolding walked
+  outside_counted root levels h = rw (lies_not root site.bounds.length h) refl
+
+  pub refused_tree_counted : (root levels : ℕ) → 1 ≤ root → root < site.bounds.length → (1 ≤ levels → levels ≤ 9 → ⊥) → walked form site m root levels ≡ walked_node form site m 9 true root fresh
+  unfolding walked
+  refused_tree_counted root levels some below none = rw (does_lie root site.bounds.length some below, no_level levels none) refl
+
+  pub tree_counted : (root levels : ℕ) → 1 ≤ root → root < site.bounds.length → 1 ≤ levels → levels ≤ 9 → walked form site m root levels ≡ walked_node form site m (levels - 1) true root fresh
+  unfolding walked
+  tree_counted root levels some below least most = rw (does_lie root site.bounds.length some below, is_level levels least most) refl

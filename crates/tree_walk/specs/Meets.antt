@@ -1,11 +1,12 @@
 -- The answer of a walk beside what the tree reads as.
-use Rattle.std.specs.Prelude.{◌≡◌, ℕ, List, Option, Result, Ok, Err}
+use Rattle.std.specs.Prelude.{◌≡◌, ◌≤◌, ℕ, ◌+◌, List, Option, Result, Ok, Err}
 use Rattle.sblock.specs.declared.block.BlockFault.{BlockFault}
 use Rattle.tree_defs.specs.Tree.{Trail, Read}
-use Rattle.tree_defs.specs.declared.span.Span.{Span}
+use Rattle.sblock.specs.declared.spans.Span.{Span}
 use Rattle.tree_blocks.specs.Meets.{Refuses}
 use Rattle.tree_blocks.specs.declared.tree.TreeRead.{TreeRead}
 use Rattle.tree_blocks.specs.declared.tree.WalkFault.{WalkFault}
+use Rattle.tree_blocks.specs.declared.tree.WalkFault.TheVariants.{Bad, Failed, Memory}
 
 -- the subtree is read, and this is the trail then
 abbrev pub MeetsNode : {R K : Type 0} → Read R K → Result (Option (Span K)) WalkFault → Trail R → Type 0
@@ -16,3 +17,13 @@ MeetsNode read (Err fault) t = Refuses read fault
 abbrev pub MeetsTree : {R : Type 0} → Result (List R × List ℕ) (ℕ × BlockFault) → Result (TreeRead R) WalkFault → Type 0
 MeetsTree read (Ok tree) = read ≡ Ok (tree.recs.items, tree.blocks.items)
 MeetsTree read (Err fault) = Refuses read fault
+
+-- n blocks were counted as read, or no more than n where the walk was cut off
+abbrev pub CountedBy : ℕ → ℕ → ℕ → WalkFault → Type 0
+CountedBy before n after (Bad block fault) = after ≡ before + n
+CountedBy before n after Failed = after ≤ before + n
+CountedBy before n after Memory = after ≤ before + n
+
+abbrev pub HasRead : {A : Type 0} → ℕ → ℕ → ℕ → Result A WalkFault → Type 0
+HasRead before n after (Ok a) = after ≡ before + n
+HasRead before n after (Err fault) = CountedBy before n after fault

@@ -1,26 +1,23 @@
 ghost use Rattle.std.specs.Prelude.{◌≡◌, ◌≤◌, true, IfOk, IfErr, OnOk};
 ghost use Rattle.sblock.specs.Blocks.{numrecs, records_of, AllInside};
 ghost use Rattle.sblock.specs.Kinds.{leaf_most_of};
-ghost use Rattle.tree_defs.specs.Tree.{with_recs, span_of};
+ghost use Rattle.sblock.specs.Spans.{span_of, span_of_one};
+ghost use Rattle.tree_defs.specs.Tree.{with_recs};
 ghost use Rattle.tree_blocks.specs.Meets.{IsMemory};
 ghost use Rattle.tree_walk.specs.Trails.{trail_of};
 
-use crate::seen::{Seen, joined};
-use byte_fields::{Block, get_u16};
-use sblock::{Bounds, RecKind, data_area};
+use crate::seen::Seen;
+use byte_fields::Block;
+use sblock::{Bounds, RecKind, Span, count_of, data_area, join_spans, span_of_record};
 use tree_blocks::WalkFault;
-use tree_defs::Span;
 
-// The keys of one record.
-fn span_of_record<K: RecKind>(rec: &K::Rec, bounds: &Bounds) -> Span<K::Key>
+// The keys of a record in range.
+fn span_in_range<K: RecKind>(rec: &K::Rec, bounds: &Bounds) -> Span<K::Key>
     requires { K.form.is_in_range bounds.now rec.now ≡ true }
-    ensures { result ≡ record { low = K.form.key_of rec.now; high = K.form.high_key_of rec.now } }
+    ensures { result ≡ span_of_one K.form rec.now }
 {
     let _length = bounds.length;
-    Span {
-        low: K::key_of(rec),
-        high: K::high_key_of(rec),
-    }
+    span_of_record::<K>(rec)
 }
 
 /// Takes the records of a leaf, and answers their keys.
@@ -38,9 +35,9 @@ pub fn take_leaf<K: RecKind>(
 {
     let area = data_area(block);
     let mut span = None;
-    for i in 0..get_u16(&block.bytes, 6) {
+    for i in 0..count_of(block) {
         let rec = K::record_at(area, i as usize);
-        span = joined::<K>(span, Some(span_of_record::<K>(&rec, bounds)));
+        span = join_spans::<K>(span, Some(span_in_range::<K>(&rec, bounds)));
         match seen.recs.push(rec) {
             Ok(()) => {}
             Err(_) => return Err(WalkFault::Memory),

@@ -1,10 +1,9 @@
 ghost use Rattle.std.specs.Prelude.{◌≡◌, ◌-◌, ◌<◌, ◌≤◌, length, slice_get};
-ghost use Rattle.tree_defs.specs.Tree.{turn_of, sooner, comes_after, sibling_fault, open_end, fresh, join, agrees};
+ghost use Rattle.tree_defs.specs.Tree.{turn_of, sooner, comes_after, sibling_fault, open_end, fresh};
 ghost use Rattle.tree_walk.specs.Trails.{trail_of};
 
 use sblock::{BlockFault, RecKind};
 use std::alloc::Global;
-use tree_defs::Span;
 
 /// What a sibling is where there is none.
 pub const NO_BLOCK: u32 = 0xffff_ffff;
@@ -103,26 +102,4 @@ pub fn open_end_of<R>(seen: &Seen<R>, levels: u32) -> Option<u32>
         }
     }
     None
-}
-
-fn joined_two<K: RecKind>(a: Span<K::Key>, b: Span<K::Key>) -> Option<Span<K::Key>>
-    ensures { result ≡ join K.form (Some a) (Some b) }
-{
-    let high = if K::is_before(&a.high, &b.high) {
-        b.high
-    } else {
-        a.high
-    };
-    Some(Span { low: a.low, high })
-}
-
-/// The keys of two parts, one behind the other.
-pub fn joined<K: RecKind>(a: Option<Span<K::Key>>, b: Option<Span<K::Key>>) -> Option<Span<K::Key>>
-    ensures { result ≡ join K.form a b }
-{
-    match (a, b) {
-        (None, b) => b,
-        (Some(a), None) => Some(a),
-        (Some(a), Some(b)) => joined_two::<K>(a, b),
-    }
 }

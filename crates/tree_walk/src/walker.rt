@@ -1,28 +1,31 @@
-ghost use Rattle.std.specs.Prelude.{◌≡◌, ◌+◌, ◌-◌, ◌*◌, ◌^◌, ◌<◌, ◌≤◌, true, length, IfOk, IfSome, OnOk, Some};
+ghost use Rattle.std.specs.Prelude.{◌≡◌, List, ℕ, ◌+◌, ◌-◌, ◌<◌, ◌≤◌, true, length, IfOk, OnOk, Some};
 ghost use Rattle.blk_cache.specs.Cache.{AgreesTold};
-ghost use Rattle.blk_device.specs.Contents.{Contents};
 ghost use Rattle.blk_device.specs.declared.device.Region.TheVariants.{Image};
 ghost use Rattle.geom.specs.Places.{layout};
 ghost use Rattle.sblock.specs.Kinds.{node_most_of};
-ghost use Rattle.tree_defs.specs.Sites.{bounds_of, site_of, group_blocks};
+ghost use Rattle.tree_defs.specs.Sites.{bounds_of};
 ghost use Rattle.tree_defs.specs.Tree.{entry_at, agrees, fresh, closed, read_node, read_tree};
+ghost use Rattle.tree_blocks.specs.Told.{OfTree};
 ghost use Rattle.tree_blocks.specs.Meets.{Refuses};
-ghost use Rattle.tree_walk.specs.Meets.{MeetsNode, MeetsTree};
-ghost use Rattle.tree_blocks.specs.Reading.{OnlyRead, HasCause, CauseOf};
-ghost use Rattle.tree_walk.specs.Trails.{trail_of, AreSound};
+ghost use Rattle.tree_defs.specs.Walked.{walked_node, walked};
+ghost use Rattle.tree_walk.specs.Meets.{MeetsNode, MeetsTree, HasRead, CountedBy};
+ghost use Rattle.tree_blocks.specs.Calls.{Reads};
+ghost use Rattle.blk_device.specs.Reading.{OnlyRead};
+ghost use Rattle.tree_blocks.specs.Reading.{HasCause, CauseOf};
+ghost use Rattle.tree_walk.specs.Trails.{trail_of, AreSound, LieInside};
 
 use crate::enter::enter;
 use crate::leaf::take_leaf;
-use crate::seen::{Seen, fresh_seen, joined, open_end_of};
+use crate::seen::{Seen, fresh_seen, open_end_of};
 use blk_cache::BlkCache;
 use blk_device::Device;
-use byte_fields::{Steps, get_u16, get_u32};
+use byte_fields::{Steps, get_u32};
 use geom::Geometry;
-use sblock::{BlockFault, RecKind, child_at, data_area};
+use sblock::{BlockFault, RecKind, Span, child_at, count_of, data_area, join_spans};
 use std::alloc::Global;
 use std::sync::ledger::Ledger;
-use tree_blocks::{TreeAt, TreeRead, WalkFault, load};
-use tree_defs::{Site, Span};
+use tree_blocks::{Blocks, Cached, TreeAt, TreeRead, WalkFault};
+use tree_defs::Site;
 
 fn do_keys_agree<K: RecKind>(low: &K::Key, high: &K::Key, span: &Span<K::Key>) -> bool
     ensures { result ≡ agrees K.form (record { low = low.now; high = high.now; child = 0 }) (Some span.now) }
@@ -45,29 +48,26 @@ fn does_agree<K: RecKind>(area: &[u8], i: usize, below: &Option<Span<K::Key>>) -
 }
 
 // Reads a subtree: a block's own tests before its children, and the test of a child's keys after it.
-fn walk_node<K: RecKind, D: Device, L: Ledger>(
-    dev: &mut D,
-    cache: &mut BlkCache,
+fn walk_node<K: RecKind, B: Blocks>(
+    blocks: &mut B,
     site: &Site,
     level: u8,
     root: bool,
     p: u32,
     seen: &mut Seen<K::Rec>,
-    steps: &mut Steps<L>,
 ) -> Result<Option<Span<K::Key>>, WalkFault>
     requires low { level < 9 }
     requires inside { p < site.now.bounds.length }
-    requires room { site.now.first + site.now.bounds.length ≤ D.blocks dev.old Image }
-    requires fits { 8 * (site.now.first + site.now.bounds.length) < 2 ^ 64 }
-    requires agreed { AgreesTold cache.old (D.content dev.old) }
-    ensures exact { (c : Contents) → D.content dev.old ≡ Some c → MeetsNode (read_node K.form site.now (group_blocks site.now (c Image)) level root p (trail_of seen.old)) result (trail_of seen.new) }
+    requires here { B.place blocks.old ≡ site.now }
+    ensures exact { (m : ℕ → List ℕ) → B.told blocks.old ≡ Some m → MeetsNode (read_node K.form site.now m level root p (trail_of seen.old)) result (trail_of seen.new) }
     ensures sound { AreSound K.form site.now.bounds seen.old.recs.items → OnOk result (AreSound K.form site.now.bounds seen.new.recs.items) }
-    ensures reading { OnlyRead D.content D.blocks D.faults D.reads D.clock D.may_have_held_since D.may_hold_now dev.old dev.new steps.old steps.new }
-    ensures cause { HasCause (D.faults dev.old) (D.faults dev.new) result }
-    ensures agrees { AgreesTold cache.new (D.content dev.new) }
-    ensures each { OnOk result (steps.new.reads + length seen.old.blocks.items ≡ steps.old.reads + length seen.new.blocks.items) }
+    ensures lie { LieInside site.now.bounds.length seen.old.blocks.items → OnOk result (LieInside site.now.bounds.length seen.new.blocks.items) }
+    ensures counted { (m : ℕ → List ℕ) → B.told blocks.old ≡ Some m → HasRead (B.count blocks.old) (walked_node K.form site.now m level root p (trail_of seen.old)) (B.count blocks.new) result }
+    ensures reading { Reads B.Blocks blocks.old blocks.new }
+    ensures cause { HasCause (B.faults blocks.old) (B.faults blocks.new) result }
+    ensures each { OnOk result (B.count blocks.new + length seen.old.blocks.items ≡ B.count blocks.old + length seen.new.blocks.items) }
 {
-    let block = match enter::<K, D, L>(dev, cache, site, level, root, p, seen, steps) {
+    let block = match enter::<K, B>(blocks, site, level, root, p, seen) {
         Ok(block) => block,
         Err(fault) => return Err(fault),
     };
@@ -76,9 +76,9 @@ fn walk_node<K: RecKind, D: Device, L: Ledger>(
     }
     let area = data_area(&block);
     let mut span = None;
-    for i in 0..get_u16(&block.bytes, 6) {
+    for i in 0..count_of(&block) {
         let child = child_at(K::kind(), area, i as usize);
-        match walk_node::<K, D, L>(dev, cache, site, level - 1, false, child, seen, steps) {
+        match walk_node::<K, B>(blocks, site, level - 1, false, child, seen) {
             Ok(below) => {
                 if !does_agree::<K>(area, i as usize, &below) {
                     return Err(WalkFault::Bad {
@@ -86,7 +86,7 @@ fn walk_node<K: RecKind, D: Device, L: Ledger>(
                         fault: BlockFault::Key,
                     });
                 }
-                span = joined::<K>(span, below);
+                span = join_spans::<K>(span, below);
             }
             Err(fault) => return Err(fault),
         }
@@ -95,23 +95,15 @@ fn walk_node<K: RecKind, D: Device, L: Ledger>(
 }
 
 // A root whose head has a count of levels that no tree has: Magic, or else Level.
-fn refuse_levels<K: RecKind, D: Device, L: Ledger>(
-    dev: &mut D,
-    cache: &mut BlkCache,
-    site: &Site,
-    root: u32,
-    steps: &mut Steps<L>,
-) -> WalkFault
+fn refuse_levels<K: RecKind, B: Blocks>(blocks: &mut B, site: &Site, root: u32) -> WalkFault
     requires inside { root < site.now.bounds.length }
-    requires room { site.now.first + site.now.bounds.length ≤ D.blocks dev.old Image }
-    requires fits { 8 * (site.now.first + site.now.bounds.length) < 2 ^ 64 }
-    requires agreed { AgreesTold cache.old (D.content dev.old) }
-    ensures exact { (c : Contents) → D.content dev.old ≡ Some c → Refuses (read_node K.form site.now (group_blocks site.now (c Image)) 9 true root fresh) result }
-    ensures reading { OnlyRead D.content D.blocks D.faults D.reads D.clock D.may_have_held_since D.may_hold_now dev.old dev.new steps.old steps.new }
-    ensures cause { CauseOf (D.faults dev.old) (D.faults dev.new) result }
-    ensures agrees { AgreesTold cache.new (D.content dev.new) }
+    requires here { B.place blocks.old ≡ site.now }
+    ensures exact { (m : ℕ → List ℕ) → B.told blocks.old ≡ Some m → Refuses (read_node K.form site.now m 9 true root fresh) result }
+    ensures counted { (m : ℕ → List ℕ) → B.told blocks.old ≡ Some m → CountedBy (B.count blocks.old) (walked_node K.form site.now m 9 true root fresh) (B.count blocks.new) result }
+    ensures reading { Reads B.Blocks blocks.old blocks.new }
+    ensures cause { CauseOf (B.faults blocks.old) (B.faults blocks.new) result }
 {
-    let block = match load(dev, cache, site, root, steps) {
+    let block = match blocks.load(root) {
         Ok(block) => block,
         Err(fault) => return fault,
     };
@@ -129,31 +121,28 @@ fn refuse_levels<K: RecKind, D: Device, L: Ledger>(
 }
 
 // Reads a tree of one to nine levels.
-fn walk_levels<K: RecKind, D: Device, L: Ledger>(
+fn walk_levels<K: RecKind, B: Blocks>(
     alloc: Global,
-    dev: &mut D,
-    cache: &mut BlkCache,
+    blocks: &mut B,
     site: &Site,
     root: u32,
     levels: u32,
-    steps: &mut Steps<L>,
 ) -> Result<TreeRead<K::Rec>, WalkFault>
     requires some { 1 ≤ levels }
     requires few { levels ≤ 9 }
     requires inside { root < site.now.bounds.length }
-    requires room { site.now.first + site.now.bounds.length ≤ D.blocks dev.old Image }
-    requires fits { 8 * (site.now.first + site.now.bounds.length) < 2 ^ 64 }
-    requires agreed { AgreesTold cache.old (D.content dev.old) }
-    ensures exact { (c : Contents) → D.content dev.old ≡ Some c → MeetsTree (closed levels (read_node K.form site.now (group_blocks site.now (c Image)) (levels - 1) true root fresh)) result }
+    requires here { B.place blocks.old ≡ site.now }
+    ensures exact { (m : ℕ → List ℕ) → B.told blocks.old ≡ Some m → MeetsTree (closed levels (read_node K.form site.now m (levels - 1) true root fresh)) result }
     ensures sound { IfOk result (λ read. AreSound K.form site.now.bounds read.recs.items) }
-    ensures reading { OnlyRead D.content D.blocks D.faults D.reads D.clock D.may_have_held_since D.may_hold_now dev.old dev.new steps.old steps.new }
-    ensures cause { HasCause (D.faults dev.old) (D.faults dev.new) result }
-    ensures agrees { AgreesTold cache.new (D.content dev.new) }
-    ensures each { IfOk result (λ read. steps.new.reads ≡ steps.old.reads + length read.blocks.items) }
+    ensures lie { IfOk result (λ read. LieInside site.now.bounds.length read.blocks.items) }
+    ensures counted { (m : ℕ → List ℕ) → B.told blocks.old ≡ Some m → HasRead (B.count blocks.old) (walked_node K.form site.now m (levels - 1) true root fresh) (B.count blocks.new) result }
+    ensures reading { Reads B.Blocks blocks.old blocks.new }
+    ensures cause { HasCause (B.faults blocks.old) (B.faults blocks.new) result }
+    ensures each { IfOk result (λ read. B.count blocks.new ≡ B.count blocks.old + length read.blocks.items) }
 {
     let mut seen = fresh_seen::<K::Rec>(alloc);
     let level = (levels - 1) as u8;
-    match walk_node::<K, D, L>(dev, cache, site, level, true, root, &mut seen, steps) {
+    match walk_node::<K, B>(blocks, site, level, true, root, &mut seen) {
         Ok(_) => {}
         Err(fault) => return Err(fault),
     }
@@ -170,23 +159,20 @@ fn walk_levels<K: RecKind, D: Device, L: Ledger>(
 }
 
 // Reads the tree of this root and count of levels.
-fn walk_site<K: RecKind, D: Device, L: Ledger>(
+fn walk_site<K: RecKind, B: Blocks>(
     alloc: Global,
-    dev: &mut D,
-    cache: &mut BlkCache,
+    blocks: &mut B,
     site: &Site,
     tree: &TreeAt,
-    steps: &mut Steps<L>,
 ) -> Result<TreeRead<K::Rec>, WalkFault>
-    requires room { site.now.first + site.now.bounds.length ≤ D.blocks dev.old Image }
-    requires fits { 8 * (site.now.first + site.now.bounds.length) < 2 ^ 64 }
-    requires agreed { AgreesTold cache.old (D.content dev.old) }
-    ensures exact { (c : Contents) → D.content dev.old ≡ Some c → MeetsTree (read_tree K.form site.now (group_blocks site.now (c Image)) tree.now.root tree.now.levels) result }
+    requires here { B.place blocks.old ≡ site.now }
+    ensures exact { (m : ℕ → List ℕ) → B.told blocks.old ≡ Some m → MeetsTree (read_tree K.form site.now m tree.now.root tree.now.levels) result }
     ensures sound { IfOk result (λ read. AreSound K.form site.now.bounds read.recs.items) }
-    ensures reading { OnlyRead D.content D.blocks D.faults D.reads D.clock D.may_have_held_since D.may_hold_now dev.old dev.new steps.old steps.new }
-    ensures cause { HasCause (D.faults dev.old) (D.faults dev.new) result }
-    ensures agrees { AgreesTold cache.new (D.content dev.new) }
-    ensures each { IfOk result (λ read. steps.new.reads ≡ steps.old.reads + length read.blocks.items) }
+    ensures lie { IfOk result (λ read. LieInside site.now.bounds.length read.blocks.items) }
+    ensures counted { (m : ℕ → List ℕ) → B.told blocks.old ≡ Some m → HasRead (B.count blocks.old) (walked K.form site.now m tree.now.root tree.now.levels) (B.count blocks.new) result }
+    ensures reading { Reads B.Blocks blocks.old blocks.new }
+    ensures cause { HasCause (B.faults blocks.old) (B.faults blocks.new) result }
+    ensures each { IfOk result (λ read. B.count blocks.new ≡ B.count blocks.old + length read.blocks.items) }
 {
     let root = tree.root;
     if root == 0 || root >= site.bounds.length {
@@ -196,9 +182,9 @@ fn walk_site<K: RecKind, D: Device, L: Ledger>(
         });
     }
     if tree.levels == 0 || tree.levels > 9 {
-        return Err(refuse_levels::<K, D, L>(dev, cache, site, root, steps));
+        return Err(refuse_levels::<K, B>(blocks, site, root));
     }
-    walk_levels::<K, D, L>(alloc, dev, cache, site, root, tree.levels, steps)
+    walk_levels::<K, B>(alloc, blocks, site, root, tree.levels)
 }
 
 /// The records and blocks of a tree, or its first fault with the block where it is: the blocks are
@@ -213,16 +199,25 @@ pub fn walk<K: RecKind, D: Device, L: Ledger>(
     tree: &TreeAt,
     steps: &mut Steps<L>,
 ) -> Result<TreeRead<K::Rec>, WalkFault>
+    requires kind { tree.now.kind ≡ K.form.kind }
     requires group { tree.now.group < geo.now.agcount }
     requires room { geo.now.dblocks ≤ D.blocks dev.old Image }
     requires agreed { AgreesTold cache.old (D.content dev.old) }
-    ensures exact { IfSome (D.content dev.old) (λ c. let site = site_of (layout geo.now) tree.now.group in MeetsTree (read_tree K.form site (group_blocks site (c Image)) tree.now.root tree.now.levels) result) }
+    ensures exact { OfTree (layout geo.now) tree.now (D.content dev.old) (λ s m r n. MeetsTree (read_tree K.form s m r n) result) }
     ensures sound { IfOk result (λ read. AreSound K.form (bounds_of (layout geo.now) tree.now.group) read.recs.items) }
-    ensures reading { OnlyRead D.content D.blocks D.faults D.reads D.clock D.may_have_held_since D.may_hold_now dev.old dev.new steps.old steps.new }
+    ensures lie { IfOk result (λ read. LieInside (bounds_of (layout geo.now) tree.now.group).length read.blocks.items) }
+    ensures counted { OfTree (layout geo.now) tree.now (D.content dev.old) (λ s m r n. HasRead steps.old.reads (walked K.form s m r n) steps.new.reads result) }
+    ensures reading { OnlyRead D.Device dev.old dev.new steps.old steps.new }
     ensures cause { HasCause (D.faults dev.old) (D.faults dev.new) result }
     ensures agrees { AgreesTold cache.new (D.content dev.new) }
     ensures each { IfOk result (λ read. steps.new.reads ≡ steps.old.reads + length read.blocks.items) }
 {
     let site = Site::of_group(geo, tree.group);
-    walk_site::<K, D, L>(alloc, dev, cache, &site, tree, steps)
+    let mut blocks = Cached {
+        dev,
+        cache,
+        site,
+        steps,
+    };
+    walk_site::<K, Cached<D, L>>(alloc, &mut blocks, &site, tree)
 }

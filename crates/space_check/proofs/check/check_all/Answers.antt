@@ -1,7 +1,7 @@
 use Rattle.std.proofs.Common.{sym, ◌∙◌}
 use Rattle.blk_device.specs.declared.device.Region.TheVariants.{Image}
 use Rattle.geom.specs.Places.{layout}
-use Rattle.tree_blocks.proofs.ReadingLemmas.{read_on}
+use Rattle.blk_device.specs.ReadingLaws.{read_on}
 use Rattle.space_check.proofs.CauseLemmas.{later_cause}
 use Rattle.space_check.proofs.EndLemmas.{ends_refused, ends_judged}
 use Rattle.space_check.proofs.SessionLemmas.{not_full}
@@ -16,7 +16,7 @@ returns-in-Ok-clause-exact g c = λ m e.
 
 pub returns-in-Ok-clause-reading : goal.returns-in-Ok-clause-reading
 returns-in-Ok-clause-reading g c =
-    read_on g.D.Device.content g.D.Device.blocks g.D.Device.faults g.D.Device.reads g.D.Device.clock g.D.Device.may_have_held_since g.D.Device.may_hold_now g.met.D.Device.only_now g.met.D.Device.counts_now c.args.dev.now c.test_heads.new.dev c.check_groups.new.dev c.args.steps.now c.test_heads.new.steps c.check_groups.new.steps c.test_heads.ensures.reading c.check_groups.ensures.reading
+    read_on g.D.Device g.met.D.Device.only_now g.met.D.Device.counts_now c.args.dev.now c.test_heads.new.dev c.check_groups.new.dev c.args.steps.now c.test_heads.new.steps c.check_groups.new.steps c.test_heads.ensures.reading c.check_groups.ensures.reading
 
 pub returns-in-Ok-clause-cause : goal.returns-in-Ok-clause-cause
 returns-in-Ok-clause-cause g c = later_cause (g.D.Device.faults c.args.dev.now) (g.D.Device.faults c.test_heads.new.dev) (g.D.Device.faults c.check_groups.new.dev) c.check_groups.result c.in-Ok.ensures.cause c.check_groups.ensures.cause

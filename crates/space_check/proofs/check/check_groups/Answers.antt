@@ -3,7 +3,7 @@ use Rattle.ag_headers.specs.Agf.{agf_of}
 use Rattle.blk_device.specs.declared.device.Region.TheVariants.{Image}
 use Rattle.fs_model.specs.declared.entry.Entry.{Entry}
 use Rattle.geom.specs.Places.{layout}
-use Rattle.tree_blocks.proofs.ReadingLemmas.{nothing_read, read_on}
+use Rattle.blk_device.specs.ReadingLaws.{nothing_read, read_on}
 use Rattle.space_check.specs.Checked.{entries_from, heads_at}
 use Rattle.space_check.specs.Groups.{group_entries}
 use Rattle.space_check.proofs.AddsLemmas.{all_in, stopped, went_on}
@@ -16,7 +16,7 @@ use Rattle.space_check.proofs.check.check_groups.Goals as goal
 pub loop-g-init : goal.loop-g-init
 loop-g-init g c = record {
   left = λ m e. let all : c.args.geo.now.agcount - 0 ≡ c.args.geo.now.agcount = omega arith in ap (λ n. c.args.journal.now.entries.items ++ entries_from (layout c.args.geo.now) (m Image) 0 n) all;
-  reading = nothing_read g.D.Device.content g.D.Device.blocks g.D.Device.faults g.D.Device.reads g.D.Device.clock g.D.Device.may_have_held_since g.D.Device.may_hold_now g.met.D.Device.only_now g.met.D.Device.counts_now c.args.dev.now c.args.steps.now;
+  reading = nothing_read g.D.Device g.met.D.Device.only_now g.met.D.Device.counts_now c.args.dev.now c.args.steps.now;
   calm = refl;
   agrees = c.requires.agreed;
   groups = no_group c.args.journal.now.entries.items (sym (append-nil c.args.journal.now.entries.items));
@@ -32,7 +32,7 @@ loop-g-preserved g c =
     record {
       left = λ m e. went_on c.args.journal.now.entries.items (entries_from (layout c.args.geo.now) (m Image) 0 n) c.loop-g.journal.entries.items (group_entries (layout c.args.geo.now) (m Image) i (agf_of (heads_at (layout c.args.geo.now) (m Image) i))) (entries_from (layout c.args.geo.now) (m Image) (i + 1) (n - (i + 1))) c.check_one.new.journal.entries.items
           (next_group (layout c.args.geo.now) (m Image) i n c.loop-g.journal.entries.items (c.args.journal.now.entries.items ++ entries_from (layout c.args.geo.now) (m Image) 0 n) (omega (arith, c.loop-g-test.true)) (c.loop-g.invariant.left m e)) (c.in-Ok.ensures.exact m (c.loop-g.invariant.reading.same ∙ e));
-      reading = read_on g.D.Device.content g.D.Device.blocks g.D.Device.faults g.D.Device.reads g.D.Device.clock g.D.Device.may_have_held_since g.D.Device.may_hold_now g.met.D.Device.only_now g.met.D.Device.counts_now c.args.dev.now c.loop-g.dev c.check_one.new.dev c.args.steps.now c.loop-g.steps c.check_one.new.steps c.loop-g.invariant.reading c.in-Ok.ensures.reading;
+      reading = read_on g.D.Device g.met.D.Device.only_now g.met.D.Device.counts_now c.args.dev.now c.loop-g.dev c.check_one.new.dev c.args.steps.now c.loop-g.steps c.check_one.new.steps c.loop-g.invariant.reading c.in-Ok.ensures.reading;
       calm = c.in-Ok.ensures.cause ∙ c.loop-g.invariant.calm;
       agrees = c.in-Ok.ensures.agrees;
       groups = one_more_group (Unit {0}) tt i c.args.journal.now.entries.items c.loop-g.journal.entries.items c.check_one.new.journal.entries.items c.loop-g.invariant.groups c.in-Ok.ensures.group;
@@ -47,7 +47,7 @@ returns-in-Err-clause-exact g c = λ m e.
 
 pub returns-in-Err-clause-reading : goal.returns-in-Err-clause-reading
 returns-in-Err-clause-reading g c =
-    read_on g.D.Device.content g.D.Device.blocks g.D.Device.faults g.D.Device.reads g.D.Device.clock g.D.Device.may_have_held_since g.D.Device.may_hold_now g.met.D.Device.only_now g.met.D.Device.counts_now c.args.dev.now c.loop-g.dev c.check_one.new.dev c.args.steps.now c.loop-g.steps c.check_one.new.steps c.loop-g.invariant.reading c.in-Err.ensures.reading
+    read_on g.D.Device g.met.D.Device.only_now g.met.D.Device.counts_now c.args.dev.now c.loop-g.dev c.check_one.new.dev c.args.steps.now c.loop-g.steps c.check_one.new.steps c.loop-g.invariant.reading c.in-Err.ensures.reading
 
 pub returns-in-Err-clause-cause : goal.returns-in-Err-clause-cause
 returns-in-Err-clause-cause g c =

@@ -1,7 +1,7 @@
 use Rattle.std.proofs.Common.{length, ◌∙◌}
 use Rattle.blk_device.specs.declared.device.Region.TheVariants.{Image}
 use Rattle.geom.specs.Places.{layout}
-use Rattle.tree_blocks.proofs.ReadingLemmas.{read_on}
+use Rattle.blk_device.specs.ReadingLaws.{read_on}
 use Rattle.space_check.specs.Groups.{free_entries, shared_entries}
 use Rattle.space_check.proofs.AddsLemmas.{first_stops, then_adds}
 use Rattle.space_check.proofs.CauseLemmas.{later_cause}
@@ -22,7 +22,7 @@ returns-clause-exact g c = λ m e.
 
 pub returns-clause-reading : goal.returns-clause-reading
 returns-clause-reading g c =
-    read_on g.D.Device.content g.D.Device.blocks g.D.Device.faults g.D.Device.reads g.D.Device.clock g.D.Device.may_have_held_since g.D.Device.may_hold_now g.met.D.Device.only_now g.met.D.Device.counts_now c.args.dev.now c.check_free.new.dev c.check_shared.new.dev c.args.steps.now c.check_free.new.steps c.check_shared.new.steps c.check_free.ensures.reading c.check_shared.ensures.reading
+    read_on g.D.Device g.met.D.Device.only_now g.met.D.Device.counts_now c.args.dev.now c.check_free.new.dev c.check_shared.new.dev c.args.steps.now c.check_free.new.steps c.check_shared.new.steps c.check_free.ensures.reading c.check_shared.ensures.reading
 
 pub returns-clause-cause : goal.returns-clause-cause
 returns-clause-cause g c = later_cause (g.D.Device.faults c.args.dev.now) (g.D.Device.faults c.check_free.new.dev) (g.D.Device.faults c.check_shared.new.dev) c.check_shared.result c.in-Ok.ensures.cause c.check_shared.ensures.cause

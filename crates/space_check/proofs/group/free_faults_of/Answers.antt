@@ -2,7 +2,7 @@ use Rattle.std.proofs.Common.{subst, sym}
 use Rattle.derive_defs.specs.Mappings.{EndWithin}
 use Rattle.derive_defs.proofs.ConditionLemmas.{starts_rise, end_within}
 use Rattle.geom.specs.Places.{layout}
-use Rattle.tree_blocks.proofs.ReadingLemmas.{read_on}
+use Rattle.blk_device.specs.ReadingLaws.{read_on}
 use Rattle.tree_defs.specs.Sites.{bounds_of}
 use Rattle.space_check.proofs.group.free_faults_of.Goals as goal
 
@@ -15,8 +15,8 @@ judge_free-requires-clause-within g c =
 
 pub returns-in-Err-read_index-clause-reading : goal.returns-in-Err-read_index-clause-reading
 returns-in-Err-read_index-clause-reading g c =
-    read_on g.D.Device.content g.D.Device.blocks g.D.Device.faults g.D.Device.reads g.D.Device.clock g.D.Device.may_have_held_since g.D.Device.may_hold_now g.met.D.Device.only_now g.met.D.Device.counts_now c.args.dev.now c.read_index.new.dev c.read_index-2.new.dev c.args.steps.now c.read_index.new.steps c.read_index-2.new.steps c.read_index.ensures.reading c.read_index-2.ensures.reading
+    read_on g.D.Device g.met.D.Device.only_now g.met.D.Device.counts_now c.args.dev.now c.read_index.new.dev c.read_index-2.new.dev c.args.steps.now c.read_index.new.steps c.read_index-2.new.steps c.read_index.ensures.reading c.read_index-2.ensures.reading
 
 pub returns-clause-reading : goal.returns-clause-reading
 returns-clause-reading g c =
-    read_on g.D.Device.content g.D.Device.blocks g.D.Device.faults g.D.Device.reads g.D.Device.clock g.D.Device.may_have_held_since g.D.Device.may_hold_now g.met.D.Device.only_now g.met.D.Device.counts_now c.args.dev.now c.read_index.new.dev c.read_index-2.new.dev c.args.steps.now c.read_index.new.steps c.read_index-2.new.steps c.read_index.ensures.reading c.read_index-2.ensures.reading
+    read_on g.D.Device g.met.D.Device.only_now g.met.D.Device.counts_now c.args.dev.now c.read_index.new.dev c.read_index-2.new.dev c.args.steps.now c.read_index.new.steps c.read_index-2.new.steps c.read_index.ensures.reading c.read_index-2.ensures.reading

@@ -2,7 +2,7 @@ use Rattle.std.proofs.Common.{◌≡◌, ◌-◌, ◌+◌, List, ◌++◌, lengt
 use Rattle.ag_headers.specs.declared.agf.Agf.{Agf as SpaceHead}
 use Rattle.blk_device.specs.declared.device.Region.TheVariants.{Image}
 use Rattle.geom.specs.Places.{layout}
-use Rattle.tree_blocks.proofs.ReadingLemmas.{nothing_read, read_on}
+use Rattle.blk_device.specs.ReadingLaws.{nothing_read, read_on}
 use Rattle.space_check.specs.Checked.{agfs_from, bad_head_from}
 use Rattle.space_check.proofs.CauseLemmas.{later_cause}
 use Rattle.space_check.proofs.HeadLemmas.{next_group, refused_here, none_left, one_more_agf, all_agfs}
@@ -13,7 +13,7 @@ loop-g-init g c = record {
   left = λ m e. let all : c.args.geo.now.agcount - 0 ≡ c.args.geo.now.agcount = omega arith in ap (bad_head_from (layout c.args.geo.now) (m Image) 0) all;
   kept = λ m e. let all : c.args.geo.now.agcount - 0 ≡ c.args.geo.now.agcount = omega arith in ap (λ (x : List SpaceHead). x ++ agfs_from (layout c.args.geo.now) (m Image) 0 (c.args.geo.now.agcount - 0)) c.new-agfs.ensures.items ∙ ap (agfs_from (layout c.args.geo.now) (m Image) 0) all;
   all = ap (λ (x : List SpaceHead). length x) c.new-agfs.ensures.items;
-  reading = nothing_read g.D.Device.content g.D.Device.blocks g.D.Device.faults g.D.Device.reads g.D.Device.clock g.D.Device.may_have_held_since g.D.Device.may_hold_now g.met.D.Device.only_now g.met.D.Device.counts_now c.args.dev.now c.args.steps.now;
+  reading = nothing_read g.D.Device g.met.D.Device.only_now g.met.D.Device.counts_now c.args.dev.now c.args.steps.now;
   calm = refl;
   agrees = c.requires.agreed;
 }
@@ -23,7 +23,7 @@ loop-g-preserved g c = record {
   left = λ m e. next_group (layout c.args.geo.now) (m Image) c.loop-g.g c.args.geo.now.agcount (bad_head_from (layout c.args.geo.now) (m Image) 0 c.args.geo.now.agcount) c.loop-g-test.true (c.loop-g.invariant.left m e) (c.in-Ok.ensures.exact m (c.loop-g.invariant.reading.same ∙ e));
   kept = λ m e. one_more_agf (layout c.args.geo.now) (m Image) c.loop-g.g c.args.geo.now.agcount c.loop-g.agfs.items c.test_group.new.agfs.items (agfs_from (layout c.args.geo.now) (m Image) 0 c.args.geo.now.agcount) c.loop-g-test.true (c.loop-g.invariant.kept m e) (c.in-Ok.ensures.kept m (c.loop-g.invariant.reading.same ∙ e));
   all = c.in-Ok.ensures.one ∙ ap (λ n. n + 1) c.loop-g.invariant.all;
-  reading = read_on g.D.Device.content g.D.Device.blocks g.D.Device.faults g.D.Device.reads g.D.Device.clock g.D.Device.may_have_held_since g.D.Device.may_hold_now g.met.D.Device.only_now g.met.D.Device.counts_now c.args.dev.now c.loop-g.dev c.test_group.new.dev c.args.steps.now c.loop-g.steps c.test_group.new.steps c.loop-g.invariant.reading c.in-Ok.ensures.reading;
+  reading = read_on g.D.Device g.met.D.Device.only_now g.met.D.Device.counts_now c.args.dev.now c.loop-g.dev c.test_group.new.dev c.args.steps.now c.loop-g.steps c.test_group.new.steps c.loop-g.invariant.reading c.in-Ok.ensures.reading;
   calm = c.in-Ok.ensures.cause ∙ c.loop-g.invariant.calm;
   agrees = c.in-Ok.ensures.agrees;
 }
@@ -34,7 +34,7 @@ returns-in-Err-clause-exact g c = λ m e.
 
 pub returns-in-Err-clause-reading : goal.returns-in-Err-clause-reading
 returns-in-Err-clause-reading g c =
-    read_on g.D.Device.content g.D.Device.blocks g.D.Device.faults g.D.Device.reads g.D.Device.clock g.D.Device.may_have_held_since g.D.Device.may_hold_now g.met.D.Device.only_now g.met.D.Device.counts_now c.args.dev.now c.loop-g.dev c.test_group.new.dev c.args.steps.now c.loop-g.steps c.test_group.new.steps c.loop-g.invariant.reading c.in-Err.ensures.reading
+    read_on g.D.Device g.met.D.Device.only_now g.met.D.Device.counts_now c.args.dev.now c.loop-g.dev c.test_group.new.dev c.args.steps.now c.loop-g.steps c.test_group.new.steps c.loop-g.invariant.reading c.in-Err.ensures.reading
 
 pub returns-in-Err-clause-cause : goal.returns-in-Err-clause-cause
 returns-in-Err-clause-cause g c =

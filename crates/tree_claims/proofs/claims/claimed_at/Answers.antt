@@ -1,8 +1,6 @@
 use Rattle.std.proofs.Common.{arith}
 use Rattle.std.proofs.lemmas.Result.{IfOk-weaker, on_ok_weaker}
-use Rattle.blk_device.specs.declared.device.Region.TheVariants.{Image}
 use Rattle.run_sets.specs.Sets.{has}
-use Rattle.tree_defs.specs.Sites.{group_blocks}
 use Rattle.tree_claims.proofs.ClaimLemmas.{none_claimed}
 use Rattle.tree_claims.proofs.claims.claimed_at.Goals as goal
 use Rattle.tree_claims.proofs.claims.claimed_at.Goals.{then-root-eq0-via-then-root-eq0, then-root-eq0-via-else-root-eq0+then-root-site}
@@ -10,7 +8,7 @@ use Rattle.tree_claims.proofs.claims.claimed_at.Goals.{then-root-eq0-via-then-ro
 pub returns-then-root-eq0-clause-exact : goal.returns-then-root-eq0-clause-exact
 returns-then-root-eq0-clause-exact g c = λ m e.
     IfOk-weaker c.empty_set.result _ _
-    (λ set empty. none_claimed g.K.RecKind.form c.args.site.now (group_blocks c.args.site.now (m Image)) c.args.tree.now.root c.args.tree.now.levels (has set)
+    (λ set empty. none_claimed g.K.RecKind.form c.args.site.now m c.args.tree.now.root c.args.tree.now.levels (has set)
     (λ some below. elim c.then-root-eq0.branch [
       | then-root-eq0-via-then-root-eq0 w ↦ omega (arith, some, below)
       | then-root-eq0-via-else-root-eq0+then-root-site w ↦ omega (arith, some, below)

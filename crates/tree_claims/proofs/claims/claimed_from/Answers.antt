@@ -1,13 +1,11 @@
 use Rattle.std.proofs.Common.{◌≡◌, ◌+◌, ◌-◌, ◌≤◌, ℕ, refl, ◌∙◌, ap, arith}
 use Rattle.std.specs.Prelude.{◌==◌}
-use Rattle.blk_device.specs.declared.device.Region.TheVariants.{Image}
 use Rattle.std.proofs.lemmas.Result.{IfOk-weaker}
 use Rattle.run_sets.specs.Runs.{most}
 use Rattle.run_sets.specs.Sets.{has}
 use Rattle.tree_defs.specs.Claims.{IsClaimed, IsReached}
-use Rattle.tree_defs.specs.Sites.{group_blocks}
 use Rattle.tree_defs.specs.Tree.{top_of}
-use Rattle.tree_blocks.proofs.ReadingLemmas.{nothing_read, read_on}
+use Rattle.tree_blocks.proofs.ReadingLemmas.{reads_none, reads_on}
 use Rattle.tree_claims.specs.Lists.{lists}
 use Rattle.tree_claims.proofs.ListLemmas.{lists_nothing, lists_low, set_lists, pass_as, lie_as, ok_holds}
 use Rattle.tree_claims.proofs.ClaimLemmas.{deep, deep_most, top_most, root_lies, none_lies, root_reached, none_named, next_reached, next_named, all_claimed, level_read, levels_read}
@@ -15,41 +13,32 @@ use Rattle.tree_claims.proofs.RowLemmas.{none_read, one_row_read, all_rows_read}
 use Rattle.run_sets.proofs.SetLemmas.{maximal_of}
 use Rattle.tree_claims.proofs.claims.claimed_from.Goals as goal
 
-pub returns-in-Err-look_level-clause-reading : goal.returns-in-Err-look_level-clause-reading
-returns-in-Err-look_level-clause-reading g c =
-    read_on g.D.Device.content g.D.Device.blocks g.D.Device.faults g.D.Device.reads g.D.Device.clock g.D.Device.may_have_held_since g.D.Device.may_hold_now g.met.D.Device.only_now g.met.D.Device.counts_now c.args.dev.now c.loop-depth.dev c.look_level.new.dev c.args.steps.now c.loop-depth.steps c.look_level.new.steps c.loop-depth.invariant.reading c.look_level.ensures.reading
-
 pub returns-in-Err-look_level-clause-few : goal.returns-in-Err-look_level-clause-few
 returns-in-Err-look_level-clause-few g c =
     let len = c.args.site.now.bounds.length in
     let most : c.levels_below-depth-end.result ≤ 9 = rw (c.levels_below-depth-end.ensures.exact, c.top_level-top.ensures) (deep_most (top_of c.args.levels) (top_most c.args.levels)) in
-    let here = level_read c.args.steps.now.reads c.loop-depth.steps.reads c.look_level.new.steps.reads c.loop-depth.depth len c.loop-depth.invariant.few c.look_level.ensures.few in
-    levels_read c.args.steps.now.reads c.look_level.new.steps.reads (c.loop-depth.depth + 1) len (omega (arith, c.loop-depth-test.true, most)) here
-
-pub returns-in-Err-set_of-clause-reading : goal.returns-in-Err-set_of-clause-reading
-returns-in-Err-set_of-clause-reading g c =
-    read_on g.D.Device.content g.D.Device.blocks g.D.Device.faults g.D.Device.reads g.D.Device.clock g.D.Device.may_have_held_since g.D.Device.may_hold_now g.met.D.Device.only_now g.met.D.Device.counts_now c.args.dev.now c.loop-depth.dev c.look_level.new.dev c.args.steps.now c.loop-depth.steps c.look_level.new.steps c.loop-depth.invariant.reading c.look_level.ensures.reading
+    let here = level_read (g.B.Blocks.count c.args.blocks.now) (g.B.Blocks.count c.loop-depth.blocks) (g.B.Blocks.count c.look_level.new.blocks) c.loop-depth.depth len c.loop-depth.invariant.few c.look_level.ensures.few in
+    levels_read (g.B.Blocks.count c.args.blocks.now) (g.B.Blocks.count c.look_level.new.blocks) (c.loop-depth.depth + 1) len (omega (arith, c.loop-depth-test.true, most)) here
 
 pub returns-in-Err-set_of-clause-few : goal.returns-in-Err-set_of-clause-few
 returns-in-Err-set_of-clause-few g c =
     let len = c.args.site.now.bounds.length in
     let most : c.levels_below-depth-end.result ≤ 9 = rw (c.levels_below-depth-end.ensures.exact, c.top_level-top.ensures) (deep_most (top_of c.args.levels) (top_most c.args.levels)) in
-    let here = level_read c.args.steps.now.reads c.loop-depth.steps.reads c.look_level.new.steps.reads c.loop-depth.depth len c.loop-depth.invariant.few c.look_level.ensures.few in
-    levels_read c.args.steps.now.reads c.look_level.new.steps.reads (c.loop-depth.depth + 1) len (omega (arith, c.loop-depth-test.true, most)) here
+    let here = level_read (g.B.Blocks.count c.args.blocks.now) (g.B.Blocks.count c.loop-depth.blocks) (g.B.Blocks.count c.look_level.new.blocks) c.loop-depth.depth len c.loop-depth.invariant.few c.look_level.ensures.few in
+    levels_read (g.B.Blocks.count c.args.blocks.now) (g.B.Blocks.count c.look_level.new.blocks) (c.loop-depth.depth + 1) len (omega (arith, c.loop-depth-test.true, most)) here
 
 pub loop-depth-init : goal.loop-depth-init
 loop-depth-init g c =
     let form = g.K.RecKind.form in
     let len = c.args.site.now.bounds.length in
     record {
-      reached = λ m e. root_reached form c.args.site.now (group_blocks c.args.site.now (m Image)) c.args.root c.args.levels (has c.in-Ok.set) c.in-Ok.ensures.exact;
-      named = λ m e. none_named form c.args.site.now (group_blocks c.args.site.now (m Image)) c.args.root c.args.levels (lists c.new-claimed.result.items) (lists_nothing c.new-claimed.result.items c.new-claimed.ensures.items);
+      reached = λ m e. root_reached form c.args.site.now m c.args.root c.args.levels (has c.in-Ok.set) c.in-Ok.ensures.exact;
+      named = λ m e. none_named form c.args.site.now m c.args.root c.args.levels (lists c.new-claimed.result.items) (lists_nothing c.new-claimed.result.items c.new-claimed.ensures.items);
       frontier_lies = root_lies len c.args.root (has c.in-Ok.set) c.requires.inside c.in-Ok.ensures.exact;
       claims_lie = none_lies len (lists c.new-claimed.result.items) (lists_nothing c.new-claimed.result.items c.new-claimed.ensures.items);
-      reading = nothing_read g.D.Device.content g.D.Device.blocks g.D.Device.faults g.D.Device.reads g.D.Device.clock g.D.Device.may_have_held_since g.D.Device.may_hold_now g.met.D.Device.only_now g.met.D.Device.counts_now c.args.dev.now c.args.steps.now;
+      reading = reads_none g.B.Blocks g.met.B.Blocks.follows_refl c.args.blocks.now;
       calm = refl;
-      agrees = c.requires.agreed;
-      each = λ m e. none_read form c.args.site.now (group_blocks c.args.site.now (m Image)) c.args.root c.args.levels c.args.steps.now.reads;
+      each = λ m e. none_read form c.args.site.now m c.args.root c.args.levels (g.B.Blocks.count c.args.blocks.now);
       few = omega arith;
     }
 
@@ -62,18 +51,17 @@ loop-depth-preserved g c =
     let next = c.in-Ok-look_level.next.items in
     let same = set_lists (has c.in-Ok-set_of.set) next c.deref.result.now c.deref.ensures.value c.in-Ok-set_of.ensures.exact in
     record {
-      reached = λ m e. pass_as (lists next) (has c.in-Ok-set_of.set) (IsReached form c.args.site.now (group_blocks c.args.site.now (m Image)) c.args.root c.args.levels (depth + 1)) same
-          (next_reached form c.args.site.now (group_blocks c.args.site.now (m Image)) c.args.root c.args.levels depth level (depth == 0) is_level refl (has c.loop-depth.frontier) (lists c.loop-depth.claimed.items) (lists c.look_level.new.claimed.items) (lists c.in-Ok-look_level.next.items) (c.in-Ok-look_level.ensures.exact m (c.loop-depth.invariant.reading.same ∙ e)) (c.loop-depth.invariant.reached m e));
-      named = λ m e. next_named form c.args.site.now (group_blocks c.args.site.now (m Image)) c.args.root c.args.levels depth level (depth == 0) is_level refl (has c.loop-depth.frontier) (lists c.loop-depth.claimed.items) (lists c.look_level.new.claimed.items) (lists c.in-Ok-look_level.next.items) (c.in-Ok-look_level.ensures.exact m (c.loop-depth.invariant.reading.same ∙ e)) (c.loop-depth.invariant.reached m e) (c.loop-depth.invariant.named m e);
+      reached = λ m e. pass_as (lists next) (has c.in-Ok-set_of.set) (IsReached form c.args.site.now m c.args.root c.args.levels (depth + 1)) same
+          (next_reached form c.args.site.now m c.args.root c.args.levels depth level (depth == 0) is_level refl (has c.loop-depth.frontier) (lists c.loop-depth.claimed.items) (lists c.look_level.new.claimed.items) (lists c.in-Ok-look_level.next.items) (c.in-Ok-look_level.ensures.exact m (c.loop-depth.invariant.reading.same ∙ e)) (c.loop-depth.invariant.reached m e));
+      named = λ m e. next_named form c.args.site.now m c.args.root c.args.levels depth level (depth == 0) is_level refl (has c.loop-depth.frontier) (lists c.loop-depth.claimed.items) (lists c.look_level.new.claimed.items) (lists c.in-Ok-look_level.next.items) (c.in-Ok-look_level.ensures.exact m (c.loop-depth.invariant.reading.same ∙ e)) (c.loop-depth.invariant.reached m e) (c.loop-depth.invariant.named m e);
       frontier_lies = lie_as c.args.site.now.bounds.length (lists next) (has c.in-Ok-set_of.set) same c.in-Ok-look_level.ensures.next_lies;
       claims_lie = c.in-Ok-look_level.ensures.claims_lie c.loop-depth.invariant.claims_lie;
-      reading = read_on g.D.Device.content g.D.Device.blocks g.D.Device.faults g.D.Device.reads g.D.Device.clock g.D.Device.may_have_held_since g.D.Device.may_hold_now g.met.D.Device.only_now g.met.D.Device.counts_now c.args.dev.now c.loop-depth.dev c.look_level.new.dev c.args.steps.now c.loop-depth.steps c.look_level.new.steps c.loop-depth.invariant.reading c.look_level.ensures.reading;
+      reading = reads_on g.B.Blocks g.met.B.Blocks.follows_trans c.args.blocks.now c.loop-depth.blocks c.look_level.new.blocks c.loop-depth.invariant.reading c.look_level.ensures.reading;
       calm = c.in-Ok-look_level.ensures.cause ∙ c.loop-depth.invariant.calm;
-      agrees = c.in-Ok-look_level.ensures.agrees;
-      each = λ m e. one_row_read form c.args.site.now (group_blocks c.args.site.now (m Image)) c.args.root c.args.levels depth c.args.steps.now.reads c.loop-depth.steps.reads c.look_level.new.steps.reads c.loop-depth.frontier.runs.items (c.loop-depth.invariant.each m e)
+      each = λ m e. one_row_read form c.args.site.now m c.args.root c.args.levels depth (g.B.Blocks.count c.args.blocks.now) (g.B.Blocks.count c.loop-depth.blocks) (g.B.Blocks.count c.look_level.new.blocks) c.loop-depth.frontier.runs.items (c.loop-depth.invariant.each m e)
           (record { maximal = maximal_of 0 c.loop-depth.frontier.runs.items c.loop-depth.frontier.maximal; exact = c.loop-depth.invariant.reached m e })
           c.in-Ok-look_level.ensures.each;
-      few = level_read c.args.steps.now.reads c.loop-depth.steps.reads c.look_level.new.steps.reads depth c.args.site.now.bounds.length c.loop-depth.invariant.few c.look_level.ensures.few;
+      few = level_read (g.B.Blocks.count c.args.blocks.now) (g.B.Blocks.count c.loop-depth.blocks) (g.B.Blocks.count c.look_level.new.blocks) depth c.args.site.now.bounds.length c.loop-depth.invariant.few c.look_level.ensures.few;
     }
 
 pub set_of-requires : goal.set_of-requires
@@ -82,7 +70,7 @@ set_of-requires g c = record { low = lists_low c.in-Ok-look_level.next.items c.d
 pub returns-clause-exact : goal.returns-clause-exact
 returns-clause-exact g c = λ m e.
     let form = g.K.RecKind.form in
-    let image = group_blocks c.args.site.now (m Image) in
+    let image = m in
     let end : deep (top_of c.args.levels) ≤ c.loop-depth.depth = rw (c.levels_below-depth-end.ensures.exact, c.top_level-top.ensures) at c.loop-depth-test.false in
     IfOk-weaker c.set_of-2.result _ _
     (λ set exact. pass_as (lists c.loop-depth.claimed.items) (has set) (IsClaimed form c.args.site.now image c.args.root c.args.levels)
@@ -102,4 +90,4 @@ pub returns-clause-each : goal.returns-clause-each
 returns-clause-each g c = λ m e.
     let end : deep (top_of c.args.levels) ≤ c.loop-depth.depth = rw (c.levels_below-depth-end.ensures.exact, c.top_level-top.ensures) at c.loop-depth-test.false in
     let most : c.levels_below-depth-end.result ≤ 9 = rw (c.levels_below-depth-end.ensures.exact, c.top_level-top.ensures) (deep_most (top_of c.args.levels) (top_most c.args.levels)) in
-    ok_holds _ c.set_of-2.result (all_rows_read g.K.RecKind.form c.args.site.now (group_blocks c.args.site.now (m Image)) c.args.root c.args.levels c.loop-depth.depth c.args.steps.now.reads c.loop-depth.steps.reads end (omega (arith, c.loop-depth.auto.depth-end, most)) (c.loop-depth.invariant.each m e))
+    ok_holds _ c.set_of-2.result (all_rows_read g.K.RecKind.form c.args.site.now m c.args.root c.args.levels c.loop-depth.depth (g.B.Blocks.count c.args.blocks.now) (g.B.Blocks.count c.loop-depth.blocks) end (omega (arith, c.loop-depth.auto.depth-end, most)) (c.loop-depth.invariant.each m e))

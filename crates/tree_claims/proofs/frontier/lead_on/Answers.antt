@@ -1,6 +1,6 @@
 use Rattle.std.proofs.Common.{sym, arith}
 use Rattle.std.proofs.lemmas.Result.{on_ok_weaker}
-use Rattle.tree_blocks.proofs.LoneFacts.{node_room}
+use Rattle.tree_defs.proofs.LoneFacts.{node_room}
 use Rattle.tree_claims.specs.Lists.{lists}
 use Rattle.tree_claims.proofs.LookLemmas.{leaf_leads, refused_leads, opened_leads, leads_below}
 use Rattle.tree_claims.proofs.frontier.lead_on.Goals as goal

@@ -13,5 +13,5 @@ loop-i-preserved c = one_item_more (lists c.args.list.now.items) (lists c.loop-i
 
 pub returns-clause-exact : goal.returns-clause-exact
 returns-clause-exact c =
-    let all : c.loop-i.i ≡ numrecs c.args.block.now.bytes = omega (arith, c.loop-i-test.false, c.loop-i.auto.i-end, c.get_u16-i-end.ensures) in
+    let all : c.loop-i.i ≡ numrecs c.args.block.now.bytes = omega (arith, c.loop-i-test.false, c.loop-i.auto.i-end, c.count_of-i-end.ensures) in
     rw (all, c.data_area-area.ensures.shows) at c.loop-i.invariant

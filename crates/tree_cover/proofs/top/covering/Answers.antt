@@ -7,6 +7,7 @@ use Rattle.tree_defs.specs.declared.site.Site.{Site}
 use Rattle.tree_cover.specs.Answers.{AnswersReadable}
 use Rattle.tree_cover.specs.Covers.{IsSought}
 use Rattle.tree_cover.proofs.AnswerLemmas.{all_answers}
+use Rattle.tree_blocks.specs.Cached.{blocks_told}
 use Rattle.tree_cover.proofs.top.covering.Goals as goal
 
 pub returns-clause-readable : goal.returns-clause-readable
@@ -14,7 +15,7 @@ returns-clause-readable g c =
     let form = g.K.RecKind.form in
     let site = c.of_group-site.result in
     let short : site.bounds.length < 2 ^ 32 = omega (arith, c.of_group-site.ensures.short) in
-    let answer = all_answers form g.met.K.RecKind.lawful g.met.K.Covers.covers site short c.args.run c.args.after c.args.tree.now.root c.args.tree.now.levels c.search_site.result (g.D.Device.content c.args.dev.now) c.search_site.ensures.exact in
+    let answer = all_answers form g.met.K.RecKind.lawful g.met.K.Covers.covers site short c.args.run c.args.after c.args.tree.now.root c.args.tree.now.levels c.search_site.result (g.D.Device.content c.args.dev.now) (λ m e. c.search_site.ensures.exact (group_blocks site (m Image)) (ap (blocks_told site) e)) in
     let P : Site → Type 0 = λ s. IfSome (g.D.Device.content c.args.dev.now) (λ m. AnswersReadable form s (group_blocks s (m Image)) c.args.run c.args.after c.args.tree.now.root c.args.tree.now.levels c.search_site.result) in
     subst P c.of_group-site.ensures.exact answer
 

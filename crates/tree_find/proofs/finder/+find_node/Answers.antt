@@ -1,8 +1,5 @@
 use Rattle.std.proofs.Common.{rules, ◌<◌, ◌∙◌, sym, arith}
-use Rattle.blk_device.specs.declared.device.Region.TheVariants.{Image}
-use Rattle.tree_defs.specs.Sites.{group_blocks}
-use Rattle.tree_blocks.proofs.LoneFacts.{leaf_room, node_room, leaf_inside, leaf_built}
-use Rattle.tree_blocks.proofs.ReadingLemmas.{read_on}
+use Rattle.tree_defs.proofs.LoneFacts.{leaf_room, node_room, leaf_inside, leaf_supported}
 use Rattle.tree_find.proofs.FindLemmas.{refused_here, at_leaf, no_child, by_child, one_more}
 use Rattle.tree_find.proofs.OpenLemmas.{leaf_rising, node_rising, low_level, next_inside}
 use Rattle.tree_find.proofs.RecordLemmas.{sound_record}
@@ -10,7 +7,7 @@ use Rattle.tree_find.proofs.finder.+find_node.Goals as goal
 
 pub returns-in-Err-clause-exact : goal.returns-in-Err-clause-exact
 returns-in-Err-clause-exact g t c = λ m e.
-    refused_here g.K.RecKind.form c.args.site.now (group_blocks c.args.site.now (m Image)) c.args.key.now c.args.level c.args.root c.args.p c.in-Err.fault (c.in-Err.ensures.refused m e)
+    refused_here g.K.RecKind.form c.args.site.now m c.args.key.now c.args.level c.args.root c.args.p c.in-Err.fault (c.in-Err.ensures.refused m e)
 
 pub record_of_key-requires-clause-room : goal.record_of_key-requires-clause-room
 record_of_key-requires-clause-room g t c = leaf_room g.K.RecKind.form c.args.site.now c.args.level c.args.root c.args.p c.in-Ok.block.bytes c.in-Ok.ensures.passes c.if-level-eq0.true
@@ -20,7 +17,7 @@ record_of_key-requires-clause-rising g t c = leaf_rising g.K.RecKind.form c.args
 
 pub returns-then-level-eq0-clause-exact : goal.returns-then-level-eq0-clause-exact
 returns-then-level-eq0-clause-exact g t c = λ m e.
-    at_leaf g.K.RecKind.form c.args.site.now (group_blocks c.args.site.now (m Image)) c.args.key.now c.args.level c.args.root c.args.p c.in-Ok.block.bytes c.record_of_key.result c.if-level-eq0.true (c.in-Ok.ensures.told m e) c.in-Ok.ensures.passes c.record_of_key.ensures
+    at_leaf g.K.RecKind.form c.args.site.now m c.args.key.now c.args.level c.args.root c.args.p c.in-Ok.block.bytes c.record_of_key.result c.if-level-eq0.true (c.in-Ok.ensures.told m e) c.in-Ok.ensures.passes c.record_of_key.ensures
 
 pub child_of_key-requires-clause-room : goal.child_of_key-requires-clause-room
 child_of_key-requires-clause-room g t c = node_room g.K.RecKind.form c.args.site.now c.args.level c.args.root c.args.p c.in-Ok.block.bytes c.in-Ok.ensures.passes (omega (arith, c.if-level-eq0.false))
@@ -35,20 +32,16 @@ find_node-requires g t c κs within =
 
 pub returns-in-None-clause-exact : goal.returns-in-None-clause-exact
 returns-in-None-clause-exact g t c = λ m e.
-    no_child g.K.RecKind.form c.args.site.now (group_blocks c.args.site.now (m Image)) c.args.key.now c.args.level c.args.root c.args.p c.in-Ok.block.bytes c.child_of_key.result (omega (arith, c.if-level-eq0.false)) (c.in-Ok.ensures.told m e) c.in-Ok.ensures.passes c.child_of_key.ensures c.in-None.is
+    no_child g.K.RecKind.form c.args.site.now m c.args.key.now c.args.level c.args.root c.args.p c.in-Ok.block.bytes c.child_of_key.result (omega (arith, c.if-level-eq0.false)) (c.in-Ok.ensures.told m e) c.in-Ok.ensures.passes c.child_of_key.ensures c.in-None.is
 
 pub returns-in-Some-clause-exact : goal.returns-in-Some-clause-exact
 returns-in-Some-clause-exact g t c = λ m e.
-    by_child g.K.RecKind.form c.args.site.now (group_blocks c.args.site.now (m Image)) c.args.key.now c.args.level c.args.root c.args.p c.in-Ok.block.bytes c.child_of_key.result c.in-Some.child c.find_node.result (omega (arith, c.if-level-eq0.false)) (c.in-Ok.ensures.told m e) c.in-Ok.ensures.passes c.child_of_key.ensures c.in-Some.is (c.find_node.ensures.exact m (c.in-Ok.ensures.reading.same ∙ e))
-
-pub returns-in-Some-clause-reading : goal.returns-in-Some-clause-reading
-returns-in-Some-clause-reading g t c =
-    read_on g.D.Device.content g.D.Device.blocks g.D.Device.faults g.D.Device.reads g.D.Device.clock g.D.Device.may_have_held_since g.D.Device.may_hold_now g.met.D.Device.only_now g.met.D.Device.counts_now c.args.dev.now c.open_block.new.dev c.find_node.new.dev c.args.steps.now c.open_block.new.steps c.find_node.new.steps c.in-Ok.ensures.reading c.find_node.ensures.reading
+    by_child g.K.RecKind.form c.args.site.now m c.args.key.now c.args.level c.args.root c.args.p c.in-Ok.block.bytes c.child_of_key.result c.in-Some.child c.find_node.result (omega (arith, c.if-level-eq0.false)) (c.in-Ok.ensures.told m e) c.in-Ok.ensures.passes c.child_of_key.ensures c.in-Some.is (c.find_node.ensures.exact m (c.in-Ok.ensures.reading.same ∙ e))
 
 pub returns-in-Some-clause-few : goal.returns-in-Some-clause-few
 returns-in-Some-clause-few g t c =
-    one_more c.args.level c.args.steps.now.reads c.open_block.new.steps.reads c.find_node.new.steps.reads (omega (arith, c.if-level-eq0.false)) (low_level g.K.RecKind.form c.args.site.now c.args.level c.args.root c.args.p c.in-Ok.block.bytes c.in-Ok.ensures.passes) c.in-Ok.ensures.one c.find_node.ensures.few
+    one_more c.args.level (g.B.Blocks.count c.args.blocks.now) (g.B.Blocks.count c.open_block.new.blocks) (g.B.Blocks.count c.find_node.new.blocks) (omega (arith, c.if-level-eq0.false)) (low_level g.K.RecKind.form c.args.site.now c.args.level c.args.root c.args.p c.in-Ok.block.bytes c.in-Ok.ensures.passes) c.in-Ok.ensures.one c.find_node.ensures.few
 
 pub returns-then-level-eq0-clause-sound : goal.returns-then-level-eq0-clause-sound
 returns-then-level-eq0-clause-sound g t c =
-    sound_record g.K.RecKind.form c.args.site.now.bounds c.args.key.now c.in-Ok.block.bytes c.record_of_key.result (leaf_inside g.K.RecKind.form c.args.site.now c.args.level c.args.root c.args.p c.in-Ok.block.bytes c.in-Ok.ensures.passes c.if-level-eq0.true) (leaf_built g.K.RecKind.form c.args.site.now c.args.level c.args.root c.args.p c.in-Ok.block.bytes c.in-Ok.ensures.passes c.if-level-eq0.true) c.record_of_key.ensures
+    sound_record g.K.RecKind.form c.args.site.now.bounds c.args.key.now c.in-Ok.block.bytes c.record_of_key.result (leaf_inside g.K.RecKind.form c.args.site.now c.args.level c.args.root c.args.p c.in-Ok.block.bytes c.in-Ok.ensures.passes c.if-level-eq0.true) (leaf_supported g.K.RecKind.form c.args.site.now c.args.level c.args.root c.args.p c.in-Ok.block.bytes c.in-Ok.ensures.passes c.if-level-eq0.true) c.record_of_key.ensures

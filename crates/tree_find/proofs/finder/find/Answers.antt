@@ -4,6 +4,7 @@ use Rattle.geom.specs.Places.{layout}
 use Rattle.tree_defs.specs.Sites.{bounds_of, site_of, group_blocks}
 use Rattle.tree_defs.specs.declared.site.Site.{Site}
 use Rattle.tree_find.proofs.FindLaw.{right_in_tree}
+use Rattle.tree_blocks.specs.Cached.{blocks_told}
 use Rattle.tree_blocks.proofs.ReadingLemmas.{told}
 use Rattle.tree_find.proofs.finder.find.Goals as goal
 
@@ -12,7 +13,7 @@ returns-clause-right g c =
     let form = g.K.RecKind.form in
     let site = site_of (layout c.args.geo.now) c.args.tree.now.group in
     told (g.D.Device.content c.args.dev.now) _
-    (λ m e. right_in_tree form g.met.K.RecKind.lawful site (group_blocks site (m Image)) c.args.tree.now.root c.args.tree.now.levels c.args.key c.find_site.result (rw (c.of_group-site.ensures.exact) at (c.find_site.ensures.exact m e)))
+    (λ m e. right_in_tree form g.met.K.RecKind.lawful site (group_blocks site (m Image)) c.args.tree.now.root c.args.tree.now.levels c.args.key c.find_site.result (rw (c.of_group-site.ensures.exact) at (c.find_site.ensures.exact (group_blocks c.of_group-site.result (m Image)) (ap (blocks_told c.of_group-site.result) e))))
 
 pub returns-clause-sound : goal.returns-clause-sound
 unfolding site_of

@@ -1,13 +1,11 @@
 use Rattle.std.proofs.Common.{arith}
-use Rattle.blk_device.specs.declared.device.Region.TheVariants.{Image}
-use Rattle.tree_defs.specs.Sites.{group_blocks}
 use Rattle.tree_find.proofs.FindLemmas.{outside, within, whole_way}
 use Rattle.tree_find.proofs.finder.find_site.Goals as goal
 use Rattle.tree_find.proofs.finder.find_site.Goals.{then-root-eq0-via-then-root-eq0, then-root-eq0-via-else-root-eq0+then-root-site}
 
 pub returns-then-root-eq0-clause-exact : goal.returns-then-root-eq0-clause-exact
 returns-then-root-eq0-clause-exact g c = λ m e.
-    outside g.K.RecKind.form c.args.site.now (group_blocks c.args.site.now (m Image)) c.args.key.now c.args.tree.now.root c.args.tree.now.levels
+    outside g.K.RecKind.form c.args.site.now m c.args.key.now c.args.tree.now.root c.args.tree.now.levels
     (λ some below. elim c.then-root-eq0.branch [
       | then-root-eq0-via-then-root-eq0 w ↦ omega (arith, some, below)
       | then-root-eq0-via-else-root-eq0+then-root-site w ↦ omega (arith, some, below)
@@ -15,8 +13,8 @@ returns-then-root-eq0-clause-exact g c = λ m e.
 
 pub returns-clause-exact : goal.returns-clause-exact
 returns-clause-exact g c = λ m e.
-    within g.K.RecKind.form c.args.site.now (group_blocks c.args.site.now (m Image)) c.args.key.now c.args.tree.now.root c.args.tree.now.levels c.top_level-level.result c.find_node.result (omega (arith, c.if-root-eq0.false)) (omega (arith, c.if-root-site.false)) c.top_level-level.ensures (c.find_node.ensures.exact m e)
+    within g.K.RecKind.form c.args.site.now m c.args.key.now c.args.tree.now.root c.args.tree.now.levels c.top_level-level.result c.find_node.result (omega (arith, c.if-root-eq0.false)) (omega (arith, c.if-root-site.false)) c.top_level-level.ensures (c.find_node.ensures.exact m e)
 
 pub returns-clause-few : goal.returns-clause-few
 returns-clause-few g c =
-    whole_way c.args.tree.now.levels c.top_level-level.result c.args.steps.now.reads c.find_node.new.steps.reads c.top_level-level.ensures c.find_node.ensures.few
+    whole_way c.args.tree.now.levels c.top_level-level.result (g.B.Blocks.count c.args.blocks.now) (g.B.Blocks.count c.find_node.new.blocks) c.top_level-level.ensures c.find_node.ensures.few

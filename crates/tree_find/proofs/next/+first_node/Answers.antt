@@ -1,9 +1,6 @@
 use Rattle.std.proofs.Common.{rules, false, ◌<◌, ◌∙◌, arith}
-use Rattle.blk_device.specs.declared.device.Region.TheVariants.{Image}
 use Rattle.sblock.specs.Blocks.{records_of}
-use Rattle.tree_defs.specs.Sites.{group_blocks}
-use Rattle.tree_blocks.proofs.LoneFacts.{leaf_room, child_inside}
-use Rattle.tree_blocks.proofs.ReadingLemmas.{read_on}
+use Rattle.tree_defs.proofs.LoneFacts.{leaf_room, child_inside}
 use Rattle.tree_find.specs.Next.{records_above, AreAbove}
 use Rattle.tree_find.proofs.AboveLemmas.{sound_above}
 use Rattle.tree_find.proofs.NextLemmas.{on_records, first_refused, first_at_leaf, first_by_child}
@@ -12,7 +9,7 @@ use Rattle.tree_find.proofs.next.+first_node.Goals as goal
 
 pub returns-in-Err-clause-exact : goal.returns-in-Err-clause-exact
 returns-in-Err-clause-exact g t c = λ m e.
-    first_refused g.K.RecKind.form c.args.site.now (group_blocks c.args.site.now (m Image)) c.args.after.now c.args.level c.args.p c.in-Err.fault (c.in-Err.ensures.refused m e)
+    first_refused g.K.RecKind.form c.args.site.now m c.args.after.now c.args.level c.args.p c.in-Err.fault (c.in-Err.ensures.refused m e)
 
 pub records_after-requires-clause-room : goal.records_after-requires-clause-room
 records_after-requires-clause-room g t c = leaf_room g.K.RecKind.form c.args.site.now c.args.level false c.args.p c.in-Ok.block.bytes c.in-Ok.ensures.passes c.if-level-eq0.true
@@ -22,7 +19,7 @@ records_after-requires-clause-rising g t c = leaf_rising g.K.RecKind.form c.args
 
 pub returns-then-level-eq0-clause-exact : goal.returns-then-level-eq0-clause-exact
 returns-then-level-eq0-clause-exact g t c = λ m e.
-    first_at_leaf g.K.RecKind.form c.args.site.now (group_blocks c.args.site.now (m Image)) c.args.after.now c.args.level c.args.p c.in-Ok.block.bytes c.records_after.result c.if-level-eq0.true (c.in-Ok.ensures.told m e) c.in-Ok.ensures.passes c.records_after.ensures.above c.records_after.ensures.memory
+    first_at_leaf g.K.RecKind.form c.args.site.now m c.args.after.now c.args.level c.args.p c.in-Ok.block.bytes c.records_after.result c.if-level-eq0.true (c.in-Ok.ensures.told m e) c.in-Ok.ensures.passes c.records_after.ensures.above c.records_after.ensures.memory
 
 pub returns-then-level-eq0-clause-sound : goal.returns-then-level-eq0-clause-sound
 returns-then-level-eq0-clause-sound g t c =
@@ -38,8 +35,4 @@ first_node-requires g t c κs within =
 
 pub returns-clause-exact : goal.returns-clause-exact
 returns-clause-exact g t c = λ m e.
-    first_by_child g.K.RecKind.form c.args.site.now (group_blocks c.args.site.now (m Image)) c.args.after.now c.args.level c.args.p c.child_in-child.result c.in-Ok.block.bytes c.first_node.result (omega (arith, c.if-level-eq0.false)) (c.in-Ok.ensures.told m e) c.in-Ok.ensures.passes c.child_in-child.ensures (c.first_node.ensures.exact m (c.in-Ok.ensures.reading.same ∙ e))
-
-pub returns-clause-reading : goal.returns-clause-reading
-returns-clause-reading g t c =
-    read_on g.D.Device.content g.D.Device.blocks g.D.Device.faults g.D.Device.reads g.D.Device.clock g.D.Device.may_have_held_since g.D.Device.may_hold_now g.met.D.Device.only_now g.met.D.Device.counts_now c.args.dev.now c.open_block.new.dev c.first_node.new.dev c.args.steps.now c.open_block.new.steps c.first_node.new.steps c.in-Ok.ensures.reading c.first_node.ensures.reading
+    first_by_child g.K.RecKind.form c.args.site.now m c.args.after.now c.args.level c.args.p c.child_in-child.result c.in-Ok.block.bytes c.first_node.result (omega (arith, c.if-level-eq0.false)) (c.in-Ok.ensures.told m e) c.in-Ok.ensures.passes c.child_in-child.ensures (c.first_node.ensures.exact m (c.in-Ok.ensures.reading.same ∙ e))

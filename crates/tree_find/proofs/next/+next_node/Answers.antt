@@ -1,10 +1,7 @@
 use Rattle.std.proofs.Common.{refl, rules, ◌<◌, ◌≤◌, ◌∙◌, arith}
-use Rattle.blk_device.specs.declared.device.Region.TheVariants.{Image}
 use Rattle.sblock.specs.Blocks.{numrecs, records_of}
 use Rattle.sblock.specs.Kinds.{node_most_of}
-use Rattle.tree_defs.specs.Sites.{group_blocks}
-use Rattle.tree_blocks.proofs.LoneFacts.{leaf_room, node_room, child_inside}
-use Rattle.tree_blocks.proofs.ReadingLemmas.{read_on}
+use Rattle.tree_defs.proofs.LoneFacts.{leaf_room, node_room, child_inside}
 use Rattle.tree_find.specs.Next.{records_above}
 use Rattle.tree_find.proofs.AboveLemmas.{sound_above}
 use Rattle.tree_find.proofs.NextLemmas.{next_refused, next_at_leaf, next_found, next_bad, next_behind, sound_some, one_way, other_way}
@@ -13,7 +10,7 @@ use Rattle.tree_find.proofs.next.+next_node.Goals as goal
 
 pub returns-in-Err-clause-exact : goal.returns-in-Err-clause-exact
 returns-in-Err-clause-exact g t c = λ m e.
-    next_refused g.K.RecKind.form c.args.site.now (group_blocks c.args.site.now (m Image)) c.args.after.now c.args.level c.args.root c.args.p c.in-Err.fault (c.in-Err.ensures.refused m e)
+    next_refused g.K.RecKind.form c.args.site.now m c.args.after.now c.args.level c.args.root c.args.p c.in-Err.fault (c.in-Err.ensures.refused m e)
 
 pub found_after-requires-clause-room : goal.found_after-requires-clause-room
 found_after-requires-clause-room g t c = leaf_room g.K.RecKind.form c.args.site.now c.args.level c.args.root c.args.p c.in-Ok.block.bytes c.in-Ok.ensures.passes c.if-level-eq0.true
@@ -23,7 +20,7 @@ found_after-requires-clause-rising g t c = leaf_rising g.K.RecKind.form c.args.s
 
 pub returns-then-level-eq0-clause-exact : goal.returns-then-level-eq0-clause-exact
 returns-then-level-eq0-clause-exact g t c = λ m e.
-    next_at_leaf g.K.RecKind.form c.args.site.now (group_blocks c.args.site.now (m Image)) c.args.after.now c.args.level c.args.root c.args.p c.in-Ok.block.bytes c.found_after.result c.if-level-eq0.true (c.in-Ok.ensures.told m e) c.in-Ok.ensures.passes c.found_after.ensures.above
+    next_at_leaf g.K.RecKind.form c.args.site.now m c.args.after.now c.args.level c.args.root c.args.p c.in-Ok.block.bytes c.found_after.result c.if-level-eq0.true (c.in-Ok.ensures.told m e) c.in-Ok.ensures.passes c.found_after.ensures.above
 
 pub returns-then-level-eq0-clause-sound : goal.returns-then-level-eq0-clause-sound
 returns-then-level-eq0-clause-sound g t c =
@@ -52,27 +49,19 @@ next_node-requires g t c κs within =
 
 pub returns-in-Err-next_node-clause-exact : goal.returns-in-Err-next_node-clause-exact
 returns-in-Err-next_node-clause-exact g t c = λ m e.
-    next_bad g.K.RecKind.form c.args.site.now (group_blocks c.args.site.now (m Image)) c.args.after.now c.args.level c.args.root c.args.p c.start_for-start.result c.child_in-child.result c.in-Ok.block.bytes (omega (arith, c.if-level-eq0.false)) (c.in-Ok.ensures.told m e) c.in-Ok.ensures.passes c.start_for-start.ensures.start c.child_in-child.ensures c.in-Err-next_node.fault (c.in-Err-next_node.ensures.exact m (c.in-Ok.ensures.reading.same ∙ e))
-
-pub returns-in-Err-next_node-clause-reading : goal.returns-in-Err-next_node-clause-reading
-returns-in-Err-next_node-clause-reading g t c =
-    read_on g.D.Device.content g.D.Device.blocks g.D.Device.faults g.D.Device.reads g.D.Device.clock g.D.Device.may_have_held_since g.D.Device.may_hold_now g.met.D.Device.only_now g.met.D.Device.counts_now c.args.dev.now c.open_block.new.dev c.next_node.new.dev c.args.steps.now c.open_block.new.steps c.next_node.new.steps c.in-Ok.ensures.reading c.next_node.ensures.reading
+    next_bad g.K.RecKind.form c.args.site.now m c.args.after.now c.args.level c.args.root c.args.p c.start_for-start.result c.child_in-child.result c.in-Ok.block.bytes (omega (arith, c.if-level-eq0.false)) (c.in-Ok.ensures.told m e) c.in-Ok.ensures.passes c.start_for-start.ensures.start c.child_in-child.ensures c.in-Err-next_node.fault (c.in-Err-next_node.ensures.exact m (c.in-Ok.ensures.reading.same ∙ e))
 
 pub returns-in-Err-next_node-clause-few : goal.returns-in-Err-next_node-clause-few
 returns-in-Err-next_node-clause-few g t c =
-    one_way c.args.level c.args.steps.now.reads c.open_block.new.steps.reads c.next_node.new.steps.reads (omega (arith, c.if-level-eq0.false)) (low_level g.K.RecKind.form c.args.site.now c.args.level c.args.root c.args.p c.in-Ok.block.bytes c.in-Ok.ensures.passes) c.in-Ok.ensures.one c.next_node.ensures.few
+    one_way c.args.level (g.B.Blocks.count c.args.blocks.now) (g.B.Blocks.count c.open_block.new.blocks) (g.B.Blocks.count c.next_node.new.blocks) (omega (arith, c.if-level-eq0.false)) (low_level g.K.RecKind.form c.args.site.now c.args.level c.args.root c.args.p c.in-Ok.block.bytes c.in-Ok.ensures.passes) c.in-Ok.ensures.one c.next_node.ensures.few
 
 pub returns-in-Some-clause-exact : goal.returns-in-Some-clause-exact
 returns-in-Some-clause-exact g t c = λ m e.
-    next_found g.K.RecKind.form c.args.site.now (group_blocks c.args.site.now (m Image)) c.args.after.now c.args.level c.args.root c.args.p c.start_for-start.result c.child_in-child.result c.in-Ok.block.bytes (omega (arith, c.if-level-eq0.false)) (c.in-Ok.ensures.told m e) c.in-Ok.ensures.passes c.start_for-start.ensures.start c.child_in-child.ensures c.in-Ok-next_node.found c.in-Some.recs (c.in-Ok-next_node.ensures.exact m (c.in-Ok.ensures.reading.same ∙ e)) c.in-Some.is
-
-pub returns-in-Some-clause-reading : goal.returns-in-Some-clause-reading
-returns-in-Some-clause-reading g t c =
-    read_on g.D.Device.content g.D.Device.blocks g.D.Device.faults g.D.Device.reads g.D.Device.clock g.D.Device.may_have_held_since g.D.Device.may_hold_now g.met.D.Device.only_now g.met.D.Device.counts_now c.args.dev.now c.open_block.new.dev c.next_node.new.dev c.args.steps.now c.open_block.new.steps c.next_node.new.steps c.in-Ok.ensures.reading c.next_node.ensures.reading
+    next_found g.K.RecKind.form c.args.site.now m c.args.after.now c.args.level c.args.root c.args.p c.start_for-start.result c.child_in-child.result c.in-Ok.block.bytes (omega (arith, c.if-level-eq0.false)) (c.in-Ok.ensures.told m e) c.in-Ok.ensures.passes c.start_for-start.ensures.start c.child_in-child.ensures c.in-Ok-next_node.found c.in-Some.recs (c.in-Ok-next_node.ensures.exact m (c.in-Ok.ensures.reading.same ∙ e)) c.in-Some.is
 
 pub returns-in-Some-clause-few : goal.returns-in-Some-clause-few
 returns-in-Some-clause-few g t c =
-    one_way c.args.level c.args.steps.now.reads c.open_block.new.steps.reads c.next_node.new.steps.reads (omega (arith, c.if-level-eq0.false)) (low_level g.K.RecKind.form c.args.site.now c.args.level c.args.root c.args.p c.in-Ok.block.bytes c.in-Ok.ensures.passes) c.in-Ok.ensures.one c.next_node.ensures.few
+    one_way c.args.level (g.B.Blocks.count c.args.blocks.now) (g.B.Blocks.count c.open_block.new.blocks) (g.B.Blocks.count c.next_node.new.blocks) (omega (arith, c.if-level-eq0.false)) (low_level g.K.RecKind.form c.args.site.now c.args.level c.args.root c.args.p c.in-Ok.block.bytes c.in-Ok.ensures.passes) c.in-Ok.ensures.one c.next_node.ensures.few
 
 pub behind-requires-clause-most : goal.behind-requires-clause-most
 behind-requires-clause-most g t c = node_room g.K.RecKind.form c.args.site.now c.args.level c.args.root c.args.p c.in-Ok.block.bytes c.in-Ok.ensures.passes (omega (arith, c.if-level-eq0.false))
@@ -83,13 +72,8 @@ behind-requires-clause-inside g t c = λ k lt. child_inside g.K.RecKind.form c.a
 pub returns-in-None-clause-exact : goal.returns-in-None-clause-exact
 returns-in-None-clause-exact g t c = λ m e.
     let told = c.in-Ok.ensures.reading.same ∙ e in
-    next_behind g.K.RecKind.form c.args.site.now (group_blocks c.args.site.now (m Image)) c.args.after.now c.args.level c.args.root c.args.p c.start_for-start.result c.child_in-child.result c.in-Ok.block.bytes (omega (arith, c.if-level-eq0.false)) (c.in-Ok.ensures.told m e) c.in-Ok.ensures.passes c.start_for-start.ensures.start c.child_in-child.ensures c.in-Ok-next_node.found c.behind.result (c.in-Ok-next_node.ensures.exact m told) c.in-None.is (c.behind.ensures.exact m (c.next_node.ensures.reading.same ∙ told))
-
-pub returns-in-None-clause-reading : goal.returns-in-None-clause-reading
-returns-in-None-clause-reading g t c =
-    let before = read_on g.D.Device.content g.D.Device.blocks g.D.Device.faults g.D.Device.reads g.D.Device.clock g.D.Device.may_have_held_since g.D.Device.may_hold_now g.met.D.Device.only_now g.met.D.Device.counts_now c.args.dev.now c.open_block.new.dev c.next_node.new.dev c.args.steps.now c.open_block.new.steps c.next_node.new.steps c.in-Ok.ensures.reading c.next_node.ensures.reading in
-    read_on g.D.Device.content g.D.Device.blocks g.D.Device.faults g.D.Device.reads g.D.Device.clock g.D.Device.may_have_held_since g.D.Device.may_hold_now g.met.D.Device.only_now g.met.D.Device.counts_now c.args.dev.now c.next_node.new.dev c.behind.new.dev c.args.steps.now c.next_node.new.steps c.behind.new.steps before c.behind.ensures.reading
+    next_behind g.K.RecKind.form c.args.site.now m c.args.after.now c.args.level c.args.root c.args.p c.start_for-start.result c.child_in-child.result c.in-Ok.block.bytes (omega (arith, c.if-level-eq0.false)) (c.in-Ok.ensures.told m e) c.in-Ok.ensures.passes c.start_for-start.ensures.start c.child_in-child.ensures c.in-Ok-next_node.found c.behind.result (c.in-Ok-next_node.ensures.exact m told) c.in-None.is (c.behind.ensures.exact m (c.next_node.ensures.reading.same ∙ told))
 
 pub returns-in-None-clause-few : goal.returns-in-None-clause-few
 returns-in-None-clause-few g t c =
-    other_way c.args.level c.args.steps.now.reads c.open_block.new.steps.reads c.next_node.new.steps.reads c.behind.new.steps.reads c.in-Ok-next_node.found (omega (arith, c.if-level-eq0.false)) (low_level g.K.RecKind.form c.args.site.now c.args.level c.args.root c.args.p c.in-Ok.block.bytes c.in-Ok.ensures.passes) c.in-Ok.ensures.one c.in-Ok-next_node.ensures.none c.in-None.is c.behind.ensures.few
+    other_way c.args.level (g.B.Blocks.count c.args.blocks.now) (g.B.Blocks.count c.open_block.new.blocks) (g.B.Blocks.count c.next_node.new.blocks) (g.B.Blocks.count c.behind.new.blocks) c.in-Ok-next_node.found (omega (arith, c.if-level-eq0.false)) (low_level g.K.RecKind.form c.args.site.now c.args.level c.args.root c.args.p c.in-Ok.block.bytes c.in-Ok.ensures.passes) c.in-Ok.ensures.one c.in-Ok-next_node.ensures.none c.in-None.is c.behind.ensures.few

@@ -1,17 +1,15 @@
 use Rattle.std.proofs.Common.{arith}
-use Rattle.blk_device.specs.declared.device.Region.TheVariants.{Image}
-use Rattle.tree_defs.specs.Sites.{group_blocks}
 use Rattle.tree_find.proofs.NextLemmas.{none_behind, found_behind, bad_behind}
 use Rattle.tree_find.proofs.next.behind.Goals as goal
 
-pub returns-then-i-get_u16-clause-exact : goal.returns-then-i-get_u16-clause-exact
-returns-then-i-get_u16-clause-exact g c = λ m e.
-    none_behind g.K.RecKind.form c.args.site.now (group_blocks c.args.site.now (m Image)) c.args.after.now c.args.level c.args.i c.args.block.now.bytes (omega (arith, c.if-i-get_u16.true, c.get_u16.ensures))
+pub returns-then-i-count_of-clause-exact : goal.returns-then-i-count_of-clause-exact
+returns-then-i-count_of-clause-exact g c = λ m e.
+    none_behind g.K.RecKind.form c.args.site.now m c.args.after.now c.args.level c.args.i c.args.block.now.bytes (omega (arith, c.if-i-count_of.true, c.count_of.ensures))
 
 pub returns-in-Ok-clause-exact : goal.returns-in-Ok-clause-exact
 returns-in-Ok-clause-exact g c = λ m e.
-    found_behind g.K.RecKind.form c.args.site.now (group_blocks c.args.site.now (m Image)) c.args.after.now c.args.level c.args.i c.args.block.now.bytes c.child_in-child.result c.in-Ok.recs.items (omega (arith, c.if-i-get_u16.false, c.get_u16.ensures)) c.child_in-child.ensures (c.in-Ok.ensures.exact m e)
+    found_behind g.K.RecKind.form c.args.site.now m c.args.after.now c.args.level c.args.i c.args.block.now.bytes c.child_in-child.result c.in-Ok.recs.items (omega (arith, c.if-i-count_of.false, c.count_of.ensures)) c.child_in-child.ensures (c.in-Ok.ensures.exact m e)
 
 pub returns-in-Err-clause-exact : goal.returns-in-Err-clause-exact
 returns-in-Err-clause-exact g c = λ m e.
-    bad_behind g.K.RecKind.form c.args.site.now (group_blocks c.args.site.now (m Image)) c.args.after.now c.args.level c.args.i c.args.block.now.bytes c.child_in-child.result c.in-Err.fault (omega (arith, c.if-i-get_u16.false, c.get_u16.ensures)) c.child_in-child.ensures (c.in-Err.ensures.exact m e)
+    bad_behind g.K.RecKind.form c.args.site.now m c.args.after.now c.args.level c.args.i c.args.block.now.bytes c.child_in-child.result c.in-Err.fault (omega (arith, c.if-i-count_of.false, c.count_of.ensures)) c.child_in-child.ensures (c.in-Err.ensures.exact m e)

@@ -1,7 +1,8 @@
 use Rattle.std.proofs.Common.{◌≡◌}
 use Rattle.sblock.specs.Area.{area_of}
 use Rattle.sblock.specs.Lists.{items_from}
-use Rattle.tree_defs.specs.Tree.{with_recs, span_of}
+use Rattle.sblock.specs.Spans.{span_of}
+use Rattle.tree_defs.specs.Tree.{with_recs}
 use Rattle.tree_walk.specs.Trails.{trail_of}
 use Rattle.tree_walk.proofs.leaf.take_leaf.Given as goal
 

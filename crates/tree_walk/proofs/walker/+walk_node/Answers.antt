@@ -1,18 +1,21 @@
 use Rattle.std.proofs.Common.{◌≡◌, ◌-◌, ◌<◌, length, sym, ◌∙◌, ap, arith, false}
-use Rattle.blk_device.specs.declared.device.Region.TheVariants.{Image}
 use Rattle.sblock.specs.Area.{child_of}
 use Rattle.sblock.specs.Blocks.{numrecs}
-use Rattle.tree_defs.specs.Sites.{group_blocks}
 use Rattle.tree_defs.specs.Tree.{read_node}
+use Rattle.tree_defs.specs.Walked.{walked_children, walked_node}
 use Rattle.tree_walk.specs.Trails.{trail_of}
-use Rattle.tree_walk.proofs.BlockFacts.{noted_blocks, noted_recs, leaf_room, leaf_inside, node_room, children_inside, child_inside}
-use Rattle.tree_blocks.proofs.ReadingLemmas.{read_on}
-use Rattle.tree_walk.proofs.StepLemmas.{node_taken, refused_node, leaf_meets, leaf_sound, step_read, step_wrong, step_bad, all_read, on_ok}
+use Rattle.tree_walk.proofs.BlockFacts.{noted_blocks, noted_recs, noted_lie, lie_still, leaf_room, leaf_inside, node_room, children_inside, child_inside}
+use Rattle.tree_blocks.proofs.ReadingLemmas.{reads_on}
+use Rattle.tree_walk.proofs.StepLemmas.{node_taken, refused_node, leaf_meets, leaf_sound, step_read, step_wrong, step_bad, all_read, on_ok, node_counted, refused_counted, leaf_has_read, none_counted, child_counted, wrong_counted, cut_off}
 use Rattle.tree_walk.proofs.walker.+walk_node.Goals as goal
 
 pub returns-in-Err-clause-exact : goal.returns-in-Err-clause-exact
 returns-in-Err-clause-exact g t c = λ m e.
-    refused_node g.K.RecKind.form c.args.site.now (group_blocks c.args.site.now (m Image)) c.args.level c.args.root c.args.p (trail_of c.args.seen.now) c.in-Err.fault (c.in-Err.ensures.refused m e)
+    refused_node g.K.RecKind.form c.args.site.now m c.args.level c.args.root c.args.p (trail_of c.args.seen.now) c.in-Err.fault (c.in-Err.ensures.refused m e)
+
+pub returns-in-Err-clause-counted : goal.returns-in-Err-clause-counted
+returns-in-Err-clause-counted g t c = λ m e.
+    refused_counted g.K.RecKind.form c.args.site.now m c.args.level c.args.root c.args.p (trail_of c.args.seen.now) c.in-Err.fault (g.B.Blocks.count c.args.blocks.now) (g.B.Blocks.count c.enter.new.blocks) (c.in-Err.ensures.refused m e) c.in-Err.ensures.one
 
 pub take_leaf-requires-clause-room : goal.take_leaf-requires-clause-room
 take_leaf-requires-clause-room g t c = leaf_room g.K.RecKind.form c.args.site.now (trail_of c.args.seen.now) c.args.level c.args.root c.args.p c.in-Ok.block.bytes c.in-Ok.ensures.passes c.if-level-eq0.true
@@ -22,11 +25,19 @@ take_leaf-requires-clause-inside g t c = leaf_inside g.K.RecKind.form c.args.sit
 
 pub returns-then-level-eq0-clause-exact : goal.returns-then-level-eq0-clause-exact
 returns-then-level-eq0-clause-exact g t c = λ m e.
-    leaf_meets g.K.RecKind.form c.args.site.now (group_blocks c.args.site.now (m Image)) c.args.level c.args.root c.args.p (trail_of c.args.seen.now) (trail_of c.enter.new.seen) (trail_of c.take_leaf.new.seen) c.in-Ok.block.bytes c.take_leaf.result c.if-level-eq0.true (c.in-Ok.ensures.told m e) c.in-Ok.ensures.passes c.in-Ok.ensures.trail c.take_leaf.ensures.span c.take_leaf.ensures.trail c.take_leaf.ensures.memory
+    leaf_meets g.K.RecKind.form c.args.site.now m c.args.level c.args.root c.args.p (trail_of c.args.seen.now) (trail_of c.enter.new.seen) (trail_of c.take_leaf.new.seen) c.in-Ok.block.bytes c.take_leaf.result c.if-level-eq0.true (c.in-Ok.ensures.told m e) c.in-Ok.ensures.passes c.in-Ok.ensures.trail c.take_leaf.ensures.span c.take_leaf.ensures.trail c.take_leaf.ensures.memory
 
 pub returns-then-level-eq0-clause-sound : goal.returns-then-level-eq0-clause-sound
 returns-then-level-eq0-clause-sound g t c = λ before.
     leaf_sound g.K.RecKind.form c.args.site.now c.args.level c.args.root c.args.p (trail_of c.args.seen.now) (trail_of c.enter.new.seen) (trail_of c.take_leaf.new.seen) c.in-Ok.block.bytes c.take_leaf.result c.if-level-eq0.true c.in-Ok.ensures.passes c.in-Ok.ensures.trail c.take_leaf.ensures.trail before
+
+pub returns-then-level-eq0-clause-lie : goal.returns-then-level-eq0-clause-lie
+returns-then-level-eq0-clause-lie g t c = λ before.
+    lie_still c.args.site.now.bounds.length c.enter.new.seen.blocks.items c.take_leaf.new.seen.blocks.items c.take_leaf.result c.take_leaf.ensures.blocks (noted_lie (trail_of c.args.seen.now) (trail_of c.enter.new.seen) c.args.level c.args.p c.in-Ok.block.bytes c.args.site.now.bounds.length c.in-Ok.ensures.trail c.requires.inside before)
+
+pub returns-then-level-eq0-clause-counted : goal.returns-then-level-eq0-clause-counted
+returns-then-level-eq0-clause-counted g t c = λ m e.
+    leaf_has_read g.K.RecKind.form c.args.site.now m c.args.level c.args.root c.args.p (trail_of c.args.seen.now) c.take_leaf.result (g.B.Blocks.count c.args.blocks.now) (g.B.Blocks.count c.enter.new.blocks) c.if-level-eq0.true c.take_leaf.ensures.memory c.in-Ok.ensures.one
 
 pub returns-then-level-eq0-clause-each : goal.returns-then-level-eq0-clause-each
 returns-then-level-eq0-clause-each g t c =
@@ -42,16 +53,17 @@ loop-i-init g t c =
     let pos : 0 < c.args.level = omega (arith, c.if-level-eq0.false) in
     let a = noted_blocks before (trail_of c.enter.new.seen) c.args.level c.args.p bytes c.in-Ok.ensures.trail in
     let r = noted_recs before (trail_of c.enter.new.seen) c.args.level c.args.p bytes c.in-Ok.ensures.trail in
-    let count : c.get_u16-i-end.result ≡ numrecs bytes = c.get_u16-i-end.ensures in
-    let n : c.get_u16-i-end.result - 0 ≡ numrecs bytes = omega (arith, count) in
+    let count : c.count_of-i-end.result ≡ numrecs bytes = c.count_of-i-end.ensures in
+    let n : c.count_of-i-end.result - 0 ≡ numrecs bytes = omega (arith, count) in
     let room = node_room form c.args.site.now before c.args.level c.args.root c.args.p bytes c.in-Ok.ensures.passes pos in
     let below = children_inside form c.args.site.now before c.args.level c.args.root c.args.p bytes c.in-Ok.ensures.passes pos in
     record {
-      goes_on = λ m e. rw (n, c.data_area-area.ensures.shows, c.in-Ok.ensures.trail) (sym (node_taken form c.args.site.now (group_blocks c.args.site.now (m Image)) c.args.level c.args.root c.args.p before bytes pos (c.in-Ok.ensures.told m e) c.in-Ok.ensures.passes));
+      goes_on = λ m e. rw (n, c.data_area-area.ensures.shows, c.in-Ok.ensures.trail) (sym (node_taken form c.args.site.now m c.args.level c.args.root c.args.p before bytes pos (c.in-Ok.ensures.told m e) c.in-Ok.ensures.passes));
       sound = λ s. rw r s;
+      lie = λ s. noted_lie before (trail_of c.enter.new.seen) c.args.level c.args.p bytes c.args.site.now.bounds.length c.in-Ok.ensures.trail c.requires.inside s;
+      counted = λ m e. rw (n, c.data_area-area.ensures.shows, c.in-Ok.ensures.trail) (omega (arith, c.in-Ok.ensures.one, node_counted form c.args.site.now m c.args.level c.args.root c.args.p before bytes pos (c.in-Ok.ensures.told m e) c.in-Ok.ensures.passes));
       reading = c.in-Ok.ensures.reading;
       calm = c.in-Ok.ensures.cause;
-      agrees = c.in-Ok.ensures.agrees;
       room = omega (arith, room, count);
       inside = λ k lt. rw (c.data_area-area.ensures.shows) (child_inside form c.args.site.now.bounds.length bytes below k (omega (arith, lt, count)));
       each = omega (arith, c.in-Ok.ensures.one, a);
@@ -61,32 +73,47 @@ pub returns-then-not-does_agree-clause-exact : goal.returns-then-not-does_agree-
 returns-then-not-does_agree-clause-exact g t c = λ m e.
     let form = g.K.RecKind.form in
     let child : c.child_at-child.result ≡ child_of form.kind c.data_area-area.result.now c.loop-i.i = rw (c.kind.ensures) at c.child_at-child.ensures in
-    step_wrong form (read_node form c.args.site.now (group_blocks c.args.site.now (m Image)) (c.args.level - 1) false) c.args.p c.data_area-area.result.now c.get_u16-i-end.result c.loop-i.i c.child_at-child.result (trail_of c.loop-i.seen) c.loop-i.span _ (trail_of c.walk_node.new.seen) c.in-Ok-walk_node.below c.does_agree.result c.loop-i-test.true child (c.loop-i.invariant.goes_on m e) (c.in-Ok-walk_node.ensures.exact m (c.loop-i.invariant.reading.same ∙ e)) c.does_agree.ensures c.if-not-does_agree.true
-
-pub returns-then-not-does_agree-clause-reading : goal.returns-then-not-does_agree-clause-reading
-returns-then-not-does_agree-clause-reading g t c =
-    read_on g.D.Device.content g.D.Device.blocks g.D.Device.faults g.D.Device.reads g.D.Device.clock g.D.Device.may_have_held_since g.D.Device.may_hold_now g.met.D.Device.only_now g.met.D.Device.counts_now c.args.dev.now c.loop-i.dev c.walk_node.new.dev c.args.steps.now c.loop-i.steps c.walk_node.new.steps c.loop-i.invariant.reading c.walk_node.ensures.reading
+    step_wrong form (read_node form c.args.site.now m (c.args.level - 1) false) c.args.p c.data_area-area.result.now c.count_of-i-end.result c.loop-i.i c.child_at-child.result (trail_of c.loop-i.seen) c.loop-i.span _ (trail_of c.walk_node.new.seen) c.in-Ok-walk_node.below c.does_agree.result c.loop-i-test.true child (c.loop-i.invariant.goes_on m e) (c.in-Ok-walk_node.ensures.exact m (c.loop-i.invariant.reading.same ∙ e)) c.does_agree.ensures c.if-not-does_agree.true
 
 pub returns-in-Err-walk_node-clause-exact : goal.returns-in-Err-walk_node-clause-exact
 returns-in-Err-walk_node-clause-exact g t c = λ m e.
     let form = g.K.RecKind.form in
     let child : c.child_at-child.result ≡ child_of form.kind c.data_area-area.result.now c.loop-i.i = rw (c.kind.ensures) at c.child_at-child.ensures in
-    step_bad form (read_node form c.args.site.now (group_blocks c.args.site.now (m Image)) (c.args.level - 1) false) c.args.p c.data_area-area.result.now c.get_u16-i-end.result c.loop-i.i c.child_at-child.result (trail_of c.loop-i.seen) c.loop-i.span _ c.in-Err-walk_node.fault c.loop-i-test.true child (c.loop-i.invariant.goes_on m e) (c.in-Err-walk_node.ensures.exact m (c.loop-i.invariant.reading.same ∙ e))
+    step_bad form (read_node form c.args.site.now m (c.args.level - 1) false) c.args.p c.data_area-area.result.now c.count_of-i-end.result c.loop-i.i c.child_at-child.result (trail_of c.loop-i.seen) c.loop-i.span _ c.in-Err-walk_node.fault c.loop-i-test.true child (c.loop-i.invariant.goes_on m e) (c.in-Err-walk_node.ensures.exact m (c.loop-i.invariant.reading.same ∙ e))
 
-pub returns-in-Err-walk_node-clause-reading : goal.returns-in-Err-walk_node-clause-reading
-returns-in-Err-walk_node-clause-reading g t c =
-    read_on g.D.Device.content g.D.Device.blocks g.D.Device.faults g.D.Device.reads g.D.Device.clock g.D.Device.may_have_held_since g.D.Device.may_hold_now g.met.D.Device.only_now g.met.D.Device.counts_now c.args.dev.now c.loop-i.dev c.walk_node.new.dev c.args.steps.now c.loop-i.steps c.walk_node.new.steps c.loop-i.invariant.reading c.walk_node.ensures.reading
+pub returns-then-not-does_agree-clause-counted : goal.returns-then-not-does_agree-clause-counted
+returns-then-not-does_agree-clause-counted g t c = λ m e.
+    let form = g.K.RecKind.form in
+    let child : c.child_at-child.result ≡ child_of form.kind c.data_area-area.result.now c.loop-i.i = rw (c.kind.ensures) at c.child_at-child.ensures in
+    omega (
+      arith,
+      c.loop-i.invariant.counted m e,
+      c.in-Ok-walk_node.ensures.counted m (c.loop-i.invariant.reading.same ∙ e),
+      wrong_counted form (read_node form c.args.site.now m (c.args.level - 1) false) (walked_node form c.args.site.now m (c.args.level - 1) false) c.data_area-area.result.now c.count_of-i-end.result c.loop-i.i c.child_at-child.result (trail_of c.loop-i.seen) c.loop-i-test.true child (trail_of c.walk_node.new.seen) c.in-Ok-walk_node.below c.does_agree.result (c.in-Ok-walk_node.ensures.exact m (c.loop-i.invariant.reading.same ∙ e)) c.does_agree.ensures c.if-not-does_agree.true,
+    )
+
+pub returns-in-Err-walk_node-clause-counted : goal.returns-in-Err-walk_node-clause-counted
+returns-in-Err-walk_node-clause-counted g t c = λ m e.
+    let form = g.K.RecKind.form in
+    let child : c.child_at-child.result ≡ child_of form.kind c.data_area-area.result.now c.loop-i.i = rw (c.kind.ensures) at c.child_at-child.ensures in
+    cut_off form (read_node form c.args.site.now m (c.args.level - 1) false) (walked_node form c.args.site.now m (c.args.level - 1) false) c.data_area-area.result.now c.count_of-i-end.result c.loop-i.i c.child_at-child.result (trail_of c.loop-i.seen) c.loop-i-test.true child c.in-Err-walk_node.fault (g.B.Blocks.count c.args.blocks.now) (g.B.Blocks.count c.loop-i.blocks) (g.B.Blocks.count c.walk_node.new.blocks) (walked_node form c.args.site.now m c.args.level c.args.root c.args.p (trail_of c.args.seen.now)) (c.loop-i.invariant.counted m e) (c.in-Err-walk_node.ensures.exact m (c.loop-i.invariant.reading.same ∙ e)) (c.in-Err-walk_node.ensures.counted m (c.loop-i.invariant.reading.same ∙ e))
 
 pub loop-i-preserved : goal.loop-i-preserved
 loop-i-preserved g t c =
     let form = g.K.RecKind.form in
     let child : c.child_at-child.result ≡ child_of form.kind c.data_area-area.result.now c.loop-i.i = rw (c.kind.ensures) at c.child_at-child.ensures in
     record {
-      goes_on = λ m e. step_read form (read_node form c.args.site.now (group_blocks c.args.site.now (m Image)) (c.args.level - 1) false) c.args.p c.data_area-area.result.now c.get_u16-i-end.result c.loop-i.i c.child_at-child.result (trail_of c.loop-i.seen) c.loop-i.span _ (trail_of c.walk_node.new.seen) c.in-Ok-walk_node.below c.joined-span.result c.does_agree.result c.loop-i-test.true child (c.loop-i.invariant.goes_on m e) (c.in-Ok-walk_node.ensures.exact m (c.loop-i.invariant.reading.same ∙ e)) c.does_agree.ensures c.if-not-does_agree.false c.joined-span.ensures;
+      goes_on = λ m e. step_read form (read_node form c.args.site.now m (c.args.level - 1) false) c.args.p c.data_area-area.result.now c.count_of-i-end.result c.loop-i.i c.child_at-child.result (trail_of c.loop-i.seen) c.loop-i.span _ (trail_of c.walk_node.new.seen) c.in-Ok-walk_node.below c.join_spans-span.result c.does_agree.result c.loop-i-test.true child (c.loop-i.invariant.goes_on m e) (c.in-Ok-walk_node.ensures.exact m (c.loop-i.invariant.reading.same ∙ e)) c.does_agree.ensures c.if-not-does_agree.false c.join_spans-span.ensures;
       sound = λ s. c.in-Ok-walk_node.ensures.sound (c.loop-i.invariant.sound s);
-      reading = read_on g.D.Device.content g.D.Device.blocks g.D.Device.faults g.D.Device.reads g.D.Device.clock g.D.Device.may_have_held_since g.D.Device.may_hold_now g.met.D.Device.only_now g.met.D.Device.counts_now c.args.dev.now c.loop-i.dev c.walk_node.new.dev c.args.steps.now c.loop-i.steps c.walk_node.new.steps c.loop-i.invariant.reading c.walk_node.ensures.reading;
+      lie = λ s. c.in-Ok-walk_node.ensures.lie (c.loop-i.invariant.lie s);
+      counted = λ m e. omega (
+        arith,
+        c.loop-i.invariant.counted m e,
+        c.in-Ok-walk_node.ensures.counted m (c.loop-i.invariant.reading.same ∙ e),
+        child_counted form (read_node form c.args.site.now m (c.args.level - 1) false) (walked_node form c.args.site.now m (c.args.level - 1) false) c.data_area-area.result.now c.count_of-i-end.result c.loop-i.i c.child_at-child.result (trail_of c.loop-i.seen) c.loop-i-test.true child (trail_of c.walk_node.new.seen) c.in-Ok-walk_node.below c.does_agree.result (c.in-Ok-walk_node.ensures.exact m (c.loop-i.invariant.reading.same ∙ e)) c.does_agree.ensures c.if-not-does_agree.false,
+      );
+      reading = reads_on g.B.Blocks g.met.B.Blocks.follows_trans c.args.blocks.now c.loop-i.blocks c.walk_node.new.blocks c.loop-i.invariant.reading c.walk_node.ensures.reading;
       calm = c.in-Ok-walk_node.ensures.cause ∙ c.loop-i.invariant.calm;
-      agrees = c.in-Ok-walk_node.ensures.agrees;
       room = c.loop-i.invariant.room;
       inside = c.loop-i.invariant.inside;
       each = omega (arith, c.loop-i.invariant.each, c.in-Ok-walk_node.ensures.each);
@@ -95,4 +122,13 @@ loop-i-preserved g t c =
 pub returns-clause-exact : goal.returns-clause-exact
 returns-clause-exact g t c = λ m e.
     let form = g.K.RecKind.form in
-    all_read form (read_node form c.args.site.now (group_blocks c.args.site.now (m Image)) (c.args.level - 1) false) c.args.p c.data_area-area.result.now c.get_u16-i-end.result c.loop-i.i 0 (trail_of c.loop-i.seen) c.loop-i.span _ c.loop-i-test.false (c.loop-i.invariant.goes_on m e)
+    all_read form (read_node form c.args.site.now m (c.args.level - 1) false) c.args.p c.data_area-area.result.now c.count_of-i-end.result c.loop-i.i 0 (trail_of c.loop-i.seen) c.loop-i.span _ c.loop-i-test.false (c.loop-i.invariant.goes_on m e)
+
+pub returns-clause-counted : goal.returns-clause-counted
+returns-clause-counted g t c = λ m e.
+    let form = g.K.RecKind.form in
+    omega (
+      arith,
+      c.loop-i.invariant.counted m e,
+      none_counted form (read_node form c.args.site.now m (c.args.level - 1) false) (walked_node form c.args.site.now m (c.args.level - 1) false) c.data_area-area.result.now c.count_of-i-end.result c.loop-i.i (trail_of c.loop-i.seen) c.loop-i-test.false,
+    )

@@ -1,5 +1,0 @@
-use Rattle.tree_blocks.proofs.tests.open_root.Given as goal
-
--- the ledger is the blank's
-abbrev pub ghosts-opened : goal.ghosts-opened
-ghosts-opened a = record { name = a.blank.name; parts = a.blank.parts }

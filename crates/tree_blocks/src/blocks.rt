@@ -1,0 +1,38 @@
+ghost use Rattle.std.specs.Prelude.{◌≡◌, ◌+◌, ◌*◌, ◌^◌, ◌<◌, ◌≤◌, ℕ, List, Option, Some, IfOk, IfErr};
+ghost use Rattle.tree_defs.specs.declared.site.Site.{Site as GhostSite};
+ghost use Rattle.tree_blocks.specs.Reading.{HasCause, ReadsBy};
+
+use crate::tree::WalkFault;
+use byte_fields::Block;
+
+/// The blocks of a group, read one at a time.
+pub trait Blocks {
+    // The group's blocks, where they are told.
+    ghost told: { Self → Option (ℕ → List ℕ) };
+
+    // Where they lie.
+    ghost place: { Self → GhostSite };
+
+    // How often a call of the device has failed.
+    ghost faults: { Self → ℕ };
+
+    // How many blocks were counted as read.
+    ghost count: { Self → ℕ };
+
+    // What each read keeps of what lies below.
+    ghost follows: { Self → Self → Type 0 };
+
+    fn load(&mut self, p: u32) -> Result<Block, WalkFault>
+        requires inside { p < (place self.old).bounds.length }
+        ensures told { IfOk result (λ block. (m : ℕ → List ℕ) → told self.old ≡ Some m → block.bytes ≡ m p) }
+        ensures failed { IfErr result (λ fault. fault ≡ WalkFault.Failed) }
+        ensures reading { ReadsBy told place faults follows self.old self.new }
+        ensures cause { HasCause (faults self.old) (faults self.new) result }
+        ensures one { count self.new ≡ count self.old + 1 };
+
+    ghost fits: { (s : Self) → 8 * ((place s).first + (place s).bounds.length) < 2 ^ 64 };
+
+    ghost follows_refl: { (s : Self) → follows s s };
+
+    ghost follows_trans: { (a b c : Self) → follows a b → follows b c → follows a c };
+}

@@ -1,5 +1,0 @@
-use Rattle.tree_find.proofs.tests.next.Given as goal
-
--- the ledger is the blank's
-abbrev pub ghosts-next_in : goal.ghosts-next_in
-ghosts-next_in a = record { name = a.blank.name; parts = a.blank.parts }

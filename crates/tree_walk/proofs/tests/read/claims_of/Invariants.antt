@@ -1,5 +1,0 @@
-use Rattle.tree_walk.proofs.tests.read.claims_of.Given as goal
-
--- the ledger is the blank's
-abbrev pub ghosts-claimed_in : goal.ghosts-claimed_in
-ghosts-claimed_in g a = record { name = a.blank.name; parts = a.blank.parts }

@@ -1,5 +1,0 @@
-use Rattle.tree_walk.proofs.tests.read.read_tree.Given as goal
-
--- the ledger is the blank's
-abbrev pub ghosts-walked : goal.ghosts-walked
-ghosts-walked g a = record { name = a.blank.name; parts = a.blank.parts }
