@@ -12,6 +12,3 @@ pub use agf::{Agf, decode_agf};
 pub use agfl::{Agfl, decode_agfl};
 pub use agi::{Agi, decode_agi};
 pub use fault::HeadFault;
-
-#[cfg(test)]
-mod tests;

@@ -9,6 +9,3 @@ mod ino;
 pub use chunk::{InoKey, InoRec};
 pub use fino::FinoKind;
 pub use ino::InoKind;
-
-#[cfg(test)]
-mod tests;

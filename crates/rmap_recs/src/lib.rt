@@ -15,6 +15,3 @@ pub use owner::Owner;
 pub use records::{Key, RmapRec};
 pub use tuples::{Memory, Tuple, runs};
 pub use words::{does_word_go_on, is_fork_data};
-
-#[cfg(test)]
-mod tests;

@@ -13,6 +13,3 @@ pub use laws::{one_list, one_stretch_list, only_runs, only_stretches};
 pub use overlap::overlaps;
 pub use run::{Memory, Run};
 pub use set::RunSet;
-
-#[cfg(test)]
-mod tests;

@@ -1,8 +1,6 @@
 pub mod Area
 pub mod AreaLaws
 pub mod Blocks
-pub mod Counted
-pub mod CountedLaws
 pub mod FieldLaws
 pub mod Form
 pub mod Headers

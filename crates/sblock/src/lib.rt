@@ -24,6 +24,3 @@ pub use meets::do_meet;
 pub use pointers::{child_at, put_child};
 pub use rec_kind::RecKind;
 pub use spans::{Span, join_spans, span_of_record, span_of_records, span_of_subtrees};
-
-#[cfg(test)]
-mod tests;

@@ -11,6 +11,3 @@ pub use bno::BnoKind;
 pub use cnt::CntKind;
 pub use refcount::{RefcKey, RefcKind, RefcRec};
 pub use span::SpanRec;
-
-#[cfg(test)]
-mod tests;

@@ -1,0 +1,340 @@
+use crate::blocks::{altered, block_of, expect_faults, want_of};
+use ino_recs::{FinoKind, InoKind, InoRec};
+use sblock::{BlockFault, Bounds, Kind, RecKind, do_meet};
+use span_recs::{BnoKind, CntKind, RefcKind, RefcRec, SpanRec};
+use std::process::Abort;
+
+// A group of 256 blocks, the only one.
+const BOUNDS: Bounds = Bounds {
+    length: 256,
+    agblocks: 256,
+    agcount: 1,
+    last: 256,
+    agblklog: 8,
+};
+
+// A chunk whose first three inodes are taken.
+const FIRST: InoRec = InoRec {
+    startino: 192,
+    holemask: 0,
+    count: 64,
+    freecount: 61,
+    free: 0xffff_ffff_ffff_fff8,
+};
+
+fn span(start: u32, count: u32) -> SpanRec {
+    SpanRec { start, count }
+}
+
+fn shared(start: u32, count: u32, refcount: u32) -> RefcRec {
+    RefcRec {
+        start,
+        count,
+        refcount,
+    }
+}
+
+#[test]
+fn free_space_lies_in_the_group(rt: HostRuntime) {
+    let rows = [
+        (1, 1, true),
+        (1, 255, true),
+        (255, 1, true),
+        (0, 1, false),
+        (1, 0, false),
+        (1, 256, false),
+        (255, 2, false),
+        (0xffff_ffff, 0xffff_ffff, false),
+    ];
+    for (start, count, wanted) in &rows {
+        let rec = SpanRec {
+            start: *start,
+            count: *count,
+        };
+        assert_eq!(rt; BnoKind::is_in_range(&rec, &BOUNDS), *wanted);
+        assert_eq!(rt; CntKind::is_in_range(&rec, &BOUNDS), *wanted);
+    }
+}
+
+#[test]
+fn shared_blocks_lie_in_the_group(rt: HostRuntime) {
+    let rows = [
+        (1, 255, 2, true),
+        (255, 1, 0xffff_ffff, true),
+        (0, 1, 2, false),
+        (1, 0, 2, false),
+        (255, 2, 2, false),
+        (1, 1, 1, false),
+    ];
+    for (start, count, refcount, wanted) in &rows {
+        let rec = RefcRec {
+            start: *start,
+            count: *count,
+            refcount: *refcount,
+        };
+        assert_eq!(rt; RefcKind::is_in_range(&rec, &BOUNDS), *wanted);
+        assert!(rt; RefcKind::is_supported(&rec));
+        assert_eq!(rt; RefcKind::length_of(&rec), *count);
+    }
+}
+
+#[test]
+fn staging_is_of_a_form_that_is_not_supported(rt: HostRuntime) {
+    let rec = shared(0x8000_0020, 3, 1);
+    assert!(rt; !RefcKind::is_supported(&rec));
+    assert_eq!(rt; RefcKind::block_of(&RefcKind::key_of(&rec)), 0x8000_0020);
+    assert_eq!(rt; RefcKind::length_of(&rec), 3);
+}
+
+#[test]
+fn records_meet_in_a_block_or_by_their_keys(rt: HostRuntime) {
+    let rows = [
+        ((5, 3), (7, 2), true, false),
+        ((7, 2), (5, 3), true, false),
+        ((5, 3), (5, 1), true, false),
+        ((5, 3), (8, 2), false, false),
+        ((5, 3), (6, 0), false, false),
+        ((5, 3), (5, 3), true, true),
+        ((5, 0), (5, 0), false, true),
+    ];
+    for ((start, count), (other, length), in_a_block, by_key) in rows {
+        let (a, b) = (span(start, count), span(other, length));
+        assert_eq!(rt; do_meet::<BnoKind>(&a, &b), in_a_block);
+        assert_eq!(rt; do_meet::<CntKind>(&a, &b), by_key);
+    }
+    let staging = shared(0x8000_0020, 3, 1);
+    assert!(rt; !do_meet::<RefcKind>(&staging, &shared(0x20, 3, 2)));
+    assert!(rt; do_meet::<RefcKind>(&staging, &shared(0x8000_0022, 1, 1)));
+    let taken = InoRec {
+        freecount: 60,
+        free: 0xffff_ffff_ffff_fff0,
+        ..FIRST
+    };
+    assert!(rt; do_meet::<InoKind>(&FIRST, &taken));
+    assert!(rt; !InoKind::is_same(&FIRST, &taken));
+    assert!(rt; InoKind::is_same(&FIRST, &FIRST));
+}
+
+// Roots of free space and of reference counts.
+fn expect_faults_of_span_leaves(rt: &impl Abort) {
+    let bno = block_of(0x4142_3342, 0, 2, &[19, 5, 32, 224]);
+    let own = [
+        (4, 0x0001_0002, BlockFault::Level),
+        (4, 506, BlockFault::Count),
+        (64, 19, BlockFault::Order),
+        (56, 0, BlockFault::Range),
+        (68, 225, BlockFault::Range),
+    ];
+    expect_faults::<BnoKind>(rt, &want_of(Kind::Bno, 0, BOUNDS), &bno, &own);
+    let cnt = block_of(0x4142_3343, 0, 2, &[19, 5, 32, 5]);
+    let own = [
+        (4, 0x0001_0002, BlockFault::Level),
+        (4, 506, BlockFault::Count),
+        (64, 19, BlockFault::Order),
+        (68, 4, BlockFault::Order),
+        (68, 225, BlockFault::Range),
+    ];
+    expect_faults::<CntKind>(rt, &want_of(Kind::Cnt, 0, BOUNDS), &cnt, &own);
+    let refc = block_of(0x5233_4643, 0, 2, &[19, 5, 2, 32, 1, 3]);
+    let own = [
+        (4, 0x0001_0002, BlockFault::Level),
+        (4, 337, BlockFault::Count),
+        (68, 19, BlockFault::Order),
+        (64, 1, BlockFault::Range),
+        (72, 225, BlockFault::Range),
+        (68, 0x8000_0000, BlockFault::Later),
+    ];
+    expect_faults::<RefcKind>(rt, &want_of(Kind::Refc, 0, BOUNDS), &refc, &own);
+}
+
+fn expect_faults_of_span_nodes(rt: &impl Abort) {
+    // The pointers are 2 and 3, behind the room of 336 keys of 8 bytes and of 505 of 4.
+    let bno = block_of(0x4142_3342, 1, 2, &[19, 5, 32, 224]);
+    let bno = altered(altered(bno, 2744, 2), 2748, 3);
+    let own = [
+        (4, 2, BlockFault::Level),
+        (4, 0x0001_0000, BlockFault::Count),
+        (64, 19, BlockFault::Order),
+        (2744, 0, BlockFault::Range),
+        (2748, 256, BlockFault::Range),
+    ];
+    expect_faults::<BnoKind>(rt, &want_of(Kind::Bno, 1, BOUNDS), &bno, &own);
+    let cnt = block_of(0x4142_3343, 1, 2, &[19, 5, 32, 5]);
+    let cnt = altered(altered(cnt, 2744, 2), 2748, 3);
+    let own = [
+        (4, 2, BlockFault::Level),
+        (4, 0x0001_0151, BlockFault::Count),
+        (68, 4, BlockFault::Order),
+        (2748, 256, BlockFault::Range),
+    ];
+    expect_faults::<CntKind>(rt, &want_of(Kind::Cnt, 1, BOUNDS), &cnt, &own);
+    let refc = block_of(0x5233_4643, 1, 2, &[19, 32]);
+    let refc = altered(altered(refc, 2076, 2), 2080, 3);
+    let own = [
+        (4, 2, BlockFault::Level),
+        (4, 0x0001_01fa, BlockFault::Count),
+        (60, 19, BlockFault::Order),
+        (2076, 0, BlockFault::Range),
+    ];
+    expect_faults::<RefcKind>(rt, &want_of(Kind::Refc, 1, BOUNDS), &refc, &own);
+}
+
+// Two chunks; of the second one inode is free.
+const CHUNKS: [u32; 8] = [
+    192,
+    0x0000_403d,
+    0xffff_ffff,
+    0xffff_fff8,
+    256,
+    0x0000_4001,
+    0,
+    1,
+];
+
+// Roots of inode chunks.
+fn expect_faults_of_chunk_leaves(rt: &impl Abort) {
+    let own = [
+        (4, 0x0001_0002, BlockFault::Level),
+        (4, 253, BlockFault::Count),
+        (72, 192, BlockFault::Order),
+        (72, 2048, BlockFault::Range),
+        (76, 0x0000_4002, BlockFault::Range),
+        // The holes come after the range of all other records.
+        (60, 0xff00_201d, BlockFault::Later),
+    ];
+    let ino = block_of(0x4941_4233, 0, 2, &CHUNKS);
+    expect_faults::<InoKind>(rt, &want_of(Kind::Ino, 0, BOUNDS), &ino, &own);
+    let fino = block_of(0x4649_4233, 0, 2, &CHUNKS);
+    expect_faults::<FinoKind>(rt, &want_of(Kind::Fino, 0, BOUNDS), &fino, &own);
+}
+
+fn expect_faults_of_chunk_nodes(rt: &impl Abort) {
+    let own = [
+        (4, 2, BlockFault::Level),
+        (4, 0x0001_01fa, BlockFault::Count),
+        (60, 192, BlockFault::Order),
+        (2076, 0, BlockFault::Range),
+        (2080, 256, BlockFault::Range),
+    ];
+    // The pointers are 2 and 3, behind the room of 505 keys of 4 bytes.
+    let ino = block_of(0x4941_4233, 1, 2, &[192, 256]);
+    let ino = altered(altered(ino, 2076, 2), 2080, 3);
+    expect_faults::<InoKind>(rt, &want_of(Kind::Ino, 1, BOUNDS), &ino, &own);
+    let fino = block_of(0x4649_4233, 1, 2, &[192, 256]);
+    let fino = altered(altered(fino, 2076, 2), 2080, 3);
+    expect_faults::<FinoKind>(rt, &want_of(Kind::Fino, 1, BOUNDS), &fino, &own);
+}
+
+#[test]
+fn each_fault_of_a_leaf_is_found(rt: HostRuntime) {
+    expect_faults_of_span_leaves(&rt);
+    expect_faults_of_chunk_leaves(&rt);
+}
+
+#[test]
+fn each_fault_of_a_node_is_found(rt: HostRuntime) {
+    expect_faults_of_span_nodes(&rt);
+    expect_faults_of_chunk_nodes(&rt);
+}
+
+#[test]
+fn what_is_written_is_read_again(rt: HostRuntime) {
+    let mut area = [0u8; 4040];
+    let span = SpanRec {
+        start: 32,
+        count: 224,
+    };
+    BnoKind::put_record(&mut area, 504, &span);
+    assert_eq!(rt; &area[4032..], [0, 0, 0, 32, 0, 0, 0, 224].as_slice());
+    assert_eq!(rt; BnoKind::record_at(&area, 504), span);
+    CntKind::put_keys(&mut area, 335, &span, &span);
+    assert_eq!(rt; CntKind::key_at(&area, 335), span);
+    let shared = RefcRec {
+        start: 32,
+        count: 1,
+        refcount: 2,
+    };
+    RefcKind::put_record(&mut area, 335, &shared);
+    assert_eq!(rt;
+        &area[4020..4032],
+        [0, 0, 0, 32, 0, 0, 0, 1, 0, 0, 0, 2].as_slice()
+    );
+    assert_eq!(rt; RefcKind::record_at(&area, 335), shared);
+    let key = RefcKind::key_of(&shared);
+    RefcKind::put_keys(&mut area, 504, &key, &key);
+    assert_eq!(rt; RefcKind::high_key_at(&area, 504), key);
+}
+
+#[test]
+fn chunks_are_aligned_and_lie_in_the_group(rt: HostRuntime) {
+    let rows = [
+        (64, true),
+        (192, true),
+        (1984, true),
+        (0, false),
+        (32, false),
+        (96, false),
+        // Its last block would be block 256.
+        (1992, false),
+        (2048, false),
+        (0xffff_ffc0, false),
+    ];
+    for (startino, wanted) in &rows {
+        let rec = InoRec {
+            startino: *startino,
+            ..FIRST
+        };
+        assert_eq!(rt; InoKind::is_in_range(&rec, &BOUNDS), *wanted);
+        assert_eq!(rt; FinoKind::is_in_range(&rec, &BOUNDS), *wanted);
+    }
+}
+
+#[test]
+fn counts_are_those_of_the_mask(rt: HostRuntime) {
+    let rows = [
+        (64, 61, 0xffff_ffff_ffff_fff8, true, true),
+        (64, 64, 0xffff_ffff_ffff_ffff, true, true),
+        (64, 1, 0x8000_0000_0000_0000, true, true),
+        (64, 0, 0, true, false),
+        (64, 60, 0xffff_ffff_ffff_fff8, false, false),
+        (63, 61, 0xffff_ffff_ffff_fff8, false, false),
+    ];
+    for (count, freecount, free, in_ino, in_fino) in &rows {
+        let rec = InoRec {
+            count: *count,
+            freecount: *freecount,
+            free: *free,
+            ..FIRST
+        };
+        assert_eq!(rt; InoKind::is_in_range(&rec, &BOUNDS), *in_ino);
+        assert_eq!(rt; FinoKind::is_in_range(&rec, &BOUNDS), *in_fino);
+    }
+}
+
+#[test]
+fn chunks_with_holes_are_not_supported(rt: HostRuntime) {
+    let holed = InoRec {
+        holemask: 0xff00,
+        ..FIRST
+    };
+    assert!(rt; InoKind::is_supported(&FIRST));
+    assert!(rt; !InoKind::is_supported(&holed));
+    assert_eq!(rt; InoKind::block_of(&InoKind::key_of(&FIRST)), 24);
+    assert_eq!(rt; FinoKind::length_of(&FIRST), 8);
+    assert_eq!(rt; FinoKind::length_of(&holed), 0);
+}
+
+#[test]
+fn a_record_is_its_sixteen_bytes(rt: HostRuntime) {
+    let mut area = [0u8; 4040];
+    InoKind::put_record(&mut area, 1, &FIRST);
+    let wanted = [
+        0, 0, 0, 0xc0, 0, 0, 0x40, 0x3d, 0xff, 0xff, 0xff, 0xff, 0xff, 0xff, 0xff, 0xf8,
+    ];
+    assert_eq!(rt; &area[16..32], wanted.as_slice());
+    assert_eq!(rt; FinoKind::record_at(&area, 1), FIRST);
+    let key = InoKind::high_key_of(&FIRST);
+    FinoKind::put_keys(&mut area, 504, &key, &key);
+    assert_eq!(rt; &area[2016..2020], [0, 0, 0, 0xc0].as_slice());
+    assert_eq!(rt; InoKind::key_at(&area, 504), key);
+}
