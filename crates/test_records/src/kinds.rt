@@ -76,10 +76,7 @@ fn shared_blocks_lie_in_the_group(rt: HostRuntime) {
         assert!(rt; RefcKind::is_supported(&rec));
         assert_eq!(rt; RefcKind::length_of(&rec), *count);
     }
-}
-
-#[test]
-fn staging_is_of_a_form_that_is_not_supported(rt: HostRuntime) {
+    // Staging is of a form that isn't supported yet.
     let rec = shared(0x8000_0020, 3, 1);
     assert!(rt; !RefcKind::is_supported(&rec));
     assert_eq!(rt; RefcKind::block_of(&RefcKind::key_of(&rec)), 0x8000_0020);
@@ -237,8 +234,7 @@ fn each_fault_of_a_node_is_found(rt: HostRuntime) {
     expect_faults_of_chunk_nodes(&rt);
 }
 
-#[test]
-fn what_is_written_is_read_again(rt: HostRuntime) {
+fn expect_bytes_of_spans(rt: &impl Abort) {
     let mut area = [0u8; 4040];
     let span = SpanRec {
         start: 32,
@@ -265,46 +261,53 @@ fn what_is_written_is_read_again(rt: HostRuntime) {
     assert_eq!(rt; RefcKind::high_key_at(&area, 504), key);
 }
 
-#[test]
-fn chunks_are_aligned_and_lie_in_the_group(rt: HostRuntime) {
-    let rows = [
-        (64, true),
-        (192, true),
-        (1984, true),
-        (0, false),
-        (32, false),
-        (96, false),
-        // Its last block would be block 256.
-        (1992, false),
-        (2048, false),
-        (0xffff_ffc0, false),
+fn expect_bytes_of_chunks(rt: &impl Abort) {
+    let mut area = [0u8; 4040];
+    InoKind::put_record(&mut area, 1, &FIRST);
+    let wanted = [
+        0, 0, 0, 0xc0, 0, 0, 0x40, 0x3d, 0xff, 0xff, 0xff, 0xff, 0xff, 0xff, 0xff, 0xf8,
     ];
-    for (startino, wanted) in &rows {
-        let rec = InoRec {
-            startino: *startino,
-            ..FIRST
-        };
-        assert_eq!(rt; InoKind::is_in_range(&rec, &BOUNDS), *wanted);
-        assert_eq!(rt; FinoKind::is_in_range(&rec, &BOUNDS), *wanted);
-    }
+    assert_eq!(rt; &area[16..32], wanted.as_slice());
+    assert_eq!(rt; FinoKind::record_at(&area, 1), FIRST);
+    let key = InoKind::high_key_of(&FIRST);
+    FinoKind::put_keys(&mut area, 504, &key, &key);
+    assert_eq!(rt; &area[2016..2020], [0, 0, 0, 0xc0].as_slice());
+    assert_eq!(rt; InoKind::key_at(&area, 504), key);
 }
 
 #[test]
-fn counts_are_those_of_the_mask(rt: HostRuntime) {
+fn what_is_written_is_read_again(rt: HostRuntime) {
+    expect_bytes_of_spans(&rt);
+    expect_bytes_of_chunks(&rt);
+}
+
+#[test]
+fn chunks_are_aligned_and_their_counts_are_those_of_the_mask(rt: HostRuntime) {
+    let some = 0xffff_ffff_ffff_fff8;
     let rows = [
-        (64, 61, 0xffff_ffff_ffff_fff8, true, true),
-        (64, 64, 0xffff_ffff_ffff_ffff, true, true),
-        (64, 1, 0x8000_0000_0000_0000, true, true),
-        (64, 0, 0, true, false),
-        (64, 60, 0xffff_ffff_ffff_fff8, false, false),
-        (63, 61, 0xffff_ffff_ffff_fff8, false, false),
+        (64, 64, 61, some, true, true),
+        (192, 64, 61, some, true, true),
+        (1984, 64, 61, some, true, true),
+        (0, 64, 61, some, false, false),
+        (32, 64, 61, some, false, false),
+        (96, 64, 61, some, false, false),
+        // Its last block would be block 256.
+        (1992, 64, 61, some, false, false),
+        (2048, 64, 61, some, false, false),
+        (0xffff_ffc0, 64, 61, some, false, false),
+        (192, 64, 64, 0xffff_ffff_ffff_ffff, true, true),
+        (192, 64, 1, 0x8000_0000_0000_0000, true, true),
+        (192, 64, 0, 0, true, false),
+        (192, 64, 60, some, false, false),
+        (192, 63, 61, some, false, false),
     ];
-    for (count, freecount, free, in_ino, in_fino) in &rows {
+    for (startino, count, freecount, free, in_ino, in_fino) in &rows {
         let rec = InoRec {
+            startino: *startino,
+            holemask: 0,
             count: *count,
             freecount: *freecount,
             free: *free,
-            ..FIRST
         };
         assert_eq!(rt; InoKind::is_in_range(&rec, &BOUNDS), *in_ino);
         assert_eq!(rt; FinoKind::is_in_range(&rec, &BOUNDS), *in_fino);
@@ -322,19 +325,4 @@ fn chunks_with_holes_are_not_supported(rt: HostRuntime) {
     assert_eq!(rt; InoKind::block_of(&InoKind::key_of(&FIRST)), 24);
     assert_eq!(rt; FinoKind::length_of(&FIRST), 8);
     assert_eq!(rt; FinoKind::length_of(&holed), 0);
-}
-
-#[test]
-fn a_record_is_its_sixteen_bytes(rt: HostRuntime) {
-    let mut area = [0u8; 4040];
-    InoKind::put_record(&mut area, 1, &FIRST);
-    let wanted = [
-        0, 0, 0, 0xc0, 0, 0, 0x40, 0x3d, 0xff, 0xff, 0xff, 0xff, 0xff, 0xff, 0xff, 0xf8,
-    ];
-    assert_eq!(rt; &area[16..32], wanted.as_slice());
-    assert_eq!(rt; FinoKind::record_at(&area, 1), FIRST);
-    let key = InoKind::high_key_of(&FIRST);
-    FinoKind::put_keys(&mut area, 504, &key, &key);
-    assert_eq!(rt; &area[2016..2020], [0, 0, 0, 0xc0].as_slice());
-    assert_eq!(rt; InoKind::key_at(&area, 504), key);
 }

@@ -71,13 +71,10 @@ fn overlaps_are_counted(rt: HostRuntime) -> Result<(), Fail> {
         ]
         .as_slice()
     );
-    Ok(())
-}
-
-#[test]
-fn the_laws_hold_at_a_type() {
+    // The laws hold at a type.
     only_runs();
     one_list();
     only_stretches();
     one_stretch_list::<Run>();
+    Ok(())
 }

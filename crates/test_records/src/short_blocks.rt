@@ -104,7 +104,7 @@ fn header(level: u8) -> Header {
 }
 
 #[test]
-fn sound_roots_show_their_headers(rt: HostRuntime) {
+fn sound_roots_show_their_headers_and_others_a_fault(rt: HostRuntime) {
     assert_eq!(rt; judged(&summed(&leaf()), 0, true), Ok(header(0)));
     assert_eq!(rt; judged(&summed(&node()), 1, true), Ok(header(1)));
     let block = with_number(&with_number(&node(), 8, 5), 12, 7);
@@ -114,6 +114,11 @@ fn sound_roots_show_their_headers(rt: HostRuntime) {
         [5, 7, 1]
     );
     assert_eq!(rt; place_of(&block), 848);
+    // A block beside others needs half of the greatest number, and the checksum comes before the order.
+    assert_eq!(rt; judged(&summed(&leaf()), 0, false), Err(BlockFault::Count));
+    assert_eq!(rt; judged(&summed(&node()), 1, false), Err(BlockFault::Count));
+    let block = with_number(&summed(&leaf()), 88, 20);
+    assert_eq!(rt; judged(&block, 0, true), Err(BlockFault::Checksum));
 }
 
 #[test]
@@ -143,15 +148,6 @@ fn each_test_of_a_block_has_its_fault(rt: HostRuntime) {
         let block = summed(&with_number(&sound, at, value));
         assert_eq!(rt; judged(&block, level, true), Err(fault), "at {at}");
     }
-}
-
-// The checksum stands before the order; a block beside others needs half of the greatest number.
-#[test]
-fn the_order_of_tests_and_the_least_number(rt: HostRuntime) {
-    let block = with_number(&summed(&leaf()), 88, 20);
-    assert_eq!(rt; judged(&block, 0, true), Err(BlockFault::Checksum));
-    assert_eq!(rt; judged(&summed(&leaf()), 0, false), Err(BlockFault::Count));
-    assert_eq!(rt; judged(&summed(&node()), 1, false), Err(BlockFault::Count));
 }
 
 #[test]
