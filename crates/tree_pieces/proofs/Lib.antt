@@ -1,0 +1,3 @@
+pub mod PieceLaw
+pub mod PieceLemmas
+pub mod PieceLists
