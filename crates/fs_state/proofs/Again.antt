@@ -2,10 +2,10 @@
 use Rattle.std.proofs.Common.{◌≡◌, ℕ, ◌<◌, ◌≤◌, Bool, true, false, List, Option, Some, None, Ok, Err, is_ok, refl, ap, sym, subst, ◌∙◌, inl, inr, arith}
 use Rattle.std.specs.Prelude.{◌⊎◌}
 use Rattle.std.proofs.lemmas.Bool.{false≢true, cases_Bool}
+use Rattle.geom.specs.Apart.{Splits}
 use Rattle.geom.specs.Layout.{Layout, device_block_of}
 use Rattle.sblock.specs.declared.kind.Kind.{Kind}
 use Rattle.tree_defs.specs.Lists.{times}
-use Rattle.fs_state.specs.Places.{Splits}
 use Rattle.fs_state.specs.Apart.{is_chunk, is_listed, unit_verifies, Part, TreeOf, Has, In}
 use Rattle.fs_state.specs.Frame.{Frame, Rest, Firm, UnitStays}
 use Rattle.fs_state.specs.Kinds.{RecOf, Image}

@@ -4,9 +4,10 @@ use Rattle.std.specs.Prelude.{◌/◌, ◌%◌, ◌||◌, nat_lt}
 use Rattle.std.proofs.lemmas.Bool.{false≢true, and_parts, and_from, ltb-true, both_ways, cases_Bool}
 use Rattle.byte_fields.specs.Below.{all_below}
 use Rattle.byte_fields.proofs.BelowLemmas.{each_below}
+use Rattle.geom.specs.Apart.{Splits}
 use Rattle.geom.specs.Layout.{Layout, device_block_of, fs_block_of, split_of, group_len_of}
 use Rattle.dinode_core.specs.Frame.{device_at}
-use Rattle.fs_state.specs.Places.{Splits, inode_at}
+use Rattle.geom.specs.Layout.{inode_at}
 use Rattle.fs_state.specs.Apart.{Part, ReserveOf, is_inode, ChunkAt, Has, is_chunk, is_listed, has_unit, ino_lists, rmap_lists, unit_verifies, block_verifies, verifies}
 use Rattle.fs_state.specs.Frame.{Firm, Frame, UnitStays, is_chunk_part}
 use Rattle.fs_state.specs.Inodes.{slot_in}

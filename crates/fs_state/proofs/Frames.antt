@@ -1,6 +1,7 @@
 -- What isn't touched is as it was.
 use Rattle.std.proofs.Common.{◌≡◌, ℕ, Bool, true, false, List, Option, Some, None, Result, Ok, Err, is_ok, refl, ap, sym, ◌∙◌, inl, inr}
 use Rattle.std.specs.Prelude.{◌%◌, ◌==◌, ◌/◌, ◌⊎◌, ◌<◌, if◌then◌else◌}
+use Rattle.geom.specs.Apart.{Splits}
 use Rattle.geom.specs.Layout.{Layout, device_block_of, split_of}
 use Rattle.sblock.specs.declared.kind.Kind.{Kind}
 use Rattle.dinode_core.specs.declared.mapping.Fork.{Fork}
@@ -8,7 +9,6 @@ use Rattle.dinode_core.specs.declared.mapping.ForkFault.{ForkFault}
 use Rattle.dinode_core.specs.Core.{core_of}
 use Rattle.dinode_core.specs.Frame.{device_at, fork_in}
 use Rattle.dinode_core.specs.ForkTree.{is_fork_block}
-use Rattle.fs_state.specs.Places.{Splits}
 use Rattle.fs_state.specs.Apart.{ListOf, Part, HeadsOf, TreeOf, ForkTreeOf, Has, is_inode}
 use Rattle.fs_state.specs.Frame.{Frame, FrameLaw, Rest, SameFork, Firm}
 use Rattle.fs_state.specs.Inodes.{slot_in, fork_by, no_fork}

@@ -5,9 +5,9 @@ use Rattle.byte_fields.specs.Below.{all_below}
 use Rattle.sblock.specs.declared.kind.Kind.TheVariants.{Rmap, Ino}
 use Rattle.std.specs.Prelude.{◌*◌, ◌+◌, nat_le, nat_lt, ◌⊎◌, ◌==◌, ◌&&◌, ◌||◌}
 use Rattle.std.proofs.lemmas.Bool.{and_right, ltb-true, false≢true, cases_Bool, and_parts, and_from, and_left, or_cases, eqb-true, eq-eqb}
+use Rattle.geom.specs.Apart.{Splits}
 use Rattle.geom.specs.Layout.{Layout, group_len_of, device_block_of}
 use Rattle.sblock.specs.declared.kind.Kind.{Kind}
-use Rattle.fs_state.specs.Places.{Splits}
 use Rattle.fs_state.specs.Apart.{is_chunk, is_listed, has_unit, ino_lists, rmap_lists, unit_verifies, Part, HeadsOf, LogPart, ListOf, TreeOf, ReserveOf, LimboOf, ChunkAt, ForkTreeOf, Has, In, InOwned}
 use Rattle.fs_state.specs.Edits.{number_of, Among}
 use Rattle.fs_state.specs.Frame.{UnitStays, Plain, is_chunk_part, Fate, Stays, Touched, Free, Frame, Rest, Firm}
@@ -104,7 +104,7 @@ module _ (at : Layout) (image image' : Image) (kept kept' : Kept) (g : ℕ) (ks 
 
   fate_of : (d : ℕ) → Written d → Fate (state_of at image kept) image image' (touched_in g ks chunk) d
   unfolding Written Held
-  fate_of d (inr on) = elim (e.chunks d on) [ inl has ↦ Touched (ChunkAt d) on has | inr none ↦ Free none ]
+  fate_of d (inr on) = elim (e.blocks.chunks d on) [ inl has ↦ Touched (ChunkAt d) on has | inr none ↦ Free none ]
   fate_of d (inl w) =
       subst (Fate (state_of at image kept) image image' (touched_in g ks chunk)) w.2 (elim w.1 [
         | inl zero_is ↦ Touched (HeadsOf g) self_same (record { inside = e.inside; block = w.0; holds = zero_is; place = refl })
@@ -119,7 +119,7 @@ module _ (at : Layout) (image image' : Image) (kept kept' : Kept) (g : ℕ) (ks 
 
   fates : (d : ℕ) → Fate (state_of at image kept) image image' (touched_in g ks chunk) d
   unfolding Written
-  fates d = elim (e.writes d) [ inl same ↦ Stays same | inr w ↦ fate_of d w.0 ]
+  fates d = elim (e.blocks.writes d) [ inl same ↦ Stays same | inr w ↦ fate_of d w.0 ]
 
   other_heads : (h : ℕ) → h < at.agcount → (h == g) ≡ false → heads_of at image' h ≡ heads_of at image h
   other_heads h lt off =
@@ -133,7 +133,7 @@ module _ (at : Layout) (image image' : Image) (kept kept' : Kept) (g : ℕ) (ks 
       elim (cases_Bool (h == g)) [
         | inl same ↦
             let s : h ≡ g = eqb-true h g same in
-            subst (λ x. (root_of (heads_of at image' x) k ≡ root_of (heads_of at image x) k) × (level_of (heads_of at image' x) k ≡ level_of (heads_of at image x) k)) (sym s) (e.roots k (not_among h k off s))
+            subst (λ x. (root_of (heads_of at image' x) k ≡ root_of (heads_of at image x) k) × (level_of (heads_of at image' x) k ≡ level_of (heads_of at image x) k)) (sym s) (e.keeps.roots k (not_among h k off s))
         | inr other ↦
             let s = other_heads h lt other in
             (ap (λ (x : Heads). root_of x k) s, ap (λ (x : Heads). level_of x k) s)
@@ -167,7 +167,7 @@ module _ (at : Layout) (image image' : Image) (kept kept' : Kept) (g : ℕ) (ks 
   chunk_claims : (x d : ℕ) → made x ≡ true → Claims (ChunkAt x) d
   unfolding Claims tail
   chunk_claims x d on has =
-      let m = e.made_shares x d on has in
+      let m = e.inodes.made_shares x d on has in
       claims_tail (ChunkAt x) m.0 d (inr (inr (inr m.1))) m.2
 
   claims_now : (c : Part) → pooled_in g ks made c ≡ true → (d : ℕ) → Claims c d
@@ -189,7 +189,7 @@ module _ (at : Layout) (image image' : Image) (kept kept' : Kept) (g : ℕ) (ks 
   came : (p : ℕ) → In p (total (shares_of (state_of at image' kept') g ks extra)) → From p
   unfolding Held From
   came p i =
-      elim (e.came p i) [
+      elim (e.blocks.came p i) [
         | inl before ↦
             let s = share_from (shares_of (state_of at image kept) g ks []) p before in
             let h = share_has s.0 p s.1 in
@@ -213,17 +213,17 @@ module _ (at : Layout) (image image' : Image) (kept kept' : Kept) (g : ℕ) (ks 
   reserve_came h p lt i =
       elim (cases_Bool (h == g)) [
         | inl same ↦ let s : h ≡ g = eqb-true h g same in subst (λ x. Comes x p) (sym s) (reserve_here p (subst (λ x. InOwned p (kept'.reserve x)) s i))
-        | inr other ↦ inl (ReserveOf h, refl, record { inside = lt; block = p; holds = subst (InOwned p) (e.reserve h other) i; place = refl })
+        | inr other ↦ inl (ReserveOf h, refl, record { inside = lt; block = p; holds = subst (InOwned p) (e.keeps.reserve h other) i; place = refl })
       ]
 
   frame : Frame at image image' kept kept' (touched_in g ks chunk) edits
   unfolding Comes
   frame = record {
     fates = fates;
-    alien = λ d. elim (e.writes d) [ inl same ↦ inl same | inr w ↦ inr w.1 ];
-    kept_stays = record { trust = e.trust; bad = e.bad; reserve = e.reserve; limbo = e.limbo; came = reserve_came };
-    slots = e.slots;
-    edited = e.edited;
+    alien = λ d. elim (e.blocks.writes d) [ inl same ↦ inl same | inr w ↦ inr w.1 ];
+    kept_stays = record { trust = e.keeps.trust; bad = e.keeps.bad; reserve = e.keeps.reserve; limbo = e.keeps.limbo; came = reserve_came };
+    slots = e.inodes.slots;
+    edited = e.inodes.edited;
     roots = roots_stay;
     lists = λ h lt off. ap (λ (x : Heads). x.list) (other_heads h lt off);
   }
@@ -279,17 +279,17 @@ module _ (at : Layout) (image image' : Image) (kept kept' : Kept) (g : ℕ) (ks 
     outside (TreeOf h k) off d has = before (TreeOf h k) off d has
     outside (ReserveOf h) off d has = before (ReserveOf h) off d has
     outside (LimboOf h) off d has = before (LimboOf h) off d has
-    outside (ChunkAt x) off d has = before (ChunkAt x) (λ h u j on jl z. false≢true (sym off ∙ ap made (sym z) ∙ e.fresh_made h u j on jl)) d has
+    outside (ChunkAt x) off d has = before (ChunkAt x) (λ h u j on jl z. false≢true (sym off ∙ ap made (sym z) ∙ e.inodes.fresh_made h u j on jl)) d has
     outside (ForkTreeOf i f) off d has =
         elim (cases_Bool (edits i)) [
-          | inl on ↦ e.own_forks i f d on has
-          | inr other ↦ before (ForkTreeOf i f) (other, refl, e.fresh_inodes i other) d has
+          | inl on ↦ e.inodes.own_forks i f d on has
+          | inr other ↦ before (ForkTreeOf i f) (other, refl, e.inodes.fresh_inodes i other) d has
         ]
 
     firm_now : Firm at image' kept'
     unfolding Claims From
     firm_now =
-        firm_again at image image' kept kept' (touched_in g ks chunk) edits splits firm frame fresh units g (pooled_in g ks made) (shares_of (state_of at image' kept') g ks extra) (record { outside = outside; now = claims_now; once = e.once; bare = λ h u on l raw. fresh_chunks h u on; came = came_from; reads = reads })
+        firm_again at image image' kept kept' (touched_in g ks chunk) edits splits firm frame fresh units g (pooled_in g ks made) (shares_of (state_of at image' kept') g ks extra) (record { outside = outside; now = claims_now; once = e.blocks.once; bare = λ h u on l raw. fresh_chunks h u on; came = came_from; reads = reads })
 
   done : GroupDone at image image' kept kept' g ks chunk edits fresh made extra
   done = record {

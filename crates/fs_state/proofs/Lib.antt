@@ -1,6 +1,5 @@
 mod Again
 mod Chunks
-mod ClaimLists
 mod Claims
 mod Cores
 mod EditSteps
@@ -9,5 +8,5 @@ mod GroupParts
 mod Groups
 mod Opening
 mod Pools
-mod Trees
+pub mod Trees
 mod Untouched

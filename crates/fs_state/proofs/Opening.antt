@@ -1,26 +1,21 @@
--- What holds at opening and of each geometry; and that a pool has each block once.
-use Rattle.std.proofs.Common.{◌≡◌, ℕ, ◌<◌, ◌≤◌, false, List, [], ◌∷◌, Option, Some, None, Ok, refl, ap, sym, subst, ◌∙◌, inl, inr, arith}
+-- What holds at opening, and that a pool has each block once.
+use Rattle.std.proofs.Common.{◌≡◌, ℕ, ◌≤◌, false, List, [], ◌∷◌, Option, Some, None, Ok, Err, is_ok, true, refl, ap, subst, ◌∙◌, inl, inr, arith}
 use Rattle.std.specs.Prelude.{◌/◌}
-use Rattle.std.proofs.lemmas.Nat.{div-mul-add}
 use Rattle.std.proofs.lemmas.Bool.{cases_lt, and_from}
-use Rattle.std.proofs.lemmas.Bool.Decides.{nat_tests}
-use Rattle.geom.specs.Layout.{Layout, device_block_of, split_of, group_len_of}
-use Rattle.geom.specs.Numbers.{Fitting}
-use Rattle.geom.proofs.NumbersLemmas.{splits_back, within}
+use Rattle.geom.specs.Layout.{Layout, device_block_of, split_of}
 use Rattle.sblock.specs.declared.kind.Kind.{Kind}
 use Rattle.tree_defs.specs.Sites.{site_of, group_blocks}
 use Rattle.sblock.specs.Headers.{no_block}
 use Rattle.tree_defs.proofs.Trees.{reads_trees_lem}
 use Rattle.tree_defs.specs.Lists.{times}
 use Rattle.tree_defs.proofs.Rows.{blocks_differ_lem}
-use Rattle.fs_state.specs.Places.{Splits, GroupsDiffer}
 use Rattle.fs_state.specs.Apart.{Part, Has, Apart, In, is_chunk, is_listed, unit_verifies}
-use Rattle.fs_state.specs.Frame.{Firm}
+use Rattle.fs_state.specs.Frame.{Firm, OpeningLaw}
 use Rattle.fs_state.specs.Inodes.{bytes_at}
 use Rattle.fs_state.specs.Kinds.{RecOf, form_of, Image, heads_of, root_of, level_of}
 use Rattle.fs_state.specs.Pool.{Share, total, ShareOf}
-use Rattle.fs_state.specs.Read.{state_of, KeepsBad, walked, core_or, reserved, core_of_ino, raw_of}
-use Rattle.fs_state.specs.State.{State, Kept, CoreState}
+use Rattle.fs_state.specs.Read.{Read, state_of, KeepsBad, walked, claimed, bad_in, opened, core_or, reserved, core_of_ino, raw_of}
+use Rattle.fs_state.specs.State.{State, Kept, Bad, CoreState}
 use Rattle.fs_state.proofs.Pools.{times_append, times_in, share_from}
 use Rattle.fs_state.proofs.Trees.{lawful_of}
 
@@ -42,19 +37,17 @@ opening_firm at image kept none keeps apart = record {
   bare = λ g u listed raw. and_from (is_listed (state_of at image kept) g u) (unit_verifies at (core_of_ino at image kept) g u) listed (ap (λ (c : ℕ → Option CoreState). unit_verifies at c g u) (λ i ino. core_is_raw at image kept none ino i) ∙ raw);
 }
 
--- ---- the geometry
+read_again : {R : Type 0} (read : Read R) (claims : List ℕ) → bad_in read claims ≡ None → is_ok read ≡ true
+read_again (Ok read) claims none = refl
+read_again (Err fault) claims none = absurd (some_none none)
+  where
+    some_none : {x : Bad} → ◌≡◌ {A = Option Bad} (Some x) None → ⊥
+    some_none e = cc
 
-pub splits_in : (at : Layout) → Fitting at.agblocks at.agcount at.dblocks at.agblklog → Splits at
-splits_in at fit g b gl bl = splits_back at.agblocks at.agcount at.dblocks at.agblklog g b (within at.agblocks at.agcount at.dblocks at.agblklog fit g b bl) gl bl
-
-short : (at : Layout) → Fitting at.agblocks at.agcount at.dblocks at.agblklog → (g p : ℕ) → p < group_len_of at g → p < at.agblocks
-short at fit g p h = grind (arith, nat_tests)
-
-pub groups_differ : (at : Layout) → Fitting at.agblocks at.agcount at.dblocks at.agblklog → GroupsDiffer at
-groups_differ at fit g h p q pl ql same =
-    let a = div-mul-add g at.agblocks p (short at fit g p pl) in
-    let b = div-mul-add h at.agblocks q (short at fit h q ql) in
-    sym a ∙ ap (λ n. n / at.agblocks) same ∙ b
+pub opening : OpeningLaw
+unfolding opened
+opening at image apart =
+    opening_firm at image (opened at image) (λ g. refl) (λ g k lt none. read_again (walked at image g k) (claimed at image g k) none) apart
 
 -- ---- pools
 

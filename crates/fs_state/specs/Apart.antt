@@ -1,4 +1,5 @@
--- Each metadata block has one claim.
+-- Which part of the metadata has which block of the device? And the two invariants that no block is taken twice: no
+-- block of metadata has a second claim, and such a block that looks free, or that a fork maps, has a reverse mapping.
 use Rattle.std.specs.Prelude.{◌≡◌, ℕ, ◌+◌, ◌*◌, ◌/◌, ◌<◌, ◌==◌, ◌⊎◌, nat_lt, nat_le, Bool, true, false, ◌&&◌, ◌||◌, List, [], ◌∷◌, Option, None, Some, Result, Ok, Err}
 use Rattle.std.specs.List.{list_any}
 use Rattle.byte_fields.specs.Below.{all_below}
@@ -12,8 +13,8 @@ use Rattle.dinode_core.specs.declared.mapping.Fork.{Fork}
 use Rattle.dinode_core.specs.declared.mapping.ForkFault.{ForkFault}
 use Rattle.dinode_core.specs.declared.mapping.Mapping.{Mapping}
 use Rattle.dinode_core.specs.Frame.{device_at, Lies}
-pub use Rattle.fs_state.specs.Lists.{In}
-use Rattle.fs_state.specs.Places.{inode_at}
+pub use Rattle.tree_defs.specs.Lists.{In}
+use Rattle.geom.specs.Layout.{inode_at}
 use Rattle.fs_state.specs.State.{State, ForkList, Owned, CoreState, Broken, Whole, recs_of, blocks_of}
 
 -- one thing that claims blocks
@@ -44,6 +45,7 @@ abbrev pub InData : Layout → Result ForkList ForkFault → ℕ → Type 0
 InData at (Ok list) d = Maps at list.mappings d
 InData at (Err fault) d = ⊥
 
+-- the core verifies
 abbrev pub verifies : Option CoreState → Bool
 verifies None = false
 verifies (Some (Broken fault)) = false
@@ -70,7 +72,7 @@ has_unit at g u = nat_lt g at.agcount && nat_lt (8 * u + 7) (group_len_of at g)
 unfoldable pub is_listed : State → ℕ → ℕ → Bool
 is_listed a g u = has_unit a.geometry g u && (ino_lists a g u || rmap_lists a g u)
 
--- a chunk
+-- Is the unit a chunk? It is listed, and its 64 cores all verify.
 unfoldable pub is_chunk : State → ℕ → ℕ → Bool
 is_chunk a g u = is_listed a g u && unit_verifies a.geometry a.core g u
 
@@ -78,7 +80,7 @@ abbrev pub in_chunk : State → Option (ℕ × ℕ) → Bool
 in_chunk a None = false
 in_chunk a (Some p) = is_chunk a p.0 (p.1 / 8)
 
--- an inode of the state
+-- Is there such an inode? It stands in a chunk, whether it is allocated or free.
 unfoldable pub is_inode : State → ℕ → Bool
 is_inode a ino = in_chunk a (split_of a.geometry (ino / 8))
 

@@ -1,6 +1,7 @@
 -- What an event that writes the blocks of some parts leaves as it is.
-use Rattle.std.specs.Prelude.{◌≡◌, ℕ, ◌+◌, ◌*◌, ◌/◌, ◌%◌, ◌<◌, ◌==◌, ◌⊎◌, Bool, true, false, List, [], Option, Some, None, Result, Ok, Err, is_ok}
+use Rattle.std.specs.Prelude.{◌≡◌, ℕ, ◌+◌, ◌*◌, ◌/◌, ◌%◌, ◌<◌, ◌==◌, ◌⊎◌, Bool, true, false, List, Option, Some, None, Result, Ok, Err, is_ok}
 use Rattle.byte_fields.specs.Fields.{field}
+use Rattle.geom.specs.Apart.{Splits}
 use Rattle.geom.specs.Layout.{Layout, split_of, device_block_of}
 use Rattle.sblock.specs.declared.kind.Kind.{Kind}
 use Rattle.dinode_core.specs.declared.mapping.Fork.{Fork}
@@ -9,9 +10,8 @@ use Rattle.dinode_core.specs.ForkTree.{is_fork_block}
 use Rattle.dinode_core.specs.Frame.{device_at}
 use Rattle.fs_state.specs.Apart.{Part, HeadsOf, LogPart, ListOf, TreeOf, ReserveOf, LimboOf, ChunkAt, ForkTreeOf, Has, Apart, InOwned, verifies, unit_verifies, has_unit, is_inode, is_listed, is_chunk}
 use Rattle.fs_state.specs.Inodes.{slot_in, core_in}
-use Rattle.fs_state.specs.Places.{Splits}
 use Rattle.fs_state.specs.Kinds.{Image, heads_of, root_of, level_of}
-use Rattle.fs_state.specs.Read.{state_of, raw_of, reserved, KeepsBad}
+use Rattle.fs_state.specs.Read.{state_of, raw_of, reserved, KeepsBad, opened}
 use Rattle.fs_state.specs.State.{State, Kept, ForkList}
 
 -- What always holds of an image and what is kept: a tree that can't be read is kept as such, each
@@ -106,7 +106,6 @@ Plain at touches edits fresh (ForkTreeOf ino f) = (edits ino ≡ false) × (touc
 abbrev pub FrameLaw : Type 0
 FrameLaw = (at : Layout) (image image' : Image) (kept kept' : Kept) (touches : Part → Bool) (edits : ℕ → Bool) → Splits at → Firm at image kept → Frame at image image' kept kept' touches edits → Rest at (state_of at image kept) (state_of at image' kept') image image' kept kept' touches edits
 
--- what is found at opening, where nothing is reserved yet
+-- what is found at opening
 abbrev pub OpeningLaw : Type 0
-OpeningLaw = (at : Layout) (image : Image) (kept : Kept) → ((g : ℕ) → kept.reserve g ≡ []) → KeepsBad at image kept
-    → Apart (state_of at image kept) → Firm at image kept
+OpeningLaw = (at : Layout) (image : Image) → Apart (state_of at image (opened at image)) → Firm at image (opened at image)

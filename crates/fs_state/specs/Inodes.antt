@@ -1,4 +1,4 @@
--- Cores and forks in an image.
+-- Cores and forks in an image ("On-disk Inode", "Data Fork", "Attribute Fork").
 use Rattle.std.specs.Prelude.{ℕ, ◌*◌, ◌/◌, ◌%◌, ◌==◌, if◌then◌else◌, List, [], take, drop, Option, None, Some, Result, Ok}
 use Rattle.geom.specs.Layout.{Layout, device_block_of}
 use Rattle.dinode_core.specs.Core.{core_of, core_fault}
@@ -10,6 +10,7 @@ use Rattle.dinode_core.specs.declared.mapping.Fork.{Fork}
 use Rattle.dinode_core.specs.declared.mapping.ForkFault.{ForkFault}
 use Rattle.fs_state.specs.State.{CoreState, Broken, Whole, ForkList}
 
+-- the bytes of one of the eight inodes of a block
 abbrev pub slot_in : List ℕ → ℕ → List ℕ
 slot_in block s = take 512 (drop (512 * s) block)
 
@@ -22,6 +23,7 @@ abbrev pub whole_or : Option CoreFault → Core3 → CoreState
 whole_or None core = Whole (record { mode = core.mode; uid = core.uid; reflink = core.flags2 / 2 % 2 == 1 })
 whole_or (Some fault) core = Broken fault
 
+-- what do the bytes of an inode say? Its core, or why that doesn't verify
 unfoldable pub core_in : Layout → ℕ → List ℕ → CoreState
 core_in at ino bytes = whole_or (core_fault bytes ino at.uuid) (core_of bytes)
 

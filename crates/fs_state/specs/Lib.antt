@@ -1,12 +1,9 @@
 pub mod Apart
-pub mod ClaimList
 pub mod Edits
 pub mod Frame
 pub mod Group
 pub mod Inodes
 pub mod Kinds
-pub mod Lists
-pub mod Places
 pub mod Pool
 pub mod Read
 pub mod State

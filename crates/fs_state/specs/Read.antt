@@ -1,16 +1,18 @@
 -- The state that an image stands for, with what is kept in memory.
-use Rattle.std.specs.Prelude.{◌≡◌, ℕ, ◌/◌, ◌<◌, ◌==◌, Bool, true, false, List, Option, None, Some, Result, Ok, Err, is_ok}
+use Rattle.std.specs.Prelude.{◌≡◌, ℕ, ◌/◌, ◌<◌, ◌==◌, Bool, true, false, List, [], Option, None, Some, Result, Ok, Err, is_ok}
 use Rattle.std.specs.List.{list_any}
 use Rattle.geom.specs.Layout.{Layout, split_of}
 use Rattle.sblock.specs.declared.block.BlockFault.{BlockFault}
 use Rattle.sblock.specs.declared.kind.Kind.{Kind}
 use Rattle.fs_model.specs.declared.fault.Counter.{Counter}
+use Rattle.fs_model.specs.declared.unit.Trust.{Trust}
+use Rattle.fs_model.specs.declared.unit.Trust.TheVariants.{Unknown, Sick}
 use Rattle.fs_model.specs.declared.fault.Counter.TheVariants as counters
+use Rattle.tree_defs.specs.Claims.{claims_of}
 use Rattle.tree_defs.specs.Sites.{site_of, group_blocks}
 use Rattle.tree_defs.specs.Tree.{read_tree}
 use Rattle.dinode_core.specs.declared.mapping.Fork.{Fork}
 use Rattle.dinode_core.specs.declared.mapping.ForkFault.{ForkFault}
-use Rattle.fs_state.specs.ClaimList.{claims_in}
 use Rattle.fs_state.specs.Inodes.{bytes_at, core_in, fork_by}
 use Rattle.fs_state.specs.Kinds.{RecOf, form_of, Image, Heads, heads_of, root_of, level_of}
 use Rattle.fs_state.specs.State.{Reading, Readable, Unreadable, Group, CoreState, ForkList, State, Bad, Kept}
@@ -25,7 +27,7 @@ walked at image g k =
 
 unfoldable pub claimed : Layout → Image → ℕ → Kind → List ℕ
 claimed at image g k =
-    claims_in (form_of k) (site_of at g) (group_blocks (site_of at g) image) (root_of (heads_of at image g) k) (level_of (heads_of at image g) k)
+    claims_of (form_of k) (site_of at g) (group_blocks (site_of at g) image) (root_of (heads_of at image g) k) (level_of (heads_of at image g) k)
 
 -- the fault and the claims of the opening stand, where there are some
 abbrev pub known : {R : Type 0} → Option Bad → Read R → List ℕ → Reading R
@@ -85,6 +87,26 @@ state_of at image kept = record {
   core = core_of_ino at image kept;
   fork = fork_of_ino at image kept;
   chains = kept.chains;
+}
+
+-- of a tree that can't be read, what is to be kept
+abbrev pub bad_in : {R : Type 0} → Read R → List ℕ → Option Bad
+bad_in (Ok read) claims = None
+bad_in (Err fault) claims = Some (record { block = fault.0; fault = fault.1; claims = claims })
+
+abbrev pub trust_in : {R : Type 0} → Read R → Trust
+trust_in (Ok read) = Unknown
+trust_in (Err fault) = Sick
+
+-- What is kept right after an image was opened? The faults of the trees that can't be read, which are sick; nothing
+-- is known of the others, and nothing is reserved, in limbo or pending.
+unfoldable pub opened : Layout → Image → Kept
+opened at image = record {
+  trust = λ g k. trust_in (walked at image g k);
+  bad = λ g k. bad_in (walked at image g k) (claimed at image g k);
+  reserve = λ g. [];
+  limbo = λ g. [];
+  chains = λ c. [];
 }
 
 -- each tree that can't be read is kept as such

@@ -1,12 +1,6 @@
-ghost use Rattle.std.specs.Prelude.{ℕ, List};
-ghost use Rattle.fs_state.specs.ClaimList.{HasClaims};
 ghost use Rattle.fs_state.specs.Edits.{EditLaw};
 ghost use Rattle.fs_state.specs.Frame.{FrameLaw, OpeningLaw};
 ghost use Rattle.fs_state.specs.Group.{GroupLaw};
-ghost use Rattle.fs_state.specs.Places.{PlacesLaw};
-ghost use Rattle.tree_defs.specs.declared.site.Site.{Site};
-
-use sblock::RecKind;
 
 /// A law: what an event neither touches nor edits is as it was: free lists, counters, trees, cores,
 /// and forks that can be read; and a fork that can't be read still can't.
@@ -28,15 +22,4 @@ pub fn group_law()
 /// A law: where no block of metadata has two claims at opening, what always holds begins to hold.
 pub fn opening_law()
     ensures { OpeningLaw }
-{}
-
-/// A law: in a geometry whose counts fit, a block's number gives its place back, and groups share no
-/// block of the device.
-pub fn places_law()
-    ensures { PlacesLaw }
-{}
-
-/// A law: the list of a tree's claims has exactly the blocks that it claims.
-pub fn claims_law<K: RecKind>()
-    ensures { (site : Site) (m : ℕ → List ℕ) → HasClaims K.form site m }
 {}

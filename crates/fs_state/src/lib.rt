@@ -6,4 +6,4 @@ mod intent;
 mod laws;
 
 pub use intent::{Intent, IntentKind};
-pub use laws::{claims_law, edit_law, frame_law, group_law, opening_law, places_law};
+pub use laws::{edit_law, frame_law, group_law, opening_law};

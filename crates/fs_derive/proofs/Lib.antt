@@ -1,0 +1,4 @@
+mod NoFaults
+mod Overlaps
+pub mod SharedWithin
+mod Sources

@@ -1,0 +1,10 @@
+pub mod Chunks
+pub mod Claims
+pub mod Contradiction
+pub mod Derive
+pub mod Faults
+pub mod Kinds
+pub mod Laws
+pub mod Lists
+pub mod Own
+pub mod Session
