@@ -1,0 +1,124 @@
+-- A piece from 0 on that leaves nothing is the whole fork.
+use Rattle.std.proofs.Common.{◌≡◌, ℕ, zero, suc, ◌-◌, Bool, true, false, List, [], ◌∷◌, map, filter, Option, Some, None, Result, Ok, Err, refl, ap, sym, ◌∙◌, append-nil, arith}
+use Rattle.std.specs.Prelude.{nat_lt, nat_le}
+use Rattle.std.proofs.lemmas.Bool.Decides.{nat_tests}
+use Rattle.geom.specs.Layout.{Layout, split_of}
+use Rattle.dinode_core.specs.declared.inode.Core3.{Core3}
+use Rattle.dinode_core.specs.declared.mapping.Fork.{Fork}
+use Rattle.dinode_core.specs.declared.mapping.ForkFault.{ForkFault}
+use Rattle.dinode_core.specs.declared.mapping.ForkFault.TheVariants as faults
+use Rattle.dinode_core.specs.declared.mapping.Mapping.{Mapping}
+use Rattle.dinode_core.specs.Inline.{first_bad, form_fault, inline_fault, inline_mappings, or_else, root_level}
+use Rattle.dinode_core.specs.Shape.{area_of}
+use Rattle.dinode_core.specs.ForkTree.{Image, Trail, Last, Entry, ◌>>=◌, sound_at, block_at, passed, with_mappings, leaf_mappings, node_entries, walk_each, walk_in, walk_block, walk_tree, root_entries, start, ends, met_of, is_tree, block_fault, walk_fault}
+use Rattle.fork_read.specs.declared.fault.ForkPiece.{ForkPiece}
+use Rattle.fork_read.specs.declared.tasks.Task.{Task}
+use Rattle.fork_read.specs.declared.walk.Stop.{Stop}
+use Rattle.fork_read.specs.declared.walk.Stop.TheVariants.{Bad, Whole, Left, Long}
+use Rattle.fork_read.specs.Answers.{IsPiece, IsStopped, judged, next_of}
+use Rattle.fork_read.specs.Pieces.{IsForkPiece}
+use Rattle.fork_read.specs.Whole.{IsWhole}
+use Rattle.fork_read.specs.Walk.{is_resumed, is_sound_from, pruned, read_at, passed_from, walk_from, tasks_of, walk_tasks, walk_all}
+use Rattle.fork_read.proofs.PieceLemmas.{form_none}
+use Rattle.fork_read.proofs.WalkLemmas.{each_then}
+
+nothing_below : (n : ℕ) → nat_lt n 0 ≡ false
+nothing_below n = grind (arith, nat_tests)
+
+all_above : (n : ℕ) → nat_le 0 n ≡ true
+all_above n = grind (arith, nat_tests)
+
+pruned_same : (es : List Entry) → pruned 0 es ≡ es
+unfolding pruned
+pruned_same [] = refl
+pruned_same (e ∷ []) = refl
+pruned_same (e ∷ next ∷ es) = rw (nothing_below next.key) refl
+
+passed_same : (level : ℕ) (e : Entry) (bytes : List ℕ) (t : Trail) → passed_from 0 level e bytes t ≡ passed level e bytes t
+unfolding passed_from
+passed_same level e bytes t = rw (nothing_below e.key) refl
+
+resumed_same : (last : Option Last) (key : ℕ) → is_resumed 0 last key ≡ false
+resumed_same None key = nothing_below key
+resumed_same (Some last) key = refl
+
+module _ (at : Layout) (image : Image) (core : Core3) where
+  read_same : (level : ℕ) (last : Option Last) (e : Entry) (place : Option (ℕ × ℕ)) → read_at at image core 0 level last e place ≡ sound_at at image core level last e place
+  unfolding is_sound_from
+  read_same level last e None = refl
+  read_same level last e (Some p) = rw (resumed_same last e.key) refl
+
+  walk_same : (level : ℕ) (t : Trail) (e : Entry) → walk_from at image core 0 level t e ≡ walk_block at image core level t e
+  unfolding walk_from walk_block block_at
+  walk_same zero t e =
+      λ i. walk_in (read_same zero (t.last zero) e (split_of at e.block) i) t (λ bytes. Ok (with_mappings (leaf_mappings bytes) (passed_same zero e bytes t i)))
+  walk_same (suc level) t e =
+      λ i. walk_in (read_same (suc level) (t.last (suc level)) e (split_of at e.block) i) t (λ bytes. walk_each (λ u x. walk_same level u x i) (pruned_same (node_entries bytes) i) (passed_same (suc level) e bytes t i))
+
+  ends_ok : (r : Result Trail Trail) (f : Trail → Result Trail Trail) → ((t : Trail) → f t ≡ Ok t) → (r >>= f) ≡ r
+  ends_ok (Ok t) f h = h t
+  ends_ok (Err t) f h = refl
+
+  no_tasks : (t : Trail) → walk_tasks at image core 0 [] t ≡ Ok t
+  unfolding walk_tasks
+  no_tasks t = refl
+
+  -- from 0 on a walk is that of the whole btree
+  pub tree_same : (fork : Fork) → walk_all at image core fork 0 ≡ walk_tree at image core fork
+  unfolding walk_all walk_tree
+  tree_same fork =
+      let level = root_level (area_of core fork) - 1 in
+      ap (λ es. walk_tasks at image core 0 (tasks_of level es) start) (pruned_same (root_entries core fork))
+      ∙ ap (λ xs. walk_tasks at image core 0 xs start) (sym (append-nil (tasks_of level (root_entries core fork))))
+      ∙ each_then at image core 0 level (root_entries core fork) [] start
+      ∙ ends_ok (walk_each (walk_from at image core 0 level) (root_entries core fork) start) (walk_tasks at image core 0 []) no_tasks
+      ∙ (λ i. walk_each (λ u x. walk_same level u x i) (root_entries core fork) start)
+
+all_kept : (ms : List Mapping) → filter (λ m. nat_le 0 m.offset) ms ≡ ms
+all_kept [] = refl
+all_kept (m ∷ ms) = rw (all_above m.offset) (ap (λ xs. m ∷ xs) (all_kept ms))
+
+some_none : (f : ForkFault) → ◌≡◌ {A = Option ForkFault} (Some f) None → ⊥
+some_none f e = cc
+
+key_none : (n : ℕ) → ◌≡◌ {A = Option ℕ} (Some n) None → ⊥
+key_none n e = cc
+
+else_parts : (o x : Option ForkFault) → or_else o x ≡ None → (o ≡ None) × (x ≡ None)
+else_parts None x h = (refl, h)
+else_parts (Some f) x h = absurd (some_none f h)
+
+module _ (at : Layout) (image : Image) (core : Core3) (fork : Fork) where
+  tree_whole : (t : Trail) (piece : ForkPiece) → form_fault core fork ≡ None → is_tree core fork ≡ true → walk_tree at image core fork ≡ Ok t → or_else (first_bad at fork t.mappings) (block_fault (ends (root_level (area_of core fork)) t)) ≡ None → IsPiece 0 t.mappings (map (λ b. b.block) t.blocks) None piece → IsWhole at image core fork piece
+  unfolding walk_fault met_of
+  tree_whole t piece form tree walked good given = record {
+    good = rw (tree, form, walked) good;
+    mappings = rw (tree, walked) (given.mappings ∙ all_kept t.mappings);
+    tree_blocks = rw (tree, walked) given.tree_blocks;
+  }
+
+  by_stop : (stop : Stop) (rest : List Task) (t : Trail) (piece : ForkPiece) → form_fault core fork ≡ None → is_tree core fork ≡ true → IsStopped (walk_all at image core fork 0) (walk_tasks at image core 0) 0 stop rest t → judged at fork (root_level (area_of core fork)) stop t ≡ None → piece.next ≡ None → IsPiece 0 t.mappings (map (λ b. b.block) t.blocks) (next_of stop) piece → IsWhole at image core fork piece
+  by_stop Bad rest t piece form tree h good none given = absurd (some_none faults.Block (else_parts (first_bad at fork t.mappings) (Some faults.Block) good).1)
+  by_stop Whole rest t piece form tree h good none given = tree_whole t piece form tree (sym (tree_same at image core fork) ∙ h) good given
+  by_stop (Left task) rest t piece form tree h good none given = absurd (key_none task.key (sym given.next ∙ none))
+  by_stop (Long task) rest t piece form tree h good none given = absurd (some_none faults.Order (else_parts (first_bad at fork t.mappings) (Some faults.Order) good).1)
+
+  inline_whole : (piece : ForkPiece) → inline_fault at core fork ≡ None → is_tree core fork ≡ false → IsPiece 0 (inline_mappings core fork) [] None piece → IsWhole at image core fork piece
+  unfolding walk_fault met_of inline_fault
+  inline_whole piece good off given =
+      let parts = else_parts (form_fault core fork) (first_bad at fork (inline_mappings core fork)) good in
+      record {
+        good = rw (off, parts.0, parts.1) refl;
+        mappings = rw off (given.mappings ∙ all_kept (inline_mappings core fork));
+        tree_blocks = rw off given.tree_blocks;
+      }
+
+  -- where a piece from 0 on leaves nothing, the fork has no fault but its number, and is this piece
+  pub piece_whole : (piece : ForkPiece) → IsForkPiece at image core fork 0 piece → piece.next ≡ None → IsWhole at image core fork piece
+  piece_whole piece h none = by_form (is_tree core fork) refl
+    where
+      by_form : (b : Bool) → is_tree core fork ≡ b → IsWhole at image core fork piece
+      by_form true tree =
+          let found = h.2 tree in
+          by_stop found.stop found.walked.rest found.trail piece (form_none at core fork h.0) tree found.walked.stopped found.good none found.given
+      by_form false off = inline_whole piece h.0 off (h.1 off)

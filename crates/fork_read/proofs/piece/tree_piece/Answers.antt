@@ -1,0 +1,51 @@
+use Rattle.std.proofs.Common.{◌≡◌, map, ◌∙◌, ap, arith}
+use Rattle.blk_device.specs.declared.device.Region.TheVariants.{Image}
+use Rattle.geom.specs.Places.{layout}
+use Rattle.dinode_core.specs.Inline.{key_room, root_level}
+use Rattle.dinode_core.specs.Shape.{area_of, size_of}
+use Rattle.fork_read.specs.Walk.{trail_of}
+use Rattle.fork_read.proofs.PieceLemmas.{ends_of, numbers_same, tree_answered, tree_outside}
+use Rattle.fork_read.proofs.RootLemmas.{first_pushed, low_first, root_facts}
+use Rattle.fork_read.proofs.piece.tree_piece.Goals as goal
+
+pub fork_area-area-requires : goal.fork_area-area-requires
+fork_area-area-requires g c = let root = root_facts c.args.core.now c.args.fork c.requires.form c.requires.tree in omega (arith, root.inside)
+
+pub root_room-room-requires : goal.root_room-room-requires
+root_room-room-requires g c = (root_facts c.args.core.now c.args.fork c.requires.form c.requires.tree).size
+
+pub push_root-requires-clause-low : goal.push_root-requires-clause-low
+push_root-requires-clause-low g c = rw (c.fork_area-area.ensures.bytes) (root_facts c.args.core.now c.args.fork c.requires.form c.requires.tree).low
+
+pub push_root-requires-clause-high : goal.push_root-requires-clause-high
+push_root-requires-clause-high g c = rw (c.fork_area-area.ensures.bytes) (root_facts c.args.core.now c.args.fork c.requires.form c.requires.tree).high
+
+pub push_root-requires-clause-keys : goal.push_root-requires-clause-keys
+push_root-requires-clause-keys g c = rw (c.fork_area-area.ensures.bytes, c.root_room-room.ensures) (root_facts c.args.core.now c.args.fork c.requires.form c.requires.tree).room
+
+pub push_root-requires-clause-long : goal.push_root-requires-clause-long
+push_root-requires-clause-long g c =
+    let root = root_facts c.args.core.now c.args.fork c.requires.form c.requires.tree in
+    let room : c.root_room-room.result ≡ key_room (size_of c.args.core.now c.args.fork) = c.root_room-room.ensures in
+    omega (arith, room, root.size, c.fork_area-area.ensures.long)
+
+pub walk_on-requires-clause-low : goal.walk_on-requires-clause-low
+walk_on-requires-clause-low g c =
+    let root = root_facts c.args.core.now c.args.fork c.requires.form c.requires.tree in
+    low_first c.args.core.now c.args.fork c.args.from c.fork_area-area.result.now c.root_room-room.result c.push_root.new.tasks.items c.new-tasks.result.items root.low root.high c.fork_area-area.ensures.bytes c.root_room-room.ensures c.new-tasks.ensures.items c.in-Ok.ensures.pushed
+
+pub answer-requires : goal.answer-requires
+answer-requires g c =
+    let root = root_facts c.args.core.now c.args.fork c.requires.form c.requires.tree in
+    rw (c.in-Ok.ensures.level, c.fork_area-area.ensures.bytes) root.high
+
+pub returns-in-Err-walk_on-clause-exact : goal.returns-in-Err-walk_on-clause-exact
+returns-in-Err-walk_on-clause-exact g c = λ m e.
+    tree_outside (layout c.args.geo.now) (m Image) c.args.core.now c.args.fork c.args.from c.in-Err-walk_on.fault c.in-Err-walk_on.ensures.outside
+
+pub returns-clause-exact : goal.returns-clause-exact
+returns-clause-exact g c = λ m e.
+    let first = first_pushed c.args.core.now c.args.fork c.args.from c.fork_area-area.result.now c.root_room-room.result c.push_root.new.tasks.items c.new-tasks.result.items c.fork_area-area.ensures.bytes c.root_room-room.ensures c.new-tasks.ensures.items c.in-Ok.ensures.pushed in
+    let level : c.in-Ok.level ≡ root_level (area_of c.args.core.now c.args.fork) = c.in-Ok.ensures.level ∙ ap root_level c.fork_area-area.ensures.bytes in
+    let walked = ends_of (layout c.args.geo.now) (m Image) c.args.core.now c.args.fork c.args.from c.push_root.new.tasks.items c.walk_on.new.tasks.items (trail_of c.fresh_seen-seen.result) (trail_of c.walk_on.new.seen) c.in-Ok-walk_on.stop first c.fresh_seen-seen.ensures (c.in-Ok-walk_on.ensures.stopped m e) in
+    tree_answered (layout c.args.geo.now) (m Image) c.args.core.now c.args.fork c.args.from c.in-Ok-walk_on.stop (trail_of c.walk_on.new.seen) c.in-Ok.level (map (λ b. b.block) c.walk_on.new.seen.blocks.items) c.answer.result walked level (numbers_same c.walk_on.new.seen.blocks.items) c.answer.ensures.good c.answer.ensures.piece c.answer.ensures.fault

@@ -1,0 +1,101 @@
+-- What a piece of a fork is, by the bytes of an image.
+use Rattle.std.specs.Prelude.{◌≡◌, ℕ, ◌*◌, ◌/◌, ◌%◌, true, false, List, [], map, take, drop, Option, Some, None, Result, Ok, Err, ◌⊎◌, ⊤}
+use Rattle.geom.specs.Layout.{Layout, device_block_of, split_of}
+use Rattle.dinode_core.specs.declared.inode.Core3.{Core3}
+use Rattle.dinode_core.specs.declared.mapping.Fork.{Fork}
+use Rattle.dinode_core.specs.declared.mapping.ForkError.{ForkError}
+use Rattle.dinode_core.specs.declared.mapping.ForkError.TheVariants.{Fault, Memory as NoMemory}
+use Rattle.dinode_core.specs.declared.mapping.ForkFault.{ForkFault}
+use Rattle.dinode_core.specs.Core.{core_fault, core_of}
+use Rattle.dinode_core.specs.Inline.{inline_fault, inline_mappings, root_level}
+use Rattle.dinode_core.specs.Shape.{area_of}
+use Rattle.dinode_core.specs.ForkTree.{Image, Trail, is_tree}
+use Rattle.fork_read.specs.declared.fault.ForkPiece.{ForkPiece}
+use Rattle.fork_read.specs.declared.fault.ReadFault.{ReadFault}
+use Rattle.fork_read.specs.declared.fault.ReadFault.TheVariants.{Fork as IsFork, Core as IsCoreFault, Failed, Memory}
+use Rattle.fork_read.specs.declared.tasks.Task.{Task}
+use Rattle.fork_read.specs.declared.walk.Stop.{Stop}
+use Rattle.fork_read.specs.Answers.{IsPiece, IsStopped, judged, next_of}
+use Rattle.fork_read.specs.Walk.{walk_all, walk_tasks}
+
+-- the 512 bytes of an inode in its block
+abbrev pub slot_bytes : List ℕ → ℕ → List ℕ
+slot_bytes block slot = take 512 (drop (512 * slot) block)
+
+abbrev pub bytes_in : Layout → Image → ℕ → Option (ℕ × ℕ) → List ℕ
+bytes_in at image slot None = []
+bytes_in at image slot (Some place) = slot_bytes (image (device_block_of at place.0 place.1)) slot
+
+-- the bytes of the inode of this number
+abbrev pub inode_bytes : Layout → Image → ℕ → List ℕ
+inode_bytes at image ino = bytes_in at image (ino % 8) (split_of at (ino / 8))
+
+-- the core that these bytes have, or its first fault
+abbrev pub IsCore : List ℕ → ℕ → List ℕ → Result Core3 ReadFault → Type 0
+IsCore bytes ino uuid (Ok core) = (core_fault bytes ino uuid ≡ None) × (core ≡ core_of bytes)
+IsCore bytes ino uuid (Err (IsFork fault)) = ⊥
+IsCore bytes ino uuid (Err (IsCoreFault fault)) = core_fault bytes ino uuid ≡ Some fault
+IsCore bytes ino uuid (Err Failed) = ⊤
+IsCore bytes ino uuid (Err Memory) = ⊥
+
+-- the walk of the btree from the offset on ends so, with this trail
+pub record Ends (at : Layout) (image : Image) (core : Core3) (fork : Fork) (from : ℕ) (stop : Stop) (trail : Trail) : Type 0 where
+  pub rest : List Task
+  pub stopped : IsStopped (walk_all at image core fork from) (walk_tasks at image core from) from stop rest trail
+
+-- the fault that the walk of a btree from the offset on meets first
+pub record IsTreeFault (at : Layout) (image : Image) (core : Core3) (fork : Fork) (from : ℕ) (fault : ForkFault) : Type 0 where
+  pub stop : Stop
+  pub trail : Trail
+  pub walked : Ends at image core fork from stop trail
+  pub found : judged at fork (root_level (area_of core fork)) stop trail ≡ Some fault
+
+-- what the walk of a btree from the offset on meets, without a fault
+pub record IsTreePiece (at : Layout) (image : Image) (core : Core3) (fork : Fork) (from : ℕ) (piece : ForkPiece) : Type 0 where
+  pub stop : Stop
+  pub trail : Trail
+  pub walked : Ends at image core fork from stop trail
+  pub good : judged at fork (root_level (area_of core fork)) stop trail ≡ None
+  pub given : IsPiece from trail.mappings (map (λ b. b.block) trail.blocks) (next_of stop) piece
+
+abbrev pub IsTreeAnswer : Layout → Image → Core3 → Fork → ℕ → Result ForkPiece ReadFault → Type 0
+IsTreeAnswer at image core fork from (Ok piece) = IsTreePiece at image core fork from piece
+IsTreeAnswer at image core fork from (Err (IsFork fault)) = IsTreeFault at image core fork from fault
+IsTreeAnswer at image core fork from (Err (IsCoreFault fault)) = ⊥
+IsTreeAnswer at image core fork from (Err Failed) = ⊤
+IsTreeAnswer at image core fork from (Err Memory) = ⊤
+
+-- the piece of a fork from the offset on: of what the inode itself shows, or of its btree
+abbrev pub IsForkPiece : Layout → Image → Core3 → Fork → ℕ → ForkPiece → Type 0
+IsForkPiece at image core fork from piece =
+    (inline_fault at core fork ≡ None)
+    × (is_tree core fork ≡ false → IsPiece from (inline_mappings core fork) [] None piece)
+    × (is_tree core fork ≡ true → IsTreePiece at image core fork from piece)
+
+-- the fault that the inode itself shows, or else the btree
+abbrev pub IsForkFault : Layout → Image → Core3 → Fork → ℕ → ForkFault → Type 0
+IsForkFault at image core fork from fault =
+    (inline_fault at core fork ≡ Some fault)
+    ⊎ ((inline_fault at core fork ≡ None) × (is_tree core fork ≡ true) × IsTreeFault at image core fork from fault)
+
+-- what the inode itself shows is refused for this
+abbrev pub IsRefused : ForkError → ReadFault → Type 0
+IsRefused (Fault fault) error = error ≡ IsFork fault
+IsRefused NoMemory error = error ≡ Memory
+
+abbrev pub IsForkAnswer : Layout → Image → Core3 → Fork → ℕ → Result ForkPiece ReadFault → Type 0
+IsForkAnswer at image core fork from (Ok piece) = IsForkPiece at image core fork from piece
+IsForkAnswer at image core fork from (Err (IsFork fault)) = IsForkFault at image core fork from fault
+IsForkAnswer at image core fork from (Err (IsCoreFault fault)) = ⊥
+IsForkAnswer at image core fork from (Err Failed) = ⊤
+IsForkAnswer at image core fork from (Err Memory) = ⊤
+
+-- the answer for an inode of this number: its core's first fault, its fork's, or a piece
+abbrev pub IsAnswer : Layout → Image → ℕ → Fork → ℕ → Result ForkPiece ReadFault → Type 0
+IsAnswer at image ino fork from (Ok piece) =
+    (core_fault (inode_bytes at image ino) ino at.uuid ≡ None) × IsForkPiece at image (core_of (inode_bytes at image ino)) fork from piece
+IsAnswer at image ino fork from (Err (IsFork fault)) =
+    (core_fault (inode_bytes at image ino) ino at.uuid ≡ None) × IsForkFault at image (core_of (inode_bytes at image ino)) fork from fault
+IsAnswer at image ino fork from (Err (IsCoreFault fault)) = core_fault (inode_bytes at image ino) ino at.uuid ≡ Some fault
+IsAnswer at image ino fork from (Err Failed) = ⊤
+IsAnswer at image ino fork from (Err Memory) = ⊤

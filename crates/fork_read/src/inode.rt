@@ -1,0 +1,86 @@
+ghost use Rattle.std.specs.Prelude.{◌≡◌, ◌+◌, ◌*◌, ◌/◌, ◌%◌, ◌<◌, ◌≤◌, is_some, true, Some, None, IfOk, IfErr, MatchResult, take, drop};
+ghost use Rattle.blk_cache.specs.Cache.{AgreesTold};
+ghost use Rattle.blk_device.specs.Causes.{HasCauseBy};
+ghost use Rattle.blk_device.specs.Contents.{Contents};
+ghost use Rattle.blk_device.specs.Reading.{OnlyRead};
+ghost use Rattle.blk_device.specs.declared.device.Region.TheVariants.{Image};
+ghost use Rattle.geom.specs.Layout.{split_of};
+ghost use Rattle.geom.specs.Places.{layout};
+ghost use Rattle.dinode_core.specs.Core.{core_fault, core_of};
+ghost use Rattle.fork_read.specs.Answers.{is_failed};
+ghost use Rattle.fork_read.specs.Pieces.{inode_bytes, slot_bytes, IsCore};
+
+use crate::fault::ReadFault;
+use blk_cache::BlkCache;
+use blk_device::Device;
+use byte_fields::{Block, Steps};
+use dinode_core::{Core3, CoreFault, decode_core};
+use geom::Geometry;
+use std::sync::ledger::Ledger;
+
+// The core in the inode's slot of its block.
+fn core_in(block: &Block, ino: u64, geo: &Geometry) -> Result<Core3, CoreFault>
+    ensures { let bytes = slot_bytes block.now.bytes (ino % 8) in MatchResult result
+        (λ core. (core_fault bytes ino geo.now.uuid ≡ None) × (core ≡ core_of bytes))
+        (λ fault. core_fault bytes ino geo.now.uuid ≡ Some fault) }
+{
+    let slot = (ino % 8) as usize;
+    let (_, rest) = block.bytes.split_at(512 * slot);
+    let (own, _) = rest.split_at(512);
+    decode_core(own, ino, &geo.uuid)
+}
+
+// Reads the block of an inode, through the cache.
+fn load<D: Device, L: Ledger>(
+    dev: &mut D,
+    cache: &mut BlkCache,
+    at: u64,
+    steps: &mut Steps<L>,
+) -> Result<Block, ReadFault>
+    requires inside { at < D.blocks dev.old Image }
+    requires agreed { AgreesTold cache.old (D.content dev.old) }
+    ensures told { IfOk result (λ block. (c : Contents) → D.content dev.old ≡ Some c → block.bytes ≡ c Image at) }
+    ensures failed { IfErr result (λ fault. fault ≡ ReadFault.Failed) }
+    ensures reading { OnlyRead D.Device dev.old dev.new steps.old steps.new }
+    ensures cause { HasCauseBy is_failed (D.faults dev.old) (D.faults dev.new) result }
+    ensures agrees { AgreesTold cache.new (D.content dev.new) }
+    ensures one { steps.new.reads ≡ steps.old.reads + 1 }
+{
+    let mut block = Block::zeroed();
+    steps.block_read();
+    match cache.get(dev, at, &mut block) {
+        Ok(()) => Ok(block),
+        Err(_) => Err(ReadFault::Failed),
+    }
+}
+
+/// Reads the core of an inode, through the cache.
+pub fn load_core<D: Device, L: Ledger>(
+    dev: &mut D,
+    cache: &mut BlkCache,
+    geo: &Geometry,
+    ino: u64,
+    steps: &mut Steps<L>,
+) -> Result<Core3, ReadFault>
+    requires place { is_some (split_of (layout geo.now) (ino / 8)) ≡ true }
+    requires room { geo.now.dblocks ≤ D.blocks dev.old Image }
+    requires agreed { AgreesTold cache.old (D.content dev.old) }
+    ensures core { (c : Contents) → D.content dev.old ≡ Some c → IsCore (inode_bytes (layout geo.now) (c Image) ino) ino geo.now.uuid result }
+    ensures reading { OnlyRead D.Device dev.old dev.new steps.old steps.new }
+    ensures cause { HasCauseBy is_failed (D.faults dev.old) (D.faults dev.new) result }
+    ensures agrees { AgreesTold cache.new (D.content dev.new) }
+    ensures few { steps.new.reads ≤ steps.old.reads + 1 }
+{
+    let Some(place) = geo.split_fs_block(ino / 8) else {
+        return Err(ReadFault::Core(CoreFault::Number));
+    };
+    let at = geo.device_block(place.0, place.1);
+    let block = match load(dev, cache, at, steps) {
+        Ok(block) => block,
+        Err(fault) => return Err(fault),
+    };
+    match core_in(&block, ino, geo) {
+        Ok(core) => Ok(core),
+        Err(fault) => Err(ReadFault::Core(fault)),
+    }
+}

@@ -1,0 +1,16 @@
+//! The mappings of an inode's fork, piece by piece, with the blocks of its btree.
+#![tactic(auto)]
+
+mod block;
+mod fault;
+mod inode;
+mod judge;
+mod laws;
+mod piece;
+mod seen;
+mod tasks;
+mod walk;
+
+pub use fault::{ForkPiece, ReadFault};
+pub use laws::one_piece_is_whole;
+pub use piece::fork_piece;

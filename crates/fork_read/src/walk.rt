@@ -1,0 +1,216 @@
+ghost use Rattle.std.specs.Prelude.{◌≡◌, ◌+◌, ◌*◌, ◌-◌, ◌<◌, ◌≤◌, ◌∷◌, ℕ, nat_le, length, true, false, Some, None, Ok, Err, IfOk, IfErr, IfSome, OnOk};
+ghost use Rattle.blk_device.specs.Causes.{HasCauseBy};
+ghost use Rattle.blk_device.specs.Contents.{Contents};
+ghost use Rattle.blk_device.specs.Reading.{OnlyRead};
+ghost use Rattle.blk_device.specs.declared.device.Region.TheVariants.{Image};
+ghost use Rattle.geom.specs.Layout.{split_of};
+ghost use Rattle.geom.specs.Places.{layout};
+ghost use Rattle.dinode_core.specs.ForkTree.{numrecs};
+ghost use Rattle.fork_read.specs.Walk.{entry_of, last_in, passed_from, read_at, trail_of, walk_tasks};
+ghost use Rattle.std.specs.List.{slice_get, list_all};
+ghost use Rattle.fork_read.specs.Answers.{AllLow, bytes_of, HasRead, is_failed, IsOutside, IsStopped, last_clears, may_stop};
+
+use crate::block::is_sound_at;
+use crate::fault::ReadFault;
+use crate::seen::{Seen, note_block, take_leaf};
+use crate::tasks::{Table, Task, push_entries};
+use blk_device::{Device, Region};
+use byte_fields::{Block, Steps, get_u16};
+use dinode_core::{Core3, Mapping};
+use geom::Geometry;
+use std::collections::VecDeque;
+use std::sync::ledger::Ledger;
+
+// The most blocks that a piece reads of a btree.
+const MOST_BLOCKS: usize = 128;
+
+// With so many mappings a piece may end, and with more than that no further leaf is read: so at most
+// 512 are read.
+const ENOUGH: usize = 10;
+
+const MOST_BEFORE_A_LEAF: usize = 261;
+
+/// Where a walk ended: at a bad block, at its end, before a subtree with which the next piece begins,
+/// or before one where no piece can begin.
+#[derive(Clone, Copy, Drop)]
+pub enum Stop {
+    Bad,
+    Whole,
+    Left(Task),
+    Long(Task),
+}
+
+// Reads a block of the image from the device itself.
+fn load<D: Device, L: Ledger>(
+    dev: &mut D,
+    at: u64,
+    steps: &mut Steps<L>,
+) -> Result<Block, ReadFault>
+    requires { at < D.blocks dev.old Image }
+    ensures told { IfOk result (λ block. (c : Contents) → D.content dev.old ≡ Some c → block.bytes ≡ c Image at) }
+    ensures failed { IfErr result (λ fault. fault ≡ ReadFault.Failed) }
+    ensures reading { OnlyRead D.Device dev.old dev.new steps.old steps.new }
+    ensures cause { HasCauseBy is_failed (D.faults dev.old) (D.faults dev.new) result }
+    ensures one { steps.new.reads ≡ steps.old.reads + 1 }
+{
+    let mut block = Block::zeroed();
+    steps.block_read();
+    match dev.read(Region::Image, at, &mut block) {
+        Ok(()) => Ok(block),
+        Err(_) => Err(ReadFault::Failed),
+    }
+}
+
+// Reads the block of a subtree and tests it in its place; none where it isn't sound.
+fn open_task<D: Device, L: Ledger>(
+    dev: &mut D,
+    geo: &Geometry,
+    core: &Core3,
+    from: u64,
+    task: &Task,
+    seen: &Seen,
+    steps: &mut Steps<L>,
+) -> Result<Option<Block>, ReadFault>
+    requires room { geo.now.dblocks ≤ D.blocks dev.old Image }
+    requires low { task.now.level < 9 }
+    ensures found { IfOk result (λ found. (c : Contents) → D.content dev.old ≡ Some c → read_at (layout geo.now) (c Image) core.now from task.now.level (last_in seen.now.lasts task.now.level) (entry_of task.now) (split_of (layout geo.now) task.now.block) ≡ bytes_of found) }
+    ensures most { IfOk result (λ found. IfSome found (λ block. numrecs block.bytes ≤ 251)) }
+    ensures outside { IfErr result IsOutside }
+    ensures reading { OnlyRead D.Device dev.old dev.new steps.old steps.new }
+    ensures cause { HasCauseBy is_failed (D.faults dev.old) (D.faults dev.new) result }
+    ensures few { steps.new.reads ≤ steps.old.reads + 1 }
+{
+    let Some(place) = geo.split_fs_block(task.block) else {
+        return Ok(None);
+    };
+    let at = geo.device_block(place.0, place.1);
+    let block = match load(dev, at, steps) {
+        Ok(block) => block,
+        Err(fault) => return Err(fault),
+    };
+    if !is_sound_at(&block, geo, core, seen, task, from, place) {
+        return Ok(None);
+    }
+    Ok(Some(block))
+}
+
+// Reads a subtree's block: a leaf's mappings are taken in, a node's subtrees are put in front of those
+// that are left. Whether the block is sound is answered.
+fn read_task<D: Device, L: Ledger>(
+    dev: &mut D,
+    geo: &Geometry,
+    core: &Core3,
+    from: u64,
+    task: &Task,
+    seen: &mut Seen,
+    tasks: &mut VecDeque<Task>,
+    steps: &mut Steps<L>,
+) -> Result<bool, ReadFault>
+    requires room { geo.now.dblocks ≤ D.blocks dev.old Image }
+    requires low { task.now.level < 9 }
+    requires all_low { AllLow tasks.old.items }
+    ensures read { IfOk result (λ read. (c : Contents) → D.content dev.old ≡ Some c → HasRead (walk_tasks (layout geo.now) (c Image) core.now from (task.now ∷ tasks.old.items) (trail_of seen.old)) read (walk_tasks (layout geo.now) (c Image) core.now from tasks.new.items (trail_of seen.new)) (trail_of seen.new)) }
+    ensures low { OnOk result (AllLow tasks.new.items) }
+    ensures outside { IfErr result IsOutside }
+    ensures grows { OnOk result (length seen.new.mappings.items ≤ length seen.old.mappings.items + 251) }
+    ensures reading { OnlyRead D.Device dev.old dev.new steps.old steps.new }
+    ensures cause { HasCauseBy is_failed (D.faults dev.old) (D.faults dev.new) result }
+    ensures few { steps.new.reads ≤ steps.old.reads + 1 }
+{
+    let found = match open_task(dev, geo, core, from, task, seen, steps) {
+        Ok(found) => found,
+        Err(fault) => return Err(fault),
+    };
+    let Some(block) = found else {
+        return Ok(false);
+    };
+    match note_block(seen, task, from, &block) {
+        Ok(()) => {}
+        Err(_) => return Err(ReadFault::Memory),
+    }
+    if task.level == 0 {
+        match take_leaf(seen, &block) {
+            Ok(()) => return Ok(true),
+            Err(_) => return Err(ReadFault::Memory),
+        }
+    }
+    let table = Table {
+        keys: 72,
+        pointers: 72 + 8 * 251,
+        count: get_u16(&block.bytes, 6) as usize,
+    };
+    match push_entries(&block.bytes, &table, task.level - 1, from, tasks) {
+        Ok(()) => Ok(true),
+        Err(_) => Err(ReadFault::Memory),
+    }
+}
+
+// Whether no subtree begins before this offset.
+fn are_behind(tasks: &VecDeque<Task>, key: u64) -> bool
+    ensures { result ≡ list_all (λ t. nat_le key t.key) tasks.now.items }
+{
+    tasks.iter().all(|t| key <= t.key)
+}
+
+// Whether the last mapping is one of this piece, and ends before this offset.
+fn does_last_clear(mappings: &[Mapping], from: u64, key: u64) -> bool
+    ensures { result ≡ last_clears from key (slice_get mappings.now (length mappings.now - 1)) }
+{
+    match mappings.last() {
+        None => false,
+        Some(m) => from <= m.offset && m.offset < key && u64::from(m.count) <= key - m.offset,
+    }
+}
+
+// Whether a piece may end before this subtree.
+#[tactic(auto, unfolding(crate::specs::Answers::may_stop))]
+fn may_stop_at(seen: &Seen, tasks: &VecDeque<Task>, task: &Task, from: u64) -> bool
+    ensures { result ≡ may_stop from seen.now.mappings.items task.now tasks.now.items }
+{
+    does_last_clear(seen.mappings.as_slice(), from, task.key) && are_behind(tasks, task.key)
+}
+
+/// Walks on, until a piece may end.
+pub fn walk_on<D: Device, L: Ledger>(
+    dev: &mut D,
+    geo: &Geometry,
+    core: &Core3,
+    from: u64,
+    seen: &mut Seen,
+    tasks: &mut VecDeque<Task>,
+    steps: &mut Steps<L>,
+) -> Result<Stop, ReadFault>
+    requires room { geo.now.dblocks ≤ D.blocks dev.old Image }
+    requires low { AllLow tasks.old.items }
+    requires fresh { length seen.old.mappings.items ≤ 512 }
+    ensures stopped { IfOk result (λ stop. (c : Contents) → D.content dev.old ≡ Some c → IsStopped (walk_tasks (layout geo.now) (c Image) core.now from tasks.old.items (trail_of seen.old)) (walk_tasks (layout geo.now) (c Image) core.now from) from stop tasks.new.items (trail_of seen.new)) }
+    ensures most { OnOk result (length seen.new.mappings.items ≤ 512) }
+    ensures outside { IfErr result IsOutside }
+    ensures reading { OnlyRead D.Device dev.old dev.new steps.old steps.new }
+    ensures cause { HasCauseBy is_failed (D.faults dev.old) (D.faults dev.new) result }
+    ensures few { steps.new.reads ≤ steps.old.reads + 128 }
+{
+    for i in 0..MOST_BLOCKS {
+        let _read = i;
+        let Some(task) = tasks.pop_front() else {
+            return Ok(Stop::Whole);
+        };
+        if seen.mappings.len() > ENOUGH && may_stop_at(seen, tasks, &task, from) {
+            return Ok(Stop::Left(task));
+        }
+        if seen.mappings.len() > MOST_BEFORE_A_LEAF {
+            return Ok(Stop::Long(task));
+        }
+        let read = match read_task(dev, geo, core, from, &task, seen, tasks, steps) {
+            Ok(read) => read,
+            Err(fault) => return Err(fault),
+        };
+        if !read {
+            return Ok(Stop::Bad);
+        }
+    }
+    match tasks.pop_front() {
+        None => Ok(Stop::Whole),
+        Some(task) => Ok(Stop::Long(task)),
+    }
+}
