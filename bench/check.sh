@@ -8,7 +8,7 @@
 # the table is read.
 set -u
 top=$(cd -- "$(dirname -- "$0")/.." && pwd) || exit 1
-built=$top/crates/xscrub/out/xscrub
+built=$top/crates/xscrub_program/out/xscrub_program
 [ -x "$built" ] || built=$top/xscrub
 program=$(readlink -f -- "${1:-$built}") || exit 1
 shift

@@ -9,18 +9,18 @@ passed=0 failed=0
 
 # The stand-in "builds" a script that shows its words and its folder and ends with status 3,
 # and writes a line to $room/builds for each build.
-mkdir -p "$room/bin" "$room/repo/crates/xscrub/src" "$room/else where"
+mkdir -p "$room/bin" "$room/repo/crates/xscrub_program/src" "$room/else where"
 cp -- "$top/xscrub" "$room/repo/xscrub"
-echo 'xscrub:' >"$room/repo/crates.txt"
-echo 'fn main() {}' >"$room/repo/crates/xscrub/src/main.rt"
+echo 'xscrub_program:' >"$room/repo/crates.txt"
+echo 'fn main() {}' >"$room/repo/crates/xscrub_program/src/main.rt"
 cat >"$room/bin/rt" <<RT
 #!/usr/bin/env bash
 echo "a line of the log"
 [ ! -e "$room/broken" ] || exit 1
 echo once >>"$room/builds"
 mkdir -p out
-printf '%s\n' '#!/usr/bin/env bash' 'printf "<%s>" "\$@" "\${PWD##*/}"; echo; exit 3' >out/xscrub
-chmod +x out/xscrub
+printf '%s\n' '#!/usr/bin/env bash' 'printf "<%s>" "\$@" "\${PWD##*/}"; echo; exit 3' >out/xscrub_program
+chmod +x out/xscrub_program
 RT
 chmod +x "$room/bin/rt"
 
@@ -63,12 +63,12 @@ says "a build that fails shows its log" 'a line of the log'
 rm "$room/broken"
 try "the first use builds" 3 "$good" 1
 try "the second use doesn't" 3 "$good" 1
-rm -rf "$room/repo/crates/xscrub/out"
+rm -rf "$room/repo/crates/xscrub_program/out"
 try "out/ may be cleared" 3 "$good" 1
-echo '// changed' >>"$room/repo/crates/xscrub/src/main.rt"
+echo '// changed' >>"$room/repo/crates/xscrub_program/src/main.rt"
 try "changed sources build anew" 3 "$good" 2
 touch "$room/broken"
-echo '// changed' >>"$room/repo/crates/xscrub/src/main.rt"
+echo '// changed' >>"$room/repo/crates/xscrub_program/src/main.rt"
 try "changed sources that fail don't run the old program" 70 '' 2
 rm "$room/broken"
 try "and then build" 3 "$good" 3

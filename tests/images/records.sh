@@ -71,7 +71,7 @@ records() {
 # The rows that are worked out by hand: an image of one group of 256 blocks, free (19, 5) and
 # (32, 224), no block shared.
 by_hand() {
-  local image=$top/crates/xscrub/data/imageA.img
+  local image=$top/crates/xscrub_program/data/imageA.img
   build 'one group'
   cmp -s sound.img "$image"
   verdict 'made: the stored image' $? 'make_image.py writes another one'

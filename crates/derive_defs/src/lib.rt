@@ -13,6 +13,3 @@ pub use free::free_of;
 pub use laws::{mappings_fit, only_by_count, only_free, only_shared};
 pub use shared::shared_of;
 pub use sorting::by_count;
-
-#[cfg(test)]
-mod tests;

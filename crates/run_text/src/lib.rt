@@ -7,6 +7,3 @@ mod report;
 mod verdicts;
 
 pub use report::line;
-
-#[cfg(test)]
-mod tests;

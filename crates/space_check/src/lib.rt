@@ -14,6 +14,3 @@ mod stop;
 
 pub use check::check_space;
 pub use stop::Stop;
-
-#[cfg(test)]
-mod tests;

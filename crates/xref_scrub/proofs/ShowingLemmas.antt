@@ -25,23 +25,23 @@ module _ {R K : Type 0} (form : Form R K) (shown : Shown R) (index derived : Lis
   shown_start = refl
 
   pub shown_first : (i j : ℕ) (r : R) → i < length derived → r ≡ get_or derived i r → IsNotBehind (comes_before form) r (drop j index)
-      → shown_from form shown index derived i j ≡ missing_of shown index r ∷ shown_from form shown index derived (i + 1) j
+      → shown_from form shown index derived i j ≡ missing_of form shown index r ∷ shown_from form shown index derived (i + 1) j
   unfolding shown_from
   shown_first i j r lt e late =
-      ap (λ (rs : List R). merged (comes_before form) (missing_of shown index) (extra_of shown derived) rs (drop j index)) (rest_at derived i r lt e)
-      ∙ merged_first (comes_before form) (missing_of shown index) (extra_of shown derived) r (drop (i + 1) derived) (drop j index) late
+      ap (λ (rs : List R). merged (comes_before form) (missing_of form shown index) (extra_of form shown derived) rs (drop j index)) (rest_at derived i r lt e)
+      ∙ merged_first (comes_before form) (missing_of form shown index) (extra_of form shown derived) r (drop (i + 1) derived) (drop j index) late
 
   pub shown_second : (i j : ℕ) (s : R) → j < length index → s ≡ get_or index j s → IsAhead (comes_before form) s (drop i derived)
-      → shown_from form shown index derived i j ≡ extra_of shown derived s ∷ shown_from form shown index derived i (j + 1)
+      → shown_from form shown index derived i j ≡ extra_of form shown derived s ∷ shown_from form shown index derived i (j + 1)
   unfolding shown_from
   shown_second i j s lt e ahead =
-      ap (λ (ss : List R). merged (comes_before form) (missing_of shown index) (extra_of shown derived) (drop i derived) ss) (rest_at index j s lt e)
-      ∙ merged_second (comes_before form) (missing_of shown index) (extra_of shown derived) s (drop i derived) (drop (j + 1) index) ahead
+      ap (λ (ss : List R). merged (comes_before form) (missing_of form shown index) (extra_of form shown derived) (drop i derived) ss) (rest_at index j s lt e)
+      ∙ merged_second (comes_before form) (missing_of form shown index) (extra_of form shown derived) s (drop i derived) (drop (j + 1) index) ahead
 
   -- the records from a number on
   pub shown_at : (i n : ℕ) → i ≤ n → IsParted (comes_before form) derived index i (n - i) → shown_from form shown index derived i (n - i) ≡ drop n (shown_by form shown index derived)
   unfolding shown_from shown_by
-  shown_at i n le p = rest_at_number (comes_before form) (missing_of shown index) (extra_of shown derived) n i (n - i) (omega arith) derived index p
+  shown_at i n le p = rest_at_number (comes_before form) (missing_of form shown index) (extra_of form shown derived) n i (n - i) (omega arith) derived index p
 
   pub shown_past : (n : ℕ) → length derived + length index ≤ n → shown_from form shown index derived (length derived) (length index) ≡ drop n (shown_by form shown index derived)
   shown_past n past =

@@ -40,4 +40,4 @@ module _ {R : Type 0} (before : R → R → Bool) where
 -- what the records show from two cursors on
 unfoldable pub shown_from : {R K : Type 0} → Form R K → Shown R → List R → List R → ℕ → ℕ → List (Option Fault)
 shown_from form shown index derived i j =
-    merged (comes_before form) (missing_of shown index) (extra_of shown derived) (drop i derived) (drop j index)
+    merged (comes_before form) (missing_of form shown index) (extra_of form shown derived) (drop i derived) (drop j index)

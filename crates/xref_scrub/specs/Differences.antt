@@ -12,29 +12,29 @@ use Rattle.xref_scrub.specs.Shown.{Shown}
 abbrev pub comes_before : {R K : Type 0} → Form R K → R → R → Bool
 comes_before form r s = form.is_before (form.key_of r) (form.key_of s)
 
-module _ {R : Type 0} (shown : Shown R) where
-  -- no record of the list is this one
-  abbrev pub lacks : List R → R → Bool
-  lacks list r = not (list_any (shown.is_same r) list)
+-- no record of the list is this one
+abbrev pub lacks : {R K : Type 0} → Form R K → List R → R → Bool
+lacks form list r = not (list_any (form.is_same r) list)
 
+module _ {R K : Type 0} (form : Form R K) (shown : Shown R) where
   -- what a derived record shows, and what a record of the index shows
   unfoldable pub missing_of : List R → R → Option Fault
-  missing_of index r = if lacks index r then Some (Missing (shown.any r)) else None
+  missing_of index r = if lacks form index r then Some (Missing (shown r)) else None
 
   unfoldable pub extra_of : List R → R → Option Fault
-  extra_of derived r = if lacks derived r then Some (Extra (shown.any r)) else None
+  extra_of derived r = if lacks form derived r then Some (Extra (shown r)) else None
 
 module _ {R K : Type 0} (form : Form R K) (shown : Shown R) (index derived : List R) where
   -- In key order each derived record that the index lacks, as missing, and each index record that
   -- isn't derived, as extra; missing comes first at equal keys.
   unfoldable pub differences : List Fault
   differences =
-      merged (comes_before form) (λ r. Missing (shown.any r)) (λ r. Extra (shown.any r)) (filter (lacks shown index) derived) (filter (lacks shown derived) index)
+      merged (comes_before form) (λ r. Missing (shown r)) (λ r. Extra (shown r)) (filter (lacks form index) derived) (filter (lacks form derived) index)
 
   -- what each record of the two lists shows, both merged in key order; a record that stands in
   -- both counts twice
   unfoldable pub shown_by : List (Option Fault)
-  shown_by = merged (comes_before form) (missing_of shown index) (extra_of shown derived) derived index
+  shown_by = merged (comes_before form) (missing_of form shown index) (extra_of form shown derived) derived index
 
   -- the faults of the 512 records from this number on
   unfoldable pub piece : ℕ → List Fault

@@ -2,4 +2,3 @@ pub mod Cursors
 pub mod Differences
 pub mod Merging
 pub mod Shown
-pub mod ShownLaws

@@ -46,12 +46,12 @@ fn does_index_have<K: Indexed>(index: &[K::Rec], at: usize, rec: &K::Rec) -> boo
     requires within { at ≤ length index.now }
     requires passed { Each (λ q. comes_before K.form q rec.now) (take at index.now) }
     requires left { IsNotBehind (comes_before K.form) rec.now (drop at index.now) }
-    ensures { result ≡ list_any (K.shown.is_same rec.now) index.now }
+    ensures { result ≡ list_any (K.form.is_same rec.now) index.now }
 {
     if at == index.len() {
         return false;
     }
-    <K as Indexed>::is_same(rec, &index[at])
+    K::is_same(rec, &index[at])
 }
 
 // Whether this record of the index is derived, which only the last derived one that was passed can
@@ -61,12 +61,12 @@ fn is_derived<K: Indexed>(derived: &[K::Rec], at: usize, rec: &K::Rec) -> bool
     requires within { at ≤ length derived.now }
     requires passed { Each (λ p. not (comes_before K.form rec.now p)) (take at derived.now) }
     requires left { IsAhead (comes_before K.form) rec.now (drop at derived.now) }
-    ensures { result ≡ list_any (K.shown.is_same rec.now) derived.now }
+    ensures { result ≡ list_any (K.form.is_same rec.now) derived.now }
 {
     if at == 0 {
         return false;
     }
-    <K as Indexed>::is_same(rec, &derived[at - 1])
+    K::is_same(rec, &derived[at - 1])
 }
 
 // What the derived record at the cursor shows.
@@ -76,7 +76,7 @@ fn missing_at<K: Indexed>(index: &[K::Rec], at: usize, rec: &K::Rec) -> Option<F
     requires within { at ≤ length index.now }
     requires passed { Each (λ q. comes_before K.form q rec.now) (take at index.now) }
     requires left { IsNotBehind (comes_before K.form) rec.now (drop at index.now) }
-    ensures { result ≡ missing_of K.shown index.now rec.now }
+    ensures { result ≡ missing_of K.form K.shown index.now rec.now }
 {
     if does_index_have::<K>(index, at, rec) {
         return None;
@@ -91,7 +91,7 @@ fn extra_at<K: Indexed>(derived: &[K::Rec], at: usize, rec: &K::Rec) -> Option<F
     requires within { at ≤ length derived.now }
     requires passed { Each (λ p. not (comes_before K.form rec.now p)) (take at derived.now) }
     requires left { IsAhead (comes_before K.form) rec.now (drop at derived.now) }
-    ensures { result ≡ extra_of K.shown derived.now rec.now }
+    ensures { result ≡ extra_of K.form K.shown derived.now rec.now }
 {
     if is_derived::<K>(derived, at, rec) {
         return None;

@@ -11,6 +11,3 @@ mod pieces;
 pub use indexed::Indexed;
 pub use laws::{none_exactly_if_equal, pieces_join};
 pub use pieces::{compare, compare_piece};
-
-#[cfg(test)]
-mod tests;

@@ -19,8 +19,8 @@ use Rattle.xscrub.specs.Shown.{IsLineShown, EndsWith, last_text}
 use Rattle.xscrub.specs.declared.ending.Status.{Status}
 use Rattle.xscrub.specs.declared.ending.Status.TheVariants as statuses
 use Rattle.fs_model.specs.declared.entry.Entry.{Entry}
-use Rattle.xscrub.specs.declared.last_line.LastLine.{LastLine}
-use Rattle.xscrub.specs.declared.last_line.LastLine.TheVariants as lines
+use Rattle.xscrub.specs.declared.last_lines.LastLine.{LastLine}
+use Rattle.xscrub.specs.declared.last_lines.LastLine.TheVariants as lines
 
 -- a journal that was told whole, without a line behind it
 pub shown_alone : (journal : List Entry) (f g : ℕ) (a b : Option (List ℕ)) → g ≡ f → Takes (report_of journal) a b → IsShown journal None f g a b

@@ -12,7 +12,7 @@ use Rattle.xscrub.specs.Judged.{IsJudged, judgement_outcome}
 use Rattle.xscrub.specs.declared.judging.JudgeFault.{JudgeFault}
 use Rattle.xscrub.specs.declared.judging.Judgement.{Judgement}
 use Rattle.xscrub.specs.declared.judging.Judgement.TheVariants.{Refused}
-use Rattle.xscrub.specs.declared.last_line.LastLine.TheVariants as lines
+use Rattle.xscrub.specs.declared.last_lines.LastLine.TheVariants as lines
 
 -- what holds of an answer, from what else holds of it
 pub if_ok : (result : Result Judgement JudgeFault) (P Q : Judgement → Type 0) → IfOk result P → ((found : Judgement) → P found → Q found) → IfOk result Q

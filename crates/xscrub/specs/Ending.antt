@@ -18,8 +18,8 @@ use Rattle.xscrub.specs.declared.ending.Status.TheVariants as statuses
 use Rattle.xscrub.specs.declared.ending.Told.{Told}
 use Rattle.fs_model.specs.declared.entry.Entry.{Entry}
 use Rattle.xscrub.specs.declared.host.Purpose.TheVariants.{Check as ForCheck}
-use Rattle.xscrub.specs.declared.last_line.LastLine.{LastLine}
-use Rattle.xscrub.specs.declared.last_line.LastLine.TheVariants as lines
+use Rattle.xscrub.specs.declared.last_lines.LastLine.{LastLine}
+use Rattle.xscrub.specs.declared.last_lines.LastLine.TheVariants as lines
 use Rattle.xscrub.specs.declared.top.RunEnd.{RunEnd}
 
 -- ---- what words and bytes decide

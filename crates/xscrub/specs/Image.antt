@@ -7,8 +7,8 @@ use Rattle.geom.specs.declared.fault.ImageFault.{ImageFault}
 use Rattle.space_check.specs.Checked.{Checked, RefusedHead, Judged, Filled, checked}
 use Rattle.xscrub.specs.Outcome.{Outcome, judged_outcome, filled_outcome, ended_outcome}
 use Rattle.xscrub.specs.declared.ending.Status.TheVariants as statuses
-use Rattle.xscrub.specs.declared.last_line.LastLine.{LastLine}
-use Rattle.xscrub.specs.declared.last_line.LastLine.TheVariants as lines
+use Rattle.xscrub.specs.declared.last_lines.LastLine.{LastLine}
+use Rattle.xscrub.specs.declared.last_lines.LastLine.TheVariants as lines
 
 abbrev pub refused : LastLine → Outcome
 refused line = ended_outcome statuses.Refused line

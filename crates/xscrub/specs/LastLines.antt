@@ -8,8 +8,8 @@ use Rattle.fs_model.specs.declared.unit.Head.TheVariants.{Agf, Agi, Agfl}
 use Rattle.geom.specs.declared.fault.ImageFault.{ImageFault}
 use Rattle.geom.specs.declared.fault.ImageFault.TheVariants as images
 use Rattle.run_text.specs.Lines.{line_from, spaced}
-use Rattle.xscrub.specs.declared.last_line.LastLine.{LastLine}
-use Rattle.xscrub.specs.declared.last_line.LastLine.TheVariants.{Usage, UnbuiltJob, Image, Head, DeviceFailed, HostFailed, JournalFull, Memory}
+use Rattle.xscrub.specs.declared.last_lines.LastLine.{LastLine}
+use Rattle.xscrub.specs.declared.last_lines.LastLine.TheVariants.{Usage, UnbuiltJob, Image, Head, DeviceFailed, HostFailed, JournalFull, Memory}
 
 abbrev pub head_name : GroupHead → List ℕ
 head_name Agf = codes "agf"

@@ -9,8 +9,8 @@ use Rattle.xscrub.specs.declared.ending.Finding.{Finding}
 use Rattle.xscrub.specs.declared.ending.Finding.TheVariants as findings
 use Rattle.xscrub.specs.declared.ending.Status.{Status}
 use Rattle.xscrub.specs.declared.ending.Status.TheVariants as statuses
-use Rattle.xscrub.specs.declared.last_line.LastLine.{LastLine}
-use Rattle.xscrub.specs.declared.last_line.LastLine.TheVariants as lines
+use Rattle.xscrub.specs.declared.last_lines.LastLine.{LastLine}
+use Rattle.xscrub.specs.declared.last_lines.LastLine.TheVariants as lines
 
 pub record Outcome : Type 0 where
   pub status : Status

@@ -7,8 +7,8 @@ use Rattle.xscrub.specs.LastLines.{last_line_of, is_fixed}
 use Rattle.fs_model.specs.declared.entry.Entry.{Entry}
 use Rattle.xscrub.specs.declared.ending.Status.{Status}
 use Rattle.xscrub.specs.declared.ending.Status.TheVariants as statuses
-use Rattle.xscrub.specs.declared.last_line.LastLine.{LastLine}
-use Rattle.xscrub.specs.declared.last_line.LastLine.TheVariants as lines
+use Rattle.xscrub.specs.declared.last_lines.LastLine.{LastLine}
+use Rattle.xscrub.specs.declared.last_lines.LastLine.TheVariants as lines
 use Rattle.xscrub.specs.declared.telling.TellStop.{TellStop}
 use Rattle.xscrub.specs.declared.telling.TellStop.TheVariants as stops
 

@@ -1,7 +1,7 @@
 ghost use Rattle.std.specs.Prelude.{◌≡◌};
 ghost use Rattle.std.specs.List.{list_all};
 
-use crate::last_line::LastLine;
+use crate::last_lines::LastLine;
 use fs_model::{Entry, Verdict};
 
 /// How a run ended; its number is the status of the process.

@@ -6,7 +6,7 @@ ghost use Rattle.space_check.specs.Session.{IsSession};
 ghost use Rattle.xscrub.specs.Image.{checked_outcome};
 ghost use Rattle.xscrub.specs.Judged.{IsJudged, JudgeCause, TellsOfImage, judgement_outcome};
 
-use crate::last_line::LastLine;
+use crate::last_lines::LastLine;
 use blk_device::{Device, DeviceFailed, Region};
 use byte_fields::{Block, Steps};
 use fs_model::Entry;

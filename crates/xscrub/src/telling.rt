@@ -10,7 +10,7 @@ ghost use Rattle.xscrub.specs.LastLines.{is_fixed, last_line_of};
 ghost use Rattle.xscrub.specs.Shown.{StopsAt, IsLineShown, EndsWith, last_text};
 
 use crate::ending::{Finding, Status, Told};
-use crate::last_line::{LastLine, fixed_line, last_line};
+use crate::last_lines::{LastLine, fixed_line, last_line};
 use blk_device::{Sink, SinkFailed, put_all};
 use fs_model::{Entry, Verdict};
 use run_text::line;

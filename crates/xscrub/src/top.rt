@@ -8,7 +8,7 @@ use crate::command::{Command, command_of};
 use crate::ending::Finding;
 use crate::host::{Host, OpenFault, Purpose};
 use crate::judging::{JudgeFault, Judgement, judge};
-use crate::last_line::LastLine;
+use crate::last_lines::LastLine;
 use crate::telling::tell;
 use fs_model::Entry;
 use std::alloc::Global;

@@ -1,0 +1,24 @@
+//! Tests of what no contract says: whole runs over images in memory, and the words that a person
+//! reads.
+#![tactic(auto)]
+
+#[cfg(test)]
+mod checks;
+#[cfg(test)]
+mod endings;
+#[cfg(test)]
+mod fresh;
+#[cfg(test)]
+mod heads;
+#[cfg(test)]
+mod lines;
+#[cfg(test)]
+mod refusals;
+#[cfg(test)]
+mod runs;
+#[cfg(test)]
+mod spaces;
+#[cfg(test)]
+mod trees;
+#[cfg(test)]
+mod unreadable;

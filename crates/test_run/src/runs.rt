@@ -1,0 +1,51 @@
+//! Runs of the whole program over a host in memory.
+use std::alloc::{AllocError, Global};
+use std::collections::BTreeMap;
+use std::process::Abort;
+use std::test::Fail;
+use xscrub::{MemHost, MemImage, RunEnd, fsck_main};
+
+/// Runs the words over a host whose one image has the name `a.img`, and of whose calls of `put`
+/// those of these numbers fail.
+pub(crate) fn run_words(
+    alloc: Global,
+    words: &[&str],
+    image: MemImage,
+    failing_puts: Vec<u64>,
+) -> Result<(RunEnd, MemHost), AllocError> {
+    let mut texts = Vec::new(alloc);
+    for word in words {
+        texts.push(String::from_str(alloc, word)?)?;
+    }
+    let mut images = BTreeMap::new(alloc);
+    images.insert(String::from_str(alloc, "a.img")?, image)?;
+    let mut host = MemHost::new(alloc, images, failing_puts);
+    let end = fsck_main(alloc, &mut host, texts.as_slice());
+    Ok((end, host))
+}
+
+/// Asserts how a run ended and what it reported.
+pub(crate) fn expect_end<R: Abort>(
+    rt: &R,
+    end: &RunEnd,
+    host: &MemHost,
+    status: u8,
+    report: &str,
+) -> Result<(), Fail> {
+    let shown = str::from_utf8(host.report.as_slice())?;
+    assert_eq!(rt; shown, report);
+    assert_eq!(rt; end.status, status, "after {report}");
+    Ok(())
+}
+
+/// Asserts how a check of this image ends and what it reports.
+pub(crate) fn expect_check<R: Abort + AllocGlobal>(
+    rt: &R,
+    image: MemImage,
+    status: u8,
+    report: &str,
+) -> Result<(), Fail> {
+    let words = ["check", "a.img"];
+    let (end, host) = run_words(rt.alloc(), &words, image, Vec::new(rt.alloc()))?;
+    expect_end(rt, &end, &host, status, report)
+}

@@ -1,0 +1,25 @@
+//! The top call over any host: checks an XFS version 5 image, which is the free space and the
+//! reference counts of each group against its reverse mapping btree, and reports what was found.
+#![tactic(auto)]
+
+mod asked;
+mod command;
+mod ending;
+mod file_host;
+mod host;
+mod judging;
+mod last_lines;
+mod mem_host;
+mod telling;
+mod top;
+
+pub use crate::asked::DeviceAsked;
+pub use crate::command::{Command, command_of};
+pub use crate::ending::{Finding, Status, Told};
+pub use crate::file_host::FileHost;
+pub use crate::host::{Host, OpenFault, Purpose};
+pub use crate::judging::{JudgeFault, Judgement, judge};
+pub use crate::last_lines::{LastLine, fixed_line, last_line};
+pub use crate::mem_host::{MemHost, MemImage};
+pub use crate::telling::tell;
+pub use crate::top::{RunEnd, fsck_main};

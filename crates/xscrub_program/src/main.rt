@@ -1,0 +1,32 @@
+//! The program: hands the words of the command line and a host over real files to the check, and
+//! ends with its status.
+#![tactic(auto)]
+
+use std::io::ErrorKind;
+use std::process::ExitCode;
+use std::rt::Env;
+use std::{env, io};
+use xscrub::{FileHost, Finding, fsck_main, tell};
+
+// The words of the command line, without the program's name.
+fn words_of<R: Env + AllocGlobal>(rt: &R) -> io::Result<Vec<String>> {
+    let mut words = Vec::new(rt.alloc());
+    for word in env::args(rt)?.skip(1) {
+        words.push(word)?;
+    }
+    Ok(words)
+}
+
+fn main(rt: HostRuntime) -> ExitCode {
+    let alloc = rt.alloc();
+    let mut host = FileHost::new(alloc, &rt);
+    let status = match words_of(&rt) {
+        Ok(words) => fsck_main(alloc, &mut host, words.as_slice()).status,
+        Err(fault) if fault.kind() == ErrorKind::OutOfMemory => {
+            tell(alloc, &mut host, Finding::Memory).status.code()
+        }
+        // A word that isn't UTF-8 leaves a list of words that asks for nothing.
+        Err(_) => fsck_main(alloc, &mut host, &[]).status,
+    };
+    ExitCode::from(status)
+}
