@@ -9,7 +9,8 @@ use crate::record::Call;
 use byte_fields::Block;
 
 /// What a crash leaves of a write that no sync followed: the block as it was before, the block as
-/// it was written, or the first half of the new block before the second half of the old one.
+/// it was written, or the first half of the new block before the second half of the old one. These
+/// are three of the crash states, in which such a block may have any bytes.
 #[derive(Clone, Copy, Debug, PartialEq, Eq)]
 pub enum Unsynced {
     Absent,

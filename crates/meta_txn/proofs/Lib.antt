@@ -1,3 +1,4 @@
+pub mod BatchLemmas
 pub mod EnterLemmas
 pub mod JoinedLaws
 pub mod ListLemmas

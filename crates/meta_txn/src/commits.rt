@@ -1,20 +1,22 @@
 // A batch written and told.
-ghost use Rattle.std.specs.Prelude.{◌≡◌, ◌≤◌, ◌<◌, ◌+◌, ◌^◌, [], true, length, IsOk, IfErr, IfSome, OnOk, OnErr};
+ghost use Rattle.std.specs.Prelude.{◌≡◌, ◌≤◌, ◌<◌, ◌+◌, ◌^◌, ℕ, Bool, [], true, length, IsOk, IfErr, IfSome, OnOk, OnErr};
 ghost use Rattle.blk_cache.specs.Cache.{capacity_of, Agrees, AgreesTold};
 ghost use Rattle.blk_device.specs.Causes.{HasCause};
 ghost use Rattle.blk_device.specs.Contents.{Contents, Becomes};
 ghost use Rattle.blk_device.specs.Crash.{LeavesOnly};
 ghost use Rattle.blk_device.specs.declared.device.Region.TheVariants.{Image, Redo};
 ghost use Rattle.redo_area.specs.Area.{bytes_of, put_homes, with_batch};
-ghost use Rattle.redo_area.specs.Stages.{AtRest, Ends};
+ghost use Rattle.redo_area.specs.Recover.{StaysTold};
+ghost use Rattle.redo_area.specs.Stages.{AtRest, AtRestBut, Ends, EndsBut};
 ghost use Rattle.redo_area.specs.Table.{places, rises};
-ghost use Rattle.meta_txn.specs.Whole.{HoldsBatch, StandsForEither};
+ghost use Rattle.meta_txn.specs.Whole.{HoldsBatch, StandsForEither, StandsForEitherBut};
 
 use crate::fault::TxnFault;
 use crate::whole::write_whole;
 use blk_cache::BlkCache;
 use blk_device::{Device, DeviceFailed};
 use byte_fields::{Block, Steps};
+use redo_area::{MAX_BATCH, REDO_BLOCKS};
 use std::sync::ledger::Ledger;
 
 // Counts so many blocks as written.
@@ -46,19 +48,22 @@ fn write_some<D: Device>(
     cache: &mut BlkCache,
     batch: &[(u64, Block)],
 ) -> Result<(), DeviceFailed>
-    requires few { length batch.now ≤ 160 }
-    requires room { 162 ≤ D.blocks dev.old Redo }
+    requires few { length batch.now ≤ MAX_BATCH }
+    requires room { REDO_BLOCKS ≤ D.blocks dev.old Redo }
     requires some { 0 < length batch.now }
     requires rise { rises 0 (D.blocks dev.old Image) (places batch.now) ≡ true }
     requires agreed { AgreesTold cache.old (D.content dev.old) }
     ensures image { OnOk result (Becomes (D.content dev.old) (D.content dev.new) (HoldsBatch (bytes_of batch.now))) }
     ensures done { IfSome (D.content dev.old) (AtRest (D.may_hold_now dev.old)) → OnOk result (Becomes (D.content dev.old) (D.content dev.new) (λ m. Ends (with_batch (bytes_of batch.now) (m Image)) (D.may_hold_now dev.new))) }
     ensures any_moment { IfSome (D.content dev.old) (λ m. AtRest (D.may_hold_now dev.old) m → LeavesOnly D.clock D.may_have_held_since dev.old dev.new (StandsForEither (D.blocks dev.old Image) (m Image) (with_batch (bytes_of batch.now) (m Image)))) }
+    ensures done_but { (K : ℕ → Bool) → IfSome (D.content dev.old) (AtRestBut K (D.may_hold_now dev.old)) → OnOk result (Becomes (D.content dev.old) (D.content dev.new) (λ m. Ends (with_batch (bytes_of batch.now) (m Image)) (D.may_hold_now dev.new))) }
+    ensures any_moment_but { (K : ℕ → Bool) → IfSome (D.content dev.old) (λ m. AtRestBut K (D.may_hold_now dev.old) m → LeavesOnly D.clock D.may_have_held_since dev.old dev.new (StandsForEitherBut K (D.blocks dev.old Image) (m Image) (with_batch (bytes_of batch.now) (m Image)))) }
     ensures agrees { OnOk result (AgreesTold cache.new (D.content dev.new)) }
     ensures untold { OnErr result (cache.new ≡ cache.old) }
     ensures capacity { capacity_of cache.new ≡ capacity_of cache.old }
     ensures cause { HasCause (D.faults dev.old) (D.faults dev.new) result }
     ensures reads { D.reads dev.new ≡ D.reads dev.old }
+    ensures told { StaysTold (D.content dev.old) (D.content dev.new) }
     ensures sizes { D.blocks dev.new ≡ D.blocks dev.old }
 {
     write_whole(dev, batch)?;
@@ -75,13 +80,16 @@ pub fn write_batch<D: Device, L: Ledger>(
     batch: &[(u64, Block)],
     steps: &mut Steps<L>,
 ) -> Result<(), TxnFault>
-    requires few { length batch.now ≤ 160 }
-    requires room { 162 ≤ D.blocks dev.old Redo }
+    requires few { length batch.now ≤ MAX_BATCH }
+    requires room { REDO_BLOCKS ≤ D.blocks dev.old Redo }
     requires rise { rises 0 (D.blocks dev.old Image) (places batch.now) ≡ true }
     requires agreed { AgreesTold cache.old (D.content dev.old) }
     ensures image { OnOk result (Becomes (D.content dev.old) (D.content dev.new) (HoldsBatch (bytes_of batch.now))) }
     ensures done { IfSome (D.content dev.old) (AtRest (D.may_hold_now dev.old)) → OnOk result (Becomes (D.content dev.old) (D.content dev.new) (λ m. Ends (with_batch (bytes_of batch.now) (m Image)) (D.may_hold_now dev.new))) }
     ensures any_moment { IfSome (D.content dev.old) (λ m. AtRest (D.may_hold_now dev.old) m → LeavesOnly D.clock D.may_have_held_since dev.old dev.new (StandsForEither (D.blocks dev.old Image) (m Image) (with_batch (bytes_of batch.now) (m Image)))) }
+    ensures done_but { (K : ℕ → Bool) → 0 < length batch.now → IfSome (D.content dev.old) (AtRestBut K (D.may_hold_now dev.old)) → OnOk result (Becomes (D.content dev.old) (D.content dev.new) (λ m. Ends (with_batch (bytes_of batch.now) (m Image)) (D.may_hold_now dev.new))) }
+    ensures rest_but { (K : ℕ → Bool) → IfSome (D.content dev.old) (AtRestBut K (D.may_hold_now dev.old)) → OnOk result (Becomes (D.content dev.old) (D.content dev.new) (λ m. EndsBut K (with_batch (bytes_of batch.now) (m Image)) (D.may_hold_now dev.new))) }
+    ensures any_moment_but { (K : ℕ → Bool) → IfSome (D.content dev.old) (λ m. AtRestBut K (D.may_hold_now dev.old) m → LeavesOnly D.clock D.may_have_held_since dev.old dev.new (StandsForEitherBut K (D.blocks dev.old Image) (m Image) (with_batch (bytes_of batch.now) (m Image)))) }
     ensures nothing { bytes_of batch.now ≡ [] → IsOk result × (dev.new ≡ dev.old) × (cache.new ≡ cache.old) }
     ensures agrees { OnOk result (AgreesTold cache.new (D.content dev.new)) }
     ensures untold { OnErr result (cache.new ≡ cache.old) }
@@ -90,6 +98,7 @@ pub fn write_batch<D: Device, L: Ledger>(
     ensures kind { IfErr result (λ fault. fault ≡ TxnFault.Failed) }
     ensures cause { HasCause (D.faults dev.old) (D.faults dev.new) result }
     ensures reads { D.reads dev.new ≡ D.reads dev.old }
+    ensures told { StaysTold (D.content dev.old) (D.content dev.new) }
     ensures sizes { D.blocks dev.new ≡ D.blocks dev.old }
 {
     count_written(batch.len(), steps);

@@ -1,11 +1,12 @@
 // Lists of numbered blocks, and one block read.
-ghost use Rattle.std.specs.Prelude.{◌≡◌, ◌+◌, ◌≤◌, ◌<◌, length, vec_len, vec_capacity, is_some, if◌then◌else◌, IfOk, IfErr};
+ghost use Rattle.std.specs.Prelude.{◌≡◌, ◌+◌, ◌≤◌, ◌<◌, length, vec_len, vec_capacity, is_some, option_map, if◌then◌else◌, IfOk, IfErr};
 ghost use Rattle.blk_cache.specs.Cache.{kept, AgreesTold};
 ghost use Rattle.blk_device.specs.Causes.{HasCause, one_more};
 ghost use Rattle.blk_device.specs.Contents.{Holds};
 ghost use Rattle.blk_device.specs.Crash.{Elapses, NoMore};
 ghost use Rattle.blk_device.specs.declared.device.Region.TheVariants.{Image};
 ghost use Rattle.redo_area.specs.Area.{bytes_of};
+ghost use Rattle.meta_txn.specs.Joined.{bytes_at};
 ghost use Rattle.meta_txn.specs.Places.{found};
 
 use crate::fault::TxnFault;
@@ -42,6 +43,20 @@ pub fn find(blocks: &[(u64, Block)], at: u64) -> Result<usize, usize>
         rest = later;
     }
     Err(place)
+}
+
+/// A copy of the block with this number, if the list has one.
+pub fn copy_of(blocks: &[(u64, Block)], at: u64) -> Option<Block>
+    ensures { bytes_at at (bytes_of blocks.now) ≡ option_map (λ block. block.bytes) result }
+{
+    let mut rest = blocks;
+    while let Some(((number, block), later)) = rest.split_first() {
+        if *number == at {
+            return Some(*block);
+        }
+        rest = later;
+    }
+    None
 }
 
 /// Reads an image block through the cache, and counts it.

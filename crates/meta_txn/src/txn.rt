@@ -2,16 +2,14 @@ ghost use Rattle.std.specs.Prelude.{◌≡◌, ◌<◌};
 
 use crate::commits::write_batch;
 use crate::fault::TxnFault;
-use crate::list::{copy_over, find, load};
+use crate::list::{copy_of, copy_over, find, load};
 use blk_cache::{BlkCache, Memory};
 use blk_device::Device;
 use byte_fields::{Block, Steps};
+use redo_area::{MAX_BATCH, REDO_BLOCKS};
 use std::alloc::Global;
 use std::marker::Model;
 use std::sync::ledger::Ledger;
-
-// The most blocks that a batch has.
-const MOST: usize = 160;
 
 /// Changed image blocks that aren't written yet, and a copy of those that were joined at the last
 /// mark. Contracts see both as lists of block number and bytes, rising by number; blocks are
@@ -36,7 +34,7 @@ impl Model for Txn {
 }
 
 impl Txn {
-    ghost use Rattle.std.specs.Prelude.{◌≤◌, ◌+◌, ◌↔◌, ◌&&◌, ℕ, List, [], true, false, length, is_some, not, nat_lt, if◌then◌else◌, IsOk, IfOk, IfErr, IfSome, OnOk, OnErr, IsErrOf};
+    ghost use Rattle.std.specs.Prelude.{◌≤◌, ◌+◌, ◌↔◌, ◌&&◌, ℕ, Bool, List, [], true, false, length, is_some, option_map, not, nat_lt, if◌then◌else◌, IsOk, IfOk, IfErr, IfSome, OnOk, OnErr, IsErrOf};
     ghost use Rattle.std.specs.Borrow.{sem};
     ghost use Rattle.blk_cache.specs.Cache.{capacity_of, kept, AgreesTold};
     ghost use Rattle.blk_device.specs.Causes.{HasCause, Rose, one_more};
@@ -44,19 +42,20 @@ impl Txn {
     ghost use Rattle.blk_device.specs.Crash.{Elapses, LeavesOnly, NoMore};
     ghost use Rattle.blk_device.specs.declared.device.Region.TheVariants.{Image, Redo};
     ghost use Rattle.redo_area.specs.Area.{Batch};
-    ghost use Rattle.redo_area.specs.Stages.{AtRest, Ends};
+    ghost use Rattle.redo_area.specs.Recover.{StaysTold};
+    ghost use Rattle.redo_area.specs.Stages.{AtRest, AtRestBut, Ends, EndsBut};
     ghost use Rattle.meta_txn.specs.Entering.{IsAbsent, IsEntered, IsFound, IsReadIn};
-    ghost use Rattle.meta_txn.specs.Joined.{empty, reads_block, with_block, written, AreBelow, Finds, WouldBe};
+    ghost use Rattle.meta_txn.specs.Joined.{bytes_at, empty, reads_block, with_block, written, AreBelow, Finds, IsBatch, WouldBe};
     ghost use Rattle.meta_txn.specs.Lending.{LendsJoined, LendsPlace};
     ghost use Rattle.meta_txn.specs.Places.{bytes_in};
-    ghost use Rattle.meta_txn.specs.Whole.{StandsForEither};
+    ghost use Rattle.meta_txn.specs.Whole.{StandsForEither, StandsForEitherBut};
 
     /// An empty transaction, with room for 160 blocks and for as many at the mark.
     pub fn new(alloc: Global) -> Result<Self, Memory>
         ensures empty { IfOk result (λ txn. txn ≡ empty) }
     {
-        let blocks = Vec::with_capacity(alloc, MOST)?;
-        let marked = Vec::with_capacity(alloc, MOST)?;
+        let blocks = Vec::with_capacity(alloc, MAX_BATCH)?;
+        let marked = Vec::with_capacity(alloc, MAX_BATCH)?;
         Ok(Txn { blocks, marked })
     }
 
@@ -72,19 +71,61 @@ impl Txn {
 
     // Puts in a block whose number isn't joined, in its place.
     fn insert(&mut self, i: usize, at: u64, block: Block)
-        requires few { length self.old.blocks < 160 }
+        requires few { length self.old.blocks < MAX_BATCH }
         requires absent { IsAbsent at i self.old.blocks }
         ensures { self.new ≡ record self.old { blocks = with_block at block.bytes self.old.blocks } }
     {
         let _ = self.blocks.insert(i, (at, block));
     }
 
-    // How many blocks are joined.
-    fn count(&self) -> usize
+    /// How many blocks are joined. What is joined is always a batch, and so is what was at the mark:
+    /// at most 160 blocks of 4,096 bytes each, their numbers rising.
+    pub fn len(&self) -> usize
         ensures count { result ≡ length self.now.blocks }
-        ensures few { length self.now.blocks ≤ 160 }
+        ensures few { length self.now.blocks ≤ MAX_BATCH }
+        ensures batch { IsBatch self.now.blocks }
+        ensures marked { IsBatch self.now.marked }
     {
         self.blocks.len()
+    }
+
+    /// A copy of the block that is joined at this number; none exactly where none is.
+    pub fn joined(&self, at: u64) -> Option<Block>
+        ensures { bytes_at at self.now.blocks ≡ option_map (λ block. block.bytes) result }
+    {
+        copy_of(&self.blocks, at)
+    }
+
+    /// A look at the block at a number of the image, as the transaction has it: as it was joined, or
+    /// else read through the cache. It isn't joined by that. Answers Failed only where the device
+    /// failed.
+    pub fn peek<D: Device, L: Ledger>(
+        &self,
+        dev: &mut D,
+        cache: &mut BlkCache,
+        at: u64,
+        steps: &mut Steps<L>,
+    ) -> Result<Block, TxnFault>
+        requires inside { at < D.blocks dev.old Image }
+        requires agreed { AgreesTold cache.old (D.content dev.old) }
+        ensures bytes { IfOk result (λ block. Finds at self.now.blocks (D.content dev.old) block.bytes) }
+
+        // A block that is joined costs nothing, and any other is read through the cache.
+        ensures joined { is_some (bytes_at at self.now.blocks) ≡ true → IsOk result × (dev.new ≡ dev.old) × (cache.new ≡ cache.old) × (steps.new ≡ steps.old) }
+        ensures ticks { is_some (bytes_at at self.now.blocks) ≡ false → steps.new ≡ record steps.old { reads = steps.old.reads + 1 } }
+        ensures reads { is_some (bytes_at at self.now.blocks) ≡ false → D.reads dev.new ≡ (if is_some (kept cache.old at) then D.reads dev.old else one_more (D.reads dev.old)) }
+        ensures same { D.content dev.new ≡ D.content dev.old }
+        ensures crash { NoMore (D.may_hold_now dev.old) (D.may_hold_now dev.new) }
+        ensures time { Elapses (D.clock dev.old) (D.clock dev.new) (D.may_have_held_since dev.old) (D.may_have_held_since dev.new) (D.may_hold_now dev.new) }
+        ensures sizes { D.blocks dev.new ≡ D.blocks dev.old }
+        ensures kind { IfErr result (λ fault. fault ≡ TxnFault.Failed) }
+        ensures cause { HasCause (D.faults dev.old) (D.faults dev.new) result }
+        ensures agrees { AgreesTold cache.new (D.content dev.new) }
+    {
+        match self.joined(at) {
+            Some(block) => Ok(block),
+            None => load(dev, cache, at, steps),
+        }
     }
 
     // Where the block with this number stands, or as Err where it belongs.
@@ -109,10 +150,10 @@ impl Txn {
         requires agreed { AgreesTold cache.old (D.content dev.old) }
         ensures read { IfOk result (λ j. IsReadIn at j (D.content dev.old) self.old self.new) }
         ensures refused { OnErr result (self.new ≡ self.old) }
-        ensures too_many { (n : ℕ) → IsErrOf result (TxnFault.TooMany n) ↔ ((n ≡ length self.old.blocks + 1) × (160 < n)) }
-        ensures untouched { 160 ≤ length self.old.blocks → (dev.new ≡ dev.old) × (cache.new ≡ cache.old) × (steps.new ≡ steps.old) }
-        ensures ticks { length self.old.blocks < 160 → steps.new ≡ record steps.old { reads = steps.old.reads + 1 } }
-        ensures reads { length self.old.blocks < 160 → D.reads dev.new ≡ (if is_some (kept cache.old at) then D.reads dev.old else one_more (D.reads dev.old)) }
+        ensures too_many { (n : ℕ) → IsErrOf result (TxnFault.TooMany n) ↔ ((n ≡ length self.old.blocks + 1) × (MAX_BATCH < n)) }
+        ensures untouched { MAX_BATCH ≤ length self.old.blocks → (dev.new ≡ dev.old) × (cache.new ≡ cache.old) × (steps.new ≡ steps.old) }
+        ensures ticks { length self.old.blocks < MAX_BATCH → steps.new ≡ record steps.old { reads = steps.old.reads + 1 } }
+        ensures reads { length self.old.blocks < MAX_BATCH → D.reads dev.new ≡ (if is_some (kept cache.old at) then D.reads dev.old else one_more (D.reads dev.old)) }
         ensures same { D.content dev.new ≡ D.content dev.old }
         ensures crash { NoMore (D.may_hold_now dev.old) (D.may_hold_now dev.new) }
         ensures time { Elapses (D.clock dev.old) (D.clock dev.new) (D.may_have_held_since dev.old) (D.may_have_held_since dev.new) (D.may_hold_now dev.new) }
@@ -122,8 +163,8 @@ impl Txn {
         ensures later { D.faults dev.old ≤ D.faults dev.new }
         ensures agrees { AgreesTold cache.new (D.content dev.new) }
     {
-        let count = self.count();
-        if count >= MOST {
+        let count = self.len();
+        if count >= MAX_BATCH {
             return Err(TxnFault::TooMany(count as u64 + 1));
         }
         match load(dev, cache, at, steps) {
@@ -203,23 +244,29 @@ impl Txn {
         }
     }
 
-    /// Writes the joined blocks as one batch, and tells the cache. Where nothing waits in the redo
-    /// region and nothing is pending, a crash at any moment of it leaves the image as it was, or
-    /// with all of the joined blocks; after Ok it has them, and is durable. Answers Failed only
-    /// where the device failed. The transaction is empty afterwards, whatever the answer.
+    /// Writes the joined blocks as one batch, and tells the cache. Where no batch waits and all
+    /// writes are synced, a crash at any moment of it leaves contents that recovery turns into the
+    /// image before, or into that with all joined blocks; after Ok it has them, all synced. Where
+    /// blocks of the image (the set K) aren't synced, the same holds but for these, and after Ok
+    /// they are, unless nothing was joined. Answers Failed only where the device failed. The
+    /// transaction is empty afterwards, whatever the answer.
     pub fn commit<D: Device, L: Ledger>(
         &mut self,
         dev: &mut D,
         cache: &mut BlkCache,
         steps: &mut Steps<L>,
     ) -> Result<(), TxnFault>
-        requires room { 162 ≤ D.blocks dev.old Redo }
+        requires room { REDO_BLOCKS ≤ D.blocks dev.old Redo }
         requires inside { AreBelow (D.blocks dev.old Image) self.old.blocks }
         requires agreed { AgreesTold cache.old (D.content dev.old) }
         ensures image { OnOk result (Becomes (D.content dev.old) (D.content dev.new) (λ m n. n Image ≡ written (m Image) self.old)) }
         ensures done { IfSome (D.content dev.old) (AtRest (D.may_hold_now dev.old)) → OnOk result (Becomes (D.content dev.old) (D.content dev.new) (λ m. Ends (written (m Image) self.old) (D.may_hold_now dev.new))) }
         ensures any_moment { IfSome (D.content dev.old) (λ m. AtRest (D.may_hold_now dev.old) m → LeavesOnly D.clock D.may_have_held_since dev.old dev.new (StandsForEither (D.blocks dev.old Image) (m Image) (written (m Image) self.old))) }
+        ensures done_but { (K : ℕ → Bool) → 0 < length self.old.blocks → IfSome (D.content dev.old) (AtRestBut K (D.may_hold_now dev.old)) → OnOk result (Becomes (D.content dev.old) (D.content dev.new) (λ m. Ends (written (m Image) self.old) (D.may_hold_now dev.new))) }
+        ensures rest_but { (K : ℕ → Bool) → IfSome (D.content dev.old) (AtRestBut K (D.may_hold_now dev.old)) → OnOk result (Becomes (D.content dev.old) (D.content dev.new) (λ m. EndsBut K (written (m Image) self.old) (D.may_hold_now dev.new))) }
+        ensures any_moment_but { (K : ℕ → Bool) → IfSome (D.content dev.old) (λ m. AtRestBut K (D.may_hold_now dev.old) m → LeavesOnly D.clock D.may_have_held_since dev.old dev.new (StandsForEitherBut K (D.blocks dev.old Image) (m Image) (written (m Image) self.old))) }
         ensures emptied { self.new ≡ empty }
+        ensures batch { IsBatch self.old.blocks }
         ensures nothing { self.old.blocks ≡ [] → IsOk result × (dev.new ≡ dev.old) × (cache.new ≡ cache.old) }
         ensures agrees { OnOk result (AgreesTold cache.new (D.content dev.new)) }
         ensures untold { OnErr result (cache.new ≡ cache.old) }
@@ -228,6 +275,7 @@ impl Txn {
         ensures kind { IfErr result (λ fault. fault ≡ TxnFault.Failed) }
         ensures cause { HasCause (D.faults dev.old) (D.faults dev.new) result }
         ensures reads { D.reads dev.new ≡ D.reads dev.old }
+        ensures told { StaysTold (D.content dev.old) (D.content dev.new) }
         ensures sizes { D.blocks dev.new ≡ D.blocks dev.old }
     {
         let answer = write_batch(dev, cache, &self.blocks, steps);

@@ -12,8 +12,8 @@ use Rattle.redo_area.specs.Area.{Batch, waiting_batch, with_batch, after_crash, 
 use Rattle.blk_device.specs.Causes.{one_more}
 use Rattle.redo_area.specs.Counts.{raised, RaisedUpTo}
 use Rattle.redo_area.specs.Recover.{IsFound, IsSeen}
-use Rattle.redo_area.specs.Stages.{AtRest, IsInstalled, IsReady, IsWaiting, StandsFor}
-use Rattle.redo_area.proofs.AreaLaws.{after_open, homes_of_copies, behind_law, gate_law, homes_law}
+use Rattle.redo_area.specs.Stages.{AtRest, AtRestBut, IsInstalled, IsInstalledBut, IsReady, IsReadyBut, IsWaiting, IsWaitingBut, StandsFor, StandsForBut}
+use Rattle.redo_area.proofs.AreaLaws.{after_open, homes_of_copies, behind_law, gate_law, homes_law, behind_but, gate_but, homes_but}
 
 -- a change that is done and durable in its region has what follows from both
 pub ended : {T E : Type 0} (result : Result T E) (told now : Option Contents) (new : Contents → Type 0) (change : Contents → Contents) (r : Region) (P : Contents → Type 0) (Q : Contents → Contents → Type 0)
@@ -47,6 +47,31 @@ module _ {D : Type 0} (clock : D → ℕ) (held_since : D → ℕ → Contents �
       where_told told (λ m is done.
       weaken clock held_since old new (Reached AllButGate (may_hold old)) (StandsFor size (m Image)) run
       (λ c from. ⊎_elim (λ was. was) (λ with_it. record { image = with_it.image ∙ done.same; sound = with_it.sound }) (gate_law size (may_hold old) m done.quiet done.sound c from)))
+
+  -- the same but for the blocks in K
+  pub while_behind_but : (K : ℕ → Bool) → Keeps clock held_since may_hold BehindGate old new → IfSome told (λ m. AtRestBut K (may_hold old) m → LeavesOnly clock held_since old new (StandsForBut K size (m Image)))
+  while_behind_but K run =
+      where_told told (λ m is rest. weaken clock held_since old new (Reached BehindGate (may_hold old)) (StandsForBut K size (m Image)) run (behind_but K size (may_hold old) m rest.quiet rest.shut))
+
+  pub while_gate_but : (K : ℕ → Bool) (ps : Batch) → Keeps clock held_since may_hold AllButGate old new
+      → IfSome told (λ m. IsReadyBut K size ps (may_hold old) m → LeavesOnly clock held_since old new (λ c. StandsForBut K size (m Image) c ⊎ StandsForBut K size (with_batch ps (m Image)) c))
+  while_gate_but K ps run =
+      where_told told (λ m is ready.
+      weaken clock held_since old new (Reached AllButGate (may_hold old)) (λ c. StandsForBut K size (m Image) c ⊎ StandsForBut K size (with_batch ps (m Image)) c) run
+      (λ c from. subst (λ (l : Batch). StandsForBut K size (m Image) c ⊎ StandsForBut K size (with_batch l (m Image)) c) ready.stands (gate_but K size (may_hold old) m ready.quiet ready.sound c from)))
+
+  pub while_homes_but : (K : ℕ → Bool) (ps : Batch) → Keeps clock held_since may_hold (AllButHomes (homes_of ps)) old new
+      → IfSome told (λ m. IsWaitingBut K size ps (may_hold old) m → LeavesOnly clock held_since old new (StandsForBut K size (with_batch ps (m Image))))
+  while_homes_but K ps run =
+      where_told told (λ m is waits.
+      weaken clock held_since old new (Reached (AllButHomes (homes_of ps)) (may_hold old)) (StandsForBut K size (with_batch ps (m Image))) run
+      (homes_but K size (may_hold old) m waits.ready.quiet ps waits.opened waits.ready.stands waits.ready.sound))
+
+  pub while_closing_but : (K : ℕ → Bool) → Keeps clock held_since may_hold AllButGate old new → IfSome told (λ m. IsInstalledBut K size (may_hold old) m → LeavesOnly clock held_since old new (StandsForBut K size (m Image)))
+  while_closing_but K run =
+      where_told told (λ m is done.
+      weaken clock held_since old new (Reached AllButGate (may_hold old)) (StandsForBut K size (m Image)) run
+      (λ c from. ⊎_elim (λ was. was) (λ with_it. record { image = λ b out. with_it.image b out ∙ done.same b out; sound = with_it.sound }) (gate_but K size (may_hold old) m done.quiet done.sound c from)))
 
   pub while_recovering : (bytes : List ℕ) → table_fault size bytes ≡ None → IfSome told (IsFound bytes (may_hold old)) → Keeps clock held_since may_hold (AllButHomes (table_numbers bytes)) old new
       → IfSome told (λ m. LeavesOnly clock held_since old new (StandsFor size (after_crash m)))

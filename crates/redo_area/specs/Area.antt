@@ -41,6 +41,10 @@ with_batch (p ∷ ps) image = with_batch ps (λ b. if b == p.0 then p.1 else ima
 abbrev pub after_crash : Contents → Blocks
 after_crash c = if is_open c then with_batch (waiting_batch c) (c Image) else c Image
 
+-- two images are the same but for the blocks in K
+abbrev pub SameBut : (ℕ → Bool) → Blocks → Blocks → Type 0
+SameBut K image other = (b : ℕ) → K b ≡ false → image b ≡ other b
+
 -- the numbers and bytes of a batch
 abbrev pub bytes_of : List (ℕ × Block) → Batch
 bytes_of [] = []

@@ -2,7 +2,10 @@
 use Rattle.std.specs.Prelude.{◌≡◌, ◌⊎◌, ◌≤◌, ℕ, Bool, true, nat_lt, if◌then◌else◌, List, Option, Some, None, Result, Ok, Err, IsErrOf, ⊤}
 use Rattle.blk_device.specs.Causes.{Rose}
 use Rattle.blk_device.specs.declared.device.Region.TheVariants.{Redo}
-use Rattle.blk_device.specs.Contents.{Contents}
+use Rattle.blk_device.specs.Contents.{Contents, Becomes}
+use Rattle.blk_device.specs.Crash.{LeavesOnly, NoMore}
+use Rattle.blk_device.specs.declared.device.Device.{Ghosts}
+use Rattle.redo_area.specs.declared.TheConstants.{REDO_BLOCKS}
 use Rattle.redo_area.specs.declared.faults.RedoFault.{RedoFault}
 use Rattle.redo_area.specs.declared.faults.RedoFault.TheVariants.{Short, Count, Size, Place, Failed}
 use Rattle.redo_area.specs.Area.{after_crash, is_open}
@@ -11,7 +14,7 @@ use Rattle.redo_area.specs.Table.{table_fault}
 
 -- the first fault, by the sizes of redo region and image
 abbrev pub redo_fault : ℕ → ℕ → Contents → Option RedoFault
-redo_fault redo image m = if nat_lt redo 162 then Some Short else (if is_open m then table_fault image (m Redo 1) else None)
+redo_fault redo image m = if nat_lt redo REDO_BLOCKS then Some Short else (if is_open m then table_fault image (m Redo 1) else None)
 
 -- the answer, where the device didn't fail, tells the first fault, and without one whether a batch waits
 abbrev pub Answers : Option RedoFault → Bool → Result Bool RedoFault → Type 0
@@ -22,7 +25,17 @@ Answers fault waits (Err Count) = fault ≡ Some Count
 Answers fault waits (Err Size) = fault ≡ Some Size
 Answers fault waits (Err Place) = fault ≡ Some Place
 
--- what a crash might have left before, or what stands for the image that m stands for
+-- Read and synced at most: the device holds what it held, and a crash at any moment leaves what it might have left before.
+pub record OnlySettles {D : Type 0} (g : Ghosts D) (old new : D) : Type 0 where
+  pub same : g.content new ≡ g.content old
+  pub crash : NoMore (g.may_hold_now old) (g.may_hold_now new)
+  pub moments : LeavesOnly g.clock g.may_have_held_since old new (g.may_hold_now old)
+
+-- where content was told it is told, and else it isn't
+abbrev pub StaysTold : Option Contents → Option Contents → Type 0
+StaysTold old new = Becomes old new (λ m n. ⊤)
+
+-- what a crash might have left before, or contents that recovery turns into the image that it makes of m
 abbrev pub IsOldOrSame : ℕ → (Contents → Type 0) → Contents → Contents → Type 0
 IsOldOrSame size may_hold m c = may_hold c ⊎ StandsFor size (after_crash m) c
 

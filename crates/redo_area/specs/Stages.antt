@@ -1,8 +1,8 @@
 -- The stages of a commit, each with nothing pending on the device.
-use Rattle.std.specs.Prelude.{◌≡◌, ℕ, true, false, None}
+use Rattle.std.specs.Prelude.{◌≡◌, ℕ, Bool, true, false, None}
 use Rattle.blk_device.specs.declared.device.Region.TheVariants.{Image, Redo}
 use Rattle.blk_device.specs.Contents.{Contents}
-use Rattle.redo_area.specs.Area.{Blocks, Batch, after_crash, is_open, waiting_batch, with_batch}
+use Rattle.redo_area.specs.Area.{Blocks, Batch, SameBut, after_crash, is_open, waiting_batch, with_batch}
 use Rattle.redo_area.specs.Table.{table_fault}
 
 -- a crash leaves what is read
@@ -58,3 +58,52 @@ pub record Installs (size : ℕ) (batch : Batch) (may_hold : Contents → Type 0
 pub record Ends (blocks : Blocks) (may_hold : Contents → Type 0) (n : Contents) : Type 0 where
   pub image : n Image ≡ blocks
   pub rest : AtRest may_hold n
+
+-- The same stages while some blocks of the image, those in K, are written and not yet durable: a crash may leave
+-- anything in them.
+
+-- a crash leaves what is read, but for the blocks in K
+pub record IsQuietBut (K : ℕ → Bool) (may_hold : Contents → Type 0) (m : Contents) : Type 0 where
+  pub redo : (c : Contents) → may_hold c → c Redo ≡ m Redo
+  pub image : (c : Contents) → may_hold c → SameBut K (c Image) (m Image)
+
+-- A recovery of these contents finds no fault, and gives this image but for the blocks in K.
+pub record StandsForBut (K : ℕ → Bool) (size : ℕ) (blocks : Blocks) (c : Contents) : Type 0 where
+  pub image : SameBut K (after_crash c) blocks
+  pub sound : is_open c ≡ true → IsSound size c
+
+-- nothing waits
+pub record AtRestBut (K : ℕ → Bool) (may_hold : Contents → Type 0) (m : Contents) : Type 0 where
+  pub quiet : IsQuietBut K may_hold m
+  pub shut : is_open m ≡ false
+
+-- table and copies of this batch stand there, whatever the gate
+pub record IsReadyBut (K : ℕ → Bool) (size : ℕ) (batch : Batch) (may_hold : Contents → Type 0) (m : Contents) : Type 0 where
+  pub quiet : IsQuietBut K may_hold m
+  pub stands : waiting_batch m ≡ batch
+  pub sound : IsSound size m
+
+-- this batch waits
+pub record IsWaitingBut (K : ℕ → Bool) (size : ℕ) (batch : Batch) (may_hold : Contents → Type 0) (m : Contents) : Type 0 where
+  pub ready : IsReadyBut K size batch may_hold m
+  pub opened : is_open m ≡ true
+
+-- the batch that stands there is written in the image
+pub record IsInstalledBut (K : ℕ → Bool) (size : ℕ) (may_hold : Contents → Type 0) (m : Contents) : Type 0 where
+  pub quiet : IsQuietBut K may_hold m
+  pub same : SameBut K (with_batch (waiting_batch m) (m Image)) (m Image)
+  pub sound : IsSound size m
+
+pub record PreparesBut (K : ℕ → Bool) (size : ℕ) (batch : Batch) (may_hold : Contents → Type 0) (m n : Contents) : Type 0 where
+  pub image : n Image ≡ m Image
+  pub shut : is_open n ≡ false
+  pub ready : IsReadyBut K size batch may_hold n
+
+pub record OpensBut (K : ℕ → Bool) (size : ℕ) (batch : Batch) (may_hold : Contents → Type 0) (m n : Contents) : Type 0 where
+  pub image : n Image ≡ m Image
+  pub waits : IsWaitingBut K size batch may_hold n
+
+-- the image is this one, and nothing waits
+pub record EndsBut (K : ℕ → Bool) (blocks : Blocks) (may_hold : Contents → Type 0) (n : Contents) : Type 0 where
+  pub image : n Image ≡ blocks
+  pub rest : AtRestBut K may_hold n

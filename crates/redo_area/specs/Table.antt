@@ -6,6 +6,7 @@ use Rattle.byte_fields.specs.Fields.{field, with_field}
 use Rattle.byte_fields.specs.FirstFailing.{first_failing}
 use Rattle.byte_fields.specs.Zeros.{zeros}
 use Rattle.byte_fields.specs.declared.block.Block.{Block}
+use Rattle.redo_area.specs.declared.TheConstants.{MAX_BATCH}
 use Rattle.redo_area.specs.declared.faults.RedoFault.{RedoFault}
 use Rattle.redo_area.specs.declared.faults.RedoFault.TheVariants.{Count, Size, Place}
 
@@ -44,7 +45,7 @@ rises least size (n ∷ ns) = nat_le least n && (nat_lt n size && rises (n + 1) 
 
 -- a batch has 1 to 160 blocks
 unfoldable pub is_count : ℕ → Bool
-is_count n = nat_lt 0 n && nat_le n 160
+is_count n = nat_lt 0 n && nat_le n MAX_BATCH
 
 -- the first of a table's tests that fails, for an image of this size
 unfoldable pub table_fault : ℕ → List ℕ → Option RedoFault

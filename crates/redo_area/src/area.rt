@@ -1,29 +1,32 @@
-ghost use Rattle.std.specs.Prelude.{◌≡◌, ◌≤◌, ◌<◌, ◌+◌, ◌^◌, ◌⊎◌, ◌↔◌, ℕ, true, length, slice_index, IfSome, OnOk, IsErrOf};
+ghost use Rattle.std.specs.Prelude.{◌≡◌, ◌≤◌, ◌<◌, ◌+◌, ◌^◌, ◌⊎◌, ◌↔◌, ℕ, Bool, true, length, slice_index, IfSome, OnOk, IsErrOf};
 ghost use Rattle.blk_device.specs.Causes.{HasCause, Rose};
 ghost use Rattle.blk_device.specs.Contents.{map_told, put, Becomes};
 ghost use Rattle.blk_device.specs.Crash.{IsDurable, Keeps, LeavesOnly};
 ghost use Rattle.blk_device.specs.declared.device.Region.TheVariants.{Image, Redo};
 ghost use Rattle.redo_area.specs.Area.{Batch, put_copies, put_homes, homes_of, BehindGate, AllButGate, AllButHomes, bytes_of, gate_bytes, staged, with_batch};
-ghost use Rattle.redo_area.specs.Stages.{AtRest, Ends, Installs, IsInstalled, IsReady, IsWaiting, Opens, Prepares, StandsFor};
+ghost use Rattle.redo_area.specs.Stages.{AtRest, AtRestBut, Ends, EndsBut, Installs, IsInstalled, IsInstalledBut, IsReady, IsReadyBut, IsWaiting, IsWaitingBut, Opens, OpensBut, Prepares, PreparesBut, StandsFor, StandsForBut};
+ghost use Rattle.redo_area.specs.Recover.{StaysTold};
 ghost use Rattle.redo_area.specs.Table.{places, rises};
 
 use crate::faults::BatchFault;
 use crate::table::table_block;
+use crate::{FIRST_COPY, GATE_BLOCK, MAX_BATCH, REDO_BLOCKS, TABLE_BLOCK};
 use blk_device::{Device, DeviceFailed, Region};
 use byte_fields::Block;
 
 // Writes the copies of a batch from block 2 of the redo region on.
 fn write_copies<D: Device>(dev: &mut D, batch: &[(u64, Block)]) -> Result<(), DeviceFailed>
-    requires few { length batch.now ≤ 160 }
-    requires room { 162 ≤ D.blocks dev.old Redo }
-    ensures written { OnOk result (D.content dev.new ≡ map_told (put_copies batch.now 2) (D.content dev.old)) }
+    requires few { length batch.now ≤ MAX_BATCH }
+    requires room { REDO_BLOCKS ≤ D.blocks dev.old Redo }
+    ensures written { OnOk result (D.content dev.new ≡ map_told (put_copies batch.now FIRST_COPY) (D.content dev.old)) }
     ensures moments { Keeps D.clock D.may_have_held_since D.may_hold_now BehindGate dev.old dev.new }
+    ensures told { StaysTold (D.content dev.old) (D.content dev.new) }
     ensures sizes { D.blocks dev.new ≡ D.blocks dev.old }
     ensures cause { HasCause (D.faults dev.old) (D.faults dev.new) result }
     ensures reads { D.reads dev.new ≡ D.reads dev.old }
 {
     let mut rest = batch;
-    let mut at = 2;
+    let mut at = FIRST_COPY;
     while let Some(((_, block), later)) = rest.split_first() {
         dev.write(Region::Redo, at, block)?;
         at += 1;
@@ -37,6 +40,7 @@ fn write_homes<D: Device>(dev: &mut D, batch: &[(u64, Block)]) -> Result<(), Dev
     requires { rises 0 (D.blocks dev.old Image) (places batch.now) ≡ true }
     ensures written { OnOk result (D.content dev.new ≡ map_told (put_homes (bytes_of batch.now)) (D.content dev.old)) }
     ensures moments { Keeps D.clock D.may_have_held_since D.may_hold_now (AllButHomes (homes_of (bytes_of batch.now))) dev.old dev.new }
+    ensures told { StaysTold (D.content dev.old) (D.content dev.new) }
     ensures sizes { D.blocks dev.new ≡ D.blocks dev.old }
     ensures cause { HasCause (D.faults dev.old) (D.faults dev.new) result }
     ensures reads { D.reads dev.new ≡ D.reads dev.old }
@@ -62,57 +66,63 @@ fn gate_block(value: u8) -> Block
 
 // Writes the gate, and makes the redo region durable.
 fn write_gate<D: Device>(dev: &mut D, gate: &Block) -> Result<(), DeviceFailed>
-    requires { 162 ≤ D.blocks dev.old Redo }
+    requires { REDO_BLOCKS ≤ D.blocks dev.old Redo }
     ensures written { OnOk result (D.content dev.new ≡ map_told (put Redo 0 gate.now.bytes) (D.content dev.old)) }
     ensures durable { OnOk result (IsDurable Redo (D.content dev.new) (D.may_hold_now dev.new)) }
     ensures moments { Keeps D.clock D.may_have_held_since D.may_hold_now AllButGate dev.old dev.new }
+    ensures told { StaysTold (D.content dev.old) (D.content dev.new) }
     ensures sizes { D.blocks dev.new ≡ D.blocks dev.old }
     ensures cause { HasCause (D.faults dev.old) (D.faults dev.new) result }
     ensures reads { D.reads dev.new ≡ D.reads dev.old }
 {
-    dev.write(Region::Redo, 0, gate)?;
+    dev.write(Region::Redo, GATE_BLOCK, gate)?;
     dev.sync(Region::Redo)
 }
 
 // Writes table and copies, and makes the redo region durable.
 fn stage<D: Device>(dev: &mut D, batch: &[(u64, Block)]) -> Result<(), DeviceFailed>
-    requires few { length batch.now ≤ 160 }
-    requires room { 162 ≤ D.blocks dev.old Redo }
+    requires few { length batch.now ≤ MAX_BATCH }
+    requires room { REDO_BLOCKS ≤ D.blocks dev.old Redo }
     ensures written { OnOk result (D.content dev.new ≡ map_told (staged (D.blocks dev.old Image) batch.now) (D.content dev.old)) }
     ensures durable { OnOk result (IsDurable Redo (D.content dev.new) (D.may_hold_now dev.new)) }
     ensures moments { Keeps D.clock D.may_have_held_since D.may_hold_now BehindGate dev.old dev.new }
     ensures bound { D.blocks dev.old Image < 2 ^ 64 }
+    ensures told { StaysTold (D.content dev.old) (D.content dev.new) }
     ensures sizes { D.blocks dev.new ≡ D.blocks dev.old }
     ensures cause { HasCause (D.faults dev.old) (D.faults dev.new) result }
     ensures reads { D.reads dev.new ≡ D.reads dev.old }
 {
     let table = table_block(batch, dev.size(Region::Image));
-    dev.write(Region::Redo, 1, &table)?;
+    dev.write(Region::Redo, TABLE_BLOCK, &table)?;
     write_copies(dev, batch)?;
     dev.sync(Region::Redo)
 }
 
 /// Writes table and copies of a batch behind the gate, and makes them durable. The numbers of the
 /// batch count blocks of the image. Answers TooMany exactly where it has more than 160 blocks,
-/// and then nothing was written. Where nothing waits and nothing is pending, a crash during it
-/// leaves the image as it was.
+/// and then nothing was written. Where no batch waits and all writes are synced, a crash during it
+/// leaves contents that recovery turns into the image before; where blocks of the image (the set
+/// K) aren't synced, the same holds but for these.
 pub fn prepare<D: Device>(dev: &mut D, batch: &[(u64, Block)]) -> Result<(), BatchFault>
-    requires room { 162 ≤ D.blocks dev.old Redo }
+    requires room { REDO_BLOCKS ≤ D.blocks dev.old Redo }
     requires some { 0 < length batch.now }
     requires rise { rises 0 (D.blocks dev.old Image) (places batch.now) ≡ true }
     ensures written { OnOk result (D.content dev.new ≡ map_told (staged (D.blocks dev.old Image) batch.now) (D.content dev.old)) }
     ensures prepared { IfSome (D.content dev.old) (AtRest (D.may_hold_now dev.old)) → OnOk result (Becomes (D.content dev.old) (D.content dev.new) (Prepares (D.blocks dev.old Image) (bytes_of batch.now) (D.may_hold_now dev.new))) }
     ensures any_moment { IfSome (D.content dev.old) (λ m. AtRest (D.may_hold_now dev.old) m → LeavesOnly D.clock D.may_have_held_since dev.old dev.new (StandsFor (D.blocks dev.old Image) (m Image))) }
-    ensures too_many { (n : ℕ) → IsErrOf result (BatchFault.TooMany n) ↔ ((n ≡ length batch.now) × (160 < length batch.now)) }
-    ensures untouched { 160 < length batch.now → dev.new ≡ dev.old }
-    ensures few { OnOk result (length batch.now ≤ 160) }
+    ensures prepared_but { (K : ℕ → Bool) → IfSome (D.content dev.old) (AtRestBut K (D.may_hold_now dev.old)) → OnOk result (Becomes (D.content dev.old) (D.content dev.new) (PreparesBut K (D.blocks dev.old Image) (bytes_of batch.now) (D.may_hold_now dev.new))) }
+    ensures any_moment_but { (K : ℕ → Bool) → IfSome (D.content dev.old) (λ m. AtRestBut K (D.may_hold_now dev.old) m → LeavesOnly D.clock D.may_have_held_since dev.old dev.new (StandsForBut K (D.blocks dev.old Image) (m Image))) }
+    ensures too_many { (n : ℕ) → IsErrOf result (BatchFault.TooMany n) ↔ ((n ≡ length batch.now) × (MAX_BATCH < length batch.now)) }
+    ensures untouched { MAX_BATCH < length batch.now → dev.new ≡ dev.old }
+    ensures few { OnOk result (length batch.now ≤ MAX_BATCH) }
+    ensures told { StaysTold (D.content dev.old) (D.content dev.new) }
     ensures sizes { D.blocks dev.new ≡ D.blocks dev.old }
     ensures failed { IsErrOf result BatchFault.Failed → Rose (D.faults dev.old) (D.faults dev.new) }
     ensures calm { OnOk result (D.faults dev.new ≡ D.faults dev.old) }
     ensures later { D.faults dev.old ≤ D.faults dev.new }
     ensures reads { D.reads dev.new ≡ D.reads dev.old }
 {
-    if batch.len() > 160 {
+    if batch.len() > MAX_BATCH {
         return Err(BatchFault::TooMany(batch.len() as u64));
     }
     match stage(dev, batch) {
@@ -122,14 +132,19 @@ pub fn prepare<D: Device>(dev: &mut D, batch: &[(u64, Block)]) -> Result<(), Bat
 }
 
 /// Opens the gate, and makes it durable: from Ok on the batch waits that table and copies give.
-/// Where they stand there and nothing is pending, a crash during it leaves the image as it was,
-/// or with the whole batch.
+/// Where they stand there and all writes are synced, a crash during it leaves contents that
+/// recovery turns into the image before, or into that with the whole batch; where blocks of the
+/// image (the set K) aren't synced, the same holds but for these.
 pub fn open_gate<D: Device>(dev: &mut D) -> Result<(), DeviceFailed>
-    requires { 162 ≤ D.blocks dev.old Redo }
+    requires { REDO_BLOCKS ≤ D.blocks dev.old Redo }
     ensures written { OnOk result (D.content dev.new ≡ map_told (put Redo 0 (gate_bytes 1)) (D.content dev.old)) }
     ensures opened { (batch : Batch) → IfSome (D.content dev.old) (IsReady (D.blocks dev.old Image) batch (D.may_hold_now dev.old)) → OnOk result (Becomes (D.content dev.old) (D.content dev.new) (Opens (D.blocks dev.old Image) batch (D.may_hold_now dev.new))) }
     ensures any_moment { (batch : Batch) → IfSome (D.content dev.old) (λ m. IsReady (D.blocks dev.old Image) batch (D.may_hold_now dev.old) m → LeavesOnly D.clock D.may_have_held_since dev.old dev.new
         (λ c. StandsFor (D.blocks dev.old Image) (m Image) c ⊎ StandsFor (D.blocks dev.old Image) (with_batch batch (m Image)) c)) }
+    ensures opened_but { (K : ℕ → Bool) (batch : Batch) → IfSome (D.content dev.old) (IsReadyBut K (D.blocks dev.old Image) batch (D.may_hold_now dev.old)) → OnOk result (Becomes (D.content dev.old) (D.content dev.new) (OpensBut K (D.blocks dev.old Image) batch (D.may_hold_now dev.new))) }
+    ensures any_moment_but { (K : ℕ → Bool) (batch : Batch) → IfSome (D.content dev.old) (λ m. IsReadyBut K (D.blocks dev.old Image) batch (D.may_hold_now dev.old) m → LeavesOnly D.clock D.may_have_held_since dev.old dev.new
+        (λ c. StandsForBut K (D.blocks dev.old Image) (m Image) c ⊎ StandsForBut K (D.blocks dev.old Image) (with_batch batch (m Image)) c)) }
+    ensures told { StaysTold (D.content dev.old) (D.content dev.new) }
     ensures sizes { D.blocks dev.new ≡ D.blocks dev.old }
     ensures cause { HasCause (D.faults dev.old) (D.faults dev.new) result }
     ensures reads { D.reads dev.new ≡ D.reads dev.old }
@@ -138,15 +153,19 @@ pub fn open_gate<D: Device>(dev: &mut D) -> Result<(), DeviceFailed>
 }
 
 /// Writes the blocks of the batch to their places in the image, and makes them durable. Where
-/// this batch waits and nothing is pending, a crash during it leaves the image with the whole
-/// batch.
+/// this batch waits and all writes are synced, a crash during it leaves contents that recovery
+/// turns into the image with the whole batch; where blocks of the image (the set K) aren't synced,
+/// the same holds but for these, and after Ok they are.
 pub fn install<D: Device>(dev: &mut D, batch: &[(u64, Block)]) -> Result<(), DeviceFailed>
-    requires room { 162 ≤ D.blocks dev.old Redo }
+    requires room { REDO_BLOCKS ≤ D.blocks dev.old Redo }
     requires some { 0 < length batch.now }
     requires rise { rises 0 (D.blocks dev.old Image) (places batch.now) ≡ true }
     ensures written { OnOk result (D.content dev.new ≡ map_told (put_homes (bytes_of batch.now)) (D.content dev.old)) }
     ensures installed { IfSome (D.content dev.old) (IsWaiting (D.blocks dev.old Image) (bytes_of batch.now) (D.may_hold_now dev.old)) → OnOk result (Becomes (D.content dev.old) (D.content dev.new) (Installs (D.blocks dev.old Image) (bytes_of batch.now) (D.may_hold_now dev.new))) }
     ensures any_moment { IfSome (D.content dev.old) (λ m. IsWaiting (D.blocks dev.old Image) (bytes_of batch.now) (D.may_hold_now dev.old) m → LeavesOnly D.clock D.may_have_held_since dev.old dev.new (StandsFor (D.blocks dev.old Image) (with_batch (bytes_of batch.now) (m Image)))) }
+    ensures installed_but { (K : ℕ → Bool) → IfSome (D.content dev.old) (IsWaitingBut K (D.blocks dev.old Image) (bytes_of batch.now) (D.may_hold_now dev.old)) → OnOk result (Becomes (D.content dev.old) (D.content dev.new) (Installs (D.blocks dev.old Image) (bytes_of batch.now) (D.may_hold_now dev.new))) }
+    ensures any_moment_but { (K : ℕ → Bool) → IfSome (D.content dev.old) (λ m. IsWaitingBut K (D.blocks dev.old Image) (bytes_of batch.now) (D.may_hold_now dev.old) m → LeavesOnly D.clock D.may_have_held_since dev.old dev.new (StandsForBut K (D.blocks dev.old Image) (with_batch (bytes_of batch.now) (m Image)))) }
+    ensures told { StaysTold (D.content dev.old) (D.content dev.new) }
     ensures sizes { D.blocks dev.new ≡ D.blocks dev.old }
     ensures cause { HasCause (D.faults dev.old) (D.faults dev.new) result }
     ensures reads { D.reads dev.new ≡ D.reads dev.old }
@@ -155,13 +174,17 @@ pub fn install<D: Device>(dev: &mut D, batch: &[(u64, Block)]) -> Result<(), Dev
     dev.sync(Region::Image)
 }
 
-/// Closes the gate, and makes it durable: from Ok on nothing waits. Where the batch is written
-/// and nothing is pending, a crash during it leaves the image as it is.
+/// Closes the gate, and makes it durable: from Ok on no batch waits. Where the batch is written
+/// and all writes are synced, a crash during it leaves contents that recovery turns into the image
+/// as it is; where blocks of the image (the set K) aren't synced, the same holds but for these.
 pub fn close_gate<D: Device>(dev: &mut D) -> Result<(), DeviceFailed>
-    requires { 162 ≤ D.blocks dev.old Redo }
+    requires { REDO_BLOCKS ≤ D.blocks dev.old Redo }
     ensures written { OnOk result (D.content dev.new ≡ map_told (put Redo 0 (gate_bytes 0)) (D.content dev.old)) }
     ensures ended { IfSome (D.content dev.old) (IsInstalled (D.blocks dev.old Image) (D.may_hold_now dev.old)) → OnOk result (Becomes (D.content dev.old) (D.content dev.new) (λ m. Ends (m Image) (D.may_hold_now dev.new))) }
     ensures any_moment { IfSome (D.content dev.old) (λ m. IsInstalled (D.blocks dev.old Image) (D.may_hold_now dev.old) m → LeavesOnly D.clock D.may_have_held_since dev.old dev.new (StandsFor (D.blocks dev.old Image) (m Image))) }
+    ensures ended_but { (K : ℕ → Bool) → IfSome (D.content dev.old) (IsInstalledBut K (D.blocks dev.old Image) (D.may_hold_now dev.old)) → OnOk result (Becomes (D.content dev.old) (D.content dev.new) (λ m. EndsBut K (m Image) (D.may_hold_now dev.new))) }
+    ensures any_moment_but { (K : ℕ → Bool) → IfSome (D.content dev.old) (λ m. IsInstalledBut K (D.blocks dev.old Image) (D.may_hold_now dev.old) m → LeavesOnly D.clock D.may_have_held_since dev.old dev.new (StandsForBut K (D.blocks dev.old Image) (m Image))) }
+    ensures told { StaysTold (D.content dev.old) (D.content dev.new) }
     ensures sizes { D.blocks dev.new ≡ D.blocks dev.old }
     ensures cause { HasCause (D.faults dev.old) (D.faults dev.new) result }
     ensures reads { D.reads dev.new ≡ D.reads dev.old }

@@ -3,6 +3,7 @@ ghost use Rattle.std.specs.Prelude.{◌≡◌, ◌≤◌, ◌+◌, ◌*◌, ◌&
 ghost use Rattle.redo_area.specs.Recover.{IsOfTable};
 ghost use Rattle.redo_area.specs.Table.{numbers, places, put_numbers, rises, is_count, table_bytes, table_count, table_fault, table_numbers, table_size};
 
+use crate::MAX_BATCH;
 use crate::faults::RedoFault;
 use byte_fields::{Block, get_u32, get_u64, put_u32, put_u64};
 
@@ -24,7 +25,7 @@ fn write_numbers(bytes: &mut [u8], batch: &[(u64, Block)])
 /// The table of a batch, for an image of this many blocks.
 #[tactic(auto, unfolding(crate::specs::Table::table_bytes))]
 pub fn table_block(batch: &[(u64, Block)], size: u64) -> Block
-    requires { length batch.now ≤ 160 }
+    requires { length batch.now ≤ MAX_BATCH }
     ensures { result.bytes ≡ table_bytes size (places batch.now) }
 {
     let mut block = Block::zeroed();
@@ -43,7 +44,7 @@ pub fn is_placed(number: u64, least: u64, size: u64) -> bool
 
 // Whether so many numbers from byte 16 on rise, each below the size.
 fn do_numbers_rise(bytes: &[u8], count: u32, size: u64) -> bool
-    requires few { count ≤ 160 }
+    requires few { count ≤ MAX_BATCH }
     requires long { 1296 ≤ length bytes.now }
     ensures { result ≡ rises 0 size (numbers count (drop 16 bytes.now)) }
 {
@@ -82,14 +83,14 @@ fn size_of(bytes: &[u8]) -> u64
 #[tactic(auto, unfolding(crate::specs::Table::is_count))]
 fn is_batch_count(count: u32) -> bool
     ensures test { result ≡ is_count count }
-    ensures few { result ≡ true → count ≤ 160 }
+    ensures few { result ≡ true → count ≤ MAX_BATCH }
 {
-    count > 0 && count <= 160
+    count > 0 && count <= MAX_BATCH as u32
 }
 
 #[tactic(auto, unfolding(crate::specs::Table::table_numbers))]
 fn does_rise(bytes: &[u8], size: u64) -> bool
-    requires few { table_count bytes.now ≤ 160 }
+    requires few { table_count bytes.now ≤ MAX_BATCH }
     requires long { 1296 ≤ length bytes.now }
     ensures { result ≡ rises 0 size (table_numbers bytes.now) }
 {

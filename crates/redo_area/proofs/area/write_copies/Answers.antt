@@ -5,6 +5,7 @@ use Rattle.blk_device.specs.declared.device.Region.TheVariants.{Redo}
 use Rattle.blk_device.proofs.Moments.{write_keeps, then_keeps}
 use Rattle.blk_device.proofs.Told.{map_twice}
 use Rattle.redo_area.specs.Area.{put_copies, BehindGate}
+use Rattle.redo_area.proofs.ToldLemmas.{told_doubted, told_mapped, told_on}
 use Rattle.redo_area.proofs.area.write_copies.Goals as goal
 
 pub returns-in_err-write-clause-moments : goal.returns-in_err-write-clause-moments
@@ -37,3 +38,10 @@ loop-block-preserved g c =
       faults = c.in_ok-write.ensures.cause.calm ∙ s.invariant.faults;
       reads = c.write.ensures.reads ∙ s.invariant.reads;
     }
+
+pub returns-in_err-write-clause-told : goal.returns-in_err-write-clause-told
+returns-in_err-write-clause-told g c =
+    let d = g.D.Device in
+    let s = c.loop-block in
+    told_on (d.content c.args.dev.now) (d.content s.dev) (d.content c.write.new.self) (told_mapped (put_copies s.rest.now s.at) (put_copies c.args.batch.now 2) (d.content c.args.dev.now) (d.content s.dev) s.invariant.content)
+    (told_doubted Redo s.at (d.content s.dev) (d.content c.write.new.self) c.write.ensures.doubt)

@@ -9,6 +9,7 @@ use Rattle.redo_area.specs.Area.{put_homes, homes_of, bytes_of, AllButHomes, Mis
 use Rattle.redo_area.specs.Table.{places}
 use Rattle.redo_area.proofs.AreaLaws.{homes_of_bytes}
 use Rattle.redo_area.proofs.TableLemmas.{rises_first, hits_first}
+use Rattle.redo_area.proofs.ToldLemmas.{told_doubted, told_mapped, told_on}
 use Rattle.redo_area.proofs.area.write_homes.Goals as goal
 
 pub write-requires : goal.write-requires
@@ -57,3 +58,10 @@ loop-number-preserved g c =
       faults = c.in_ok-write.ensures.cause.calm ∙ s.invariant.faults;
       reads = c.write.ensures.reads ∙ s.invariant.reads;
     }
+
+pub returns-in_err-write-clause-told : goal.returns-in_err-write-clause-told
+returns-in_err-write-clause-told g c =
+    let d = g.D.Device in
+    let s = c.loop-number in
+    told_on (d.content c.args.dev.now) (d.content s.dev) (d.content c.write.new.self) (told_mapped (put_homes (bytes_of s.rest.now)) (put_homes (bytes_of c.args.batch.now)) (d.content c.args.dev.now) (d.content s.dev) s.invariant.content)
+    (told_doubted Image c.in-Some.field-0-0.now.0 (d.content s.dev) (d.content c.write.new.self) c.write.ensures.doubt)

@@ -9,6 +9,7 @@ use Rattle.redo_area.specs.Table.{table_numbers}
 use Rattle.redo_area.proofs.AreaLaws.{recovered_law}
 use Rattle.redo_area.proofs.Steps.{always, durable_now, ended, while_recovering}
 use Rattle.redo_area.proofs.TableLemmas.{sound_table}
+use Rattle.redo_area.proofs.ToldLemmas.{told_on, told_same}
 use Rattle.redo_area.proofs.recovery.install_waiting.Goals as goal
 
 pub write_waiting-requires-clause-few : goal.write_waiting-requires-clause-few
@@ -51,3 +52,8 @@ returns-clause-installed g c =
 
 pub returns-clause-written : goal.returns-clause-written
 returns-clause-written g c = always c.sync.result (c.sync.ensures.same ∙ c.in_ok-write_waiting.ensures.written)
+
+pub returns-clause-told : goal.returns-clause-told
+returns-clause-told g c =
+    let d = g.D.Device in
+    told_on (d.content c.args.dev.now) (d.content c.write_waiting.new.dev) (d.content c.sync.new.self) c.write_waiting.ensures.told (told_same (d.content c.write_waiting.new.dev) (d.content c.sync.new.self) c.sync.ensures.same)

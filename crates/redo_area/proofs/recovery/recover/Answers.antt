@@ -5,9 +5,6 @@ use Rattle.redo_area.specs.Recover.{IsSeen}
 use Rattle.redo_area.proofs.Steps.{not_raised, raised_both, seen_open, seen_shut}
 use Rattle.redo_area.proofs.recovery.recover.Goals as goal
 
-pub returns-then-size-lt162-clause-reads : goal.returns-then-size-lt162-clause-reads
-returns-then-size-lt162-clause-reads g c = not_raised (g.D.Device.reads c.args.dev.now) (g.D.Device.reads c.args.dev.now) 162 refl
-
 pub returns-in_err-finish-clause-reads : goal.returns-in_err-finish-clause-reads
 returns-in_err-finish-clause-reads g c = raised_both (g.D.Device.reads c.args.dev.now) (g.D.Device.reads c.look.new.dev) (g.D.Device.reads c.finish.new.dev) 2 160 c.look.ensures.reads c.finish.ensures.reads
 

@@ -7,6 +7,7 @@ use Rattle.redo_area.specs.Area.{AllButHomes, Misses, put_waiting}
 use Rattle.redo_area.specs.Table.{numbers, table_numbers}
 use Rattle.redo_area.proofs.Steps.{copied, raised_more}
 use Rattle.redo_area.proofs.TableLemmas.{numbers_more, rises_first, hits_first}
+use Rattle.redo_area.proofs.ToldLemmas.{told_doubted, told_mapped, told_on, told_same}
 use Rattle.redo_area.proofs.recovery.write_waiting.Goals as goal
 
 pub returns-in_err-read-clause-moments : goal.returns-in_err-read-clause-moments
@@ -86,3 +87,21 @@ pub returns-in_err-write-clause-reads : goal.returns-in_err-write-clause-reads
 returns-in_err-write-clause-reads g c =
     let s = c.loop-left in
     (s.invariant.reads.0 + 1, omega (arith, s.invariant.reads.1, s.invariant.count, c.requires.few, c.loop-left-test.true), c.write.ensures.reads ∙ raised_more (g.D.Device.reads c.args.dev.now) s.invariant.reads.0 (g.D.Device.reads s.dev) (g.D.Device.reads c.read.new.self) s.invariant.reads.2 c.read.ensures.reads)
+
+pub returns-in_err-read-clause-told : goal.returns-in_err-read-clause-told
+returns-in_err-read-clause-told g c =
+    let d = g.D.Device in
+    let s = c.loop-left in
+    let old = d.content c.args.dev.now in
+    told_on old (d.content s.dev) (d.content c.read.new.self) (told_mapped (put_waiting (numbers s.left (drop s.at c.args.table.now.bytes)) s.place) (put_waiting (table_numbers c.args.table.now.bytes) 2) old (d.content s.dev) s.invariant.content)
+    (told_same (d.content s.dev) (d.content c.read.new.self) c.read.ensures.same)
+
+pub returns-in_err-write-clause-told : goal.returns-in_err-write-clause-told
+returns-in_err-write-clause-told g c =
+    let d = g.D.Device in
+    let s = c.loop-left in
+    let old = d.content c.args.dev.now in
+    told_on old (d.content c.read.new.self) (d.content c.write.new.self)
+    (told_on old (d.content s.dev) (d.content c.read.new.self) (told_mapped (put_waiting (numbers s.left (drop s.at c.args.table.now.bytes)) s.place) (put_waiting (table_numbers c.args.table.now.bytes) 2) old (d.content s.dev) s.invariant.content)
+    (told_same (d.content s.dev) (d.content c.read.new.self) c.read.ensures.same))
+    (told_doubted Image c.get_u64-number.result (d.content c.read.new.self) (d.content c.write.new.self) c.write.ensures.doubt)
