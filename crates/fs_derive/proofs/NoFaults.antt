@@ -7,10 +7,7 @@ use Rattle.fs_model.specs.declared.fault.Fault.{Fault}
 use Rattle.fs_model.specs.declared.fault.Fault.TheVariants as faulty
 use Rattle.sblock.specs.Blocks.{IsRising}
 use Rattle.sblock.specs.declared.kind.Kind.{Kind}
-use Rattle.sblock.specs.declared.kind.Kind.TheVariants.{Bno, Cnt, Rmap, Refc, Ino, Fino}
 use Rattle.xref_scrub.proofs.DifferenceLemmas.{none_exactly_if_equal}
-use Rattle.xref_scrub.specs.ShownLaws.{exact_bno, exact_cnt, exact_rmap, exact_refc, exact_ino, exact_fino}
-use Rattle.xref_scrub.specs.Shown.{IsExact}
 use Rattle.fs_state.specs.Kinds.{RecOf, form_of}
 use Rattle.fs_state.specs.State.{State, Reading, Readable, Unreadable, recs_of}
 use Rattle.fs_state.proofs.Trees.{lawful_of}
@@ -19,14 +16,6 @@ use Rattle.fs_derive.specs.Faults.{index_faults, counter_fault, faults_of_kind, 
 use Rattle.fs_derive.specs.Kinds.{shown_of, kinds_of, counters_of}
 use Rattle.fs_derive.specs.Laws.{IsGoodTree, IsGoodCounter, EachTree, EachCounter, DoRise, NoFaultsExactly}
 
-exact_of : (k : Kind) → IsExact (shown_of k)
-exact_of Bno = exact_bno
-exact_of Cnt = exact_cnt
-exact_of Rmap = exact_rmap
-exact_of Refc = exact_refc
-exact_of Ino = exact_ino
-exact_of Fino = exact_fino
-
 -- ---- one tree
 
 no_fault : (f : Fault) → ◌≡◌ {A = List Fault} (f ∷ []) [] → ⊥
@@ -34,12 +23,12 @@ no_fault f e = cc
 
 good_from : (k : Kind) (derived : List (RecOf k)) (read : Reading (RecOf k)) → IsRising (form_of k) (recs_of read) → IsRising (form_of k) derived → index_faults k derived read ≡ [] → (blocks : List ℕ) × (read ≡ Readable derived blocks)
 good_from k derived (Readable recs blocks) rises derives none =
-    (blocks, ap (λ (rs : List (RecOf k)). Readable rs blocks) ((none_exactly_if_equal (form_of k) (lawful_of k) (shown_of k) (exact_of k) recs derived rises derives).0 none))
+    (blocks, ap (λ (rs : List (RecOf k)). Readable rs blocks) ((none_exactly_if_equal (form_of k) (lawful_of k) (shown_of k) recs derived rises derives).0 none))
 good_from k derived (Unreadable block fault claims) rises derives none = absurd (no_fault (faulty.Block k block fault) none)
 
 good_to : (k : Kind) (derived : List (RecOf k)) (read : Reading (RecOf k)) → IsRising (form_of k) derived → (blocks : List ℕ) → read ≡ Readable derived blocks → index_faults k derived read ≡ []
 good_to k derived read derives blocks e =
-    ap (index_faults k derived) e ∙ (none_exactly_if_equal (form_of k) (lawful_of k) (shown_of k) (exact_of k) derived derived derives derives).1 refl
+    ap (index_faults k derived) e ∙ (none_exactly_if_equal (form_of k) (lawful_of k) (shown_of k) derived derived derives derives).1 refl
 
 -- ---- one counter
 
