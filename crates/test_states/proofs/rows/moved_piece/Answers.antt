@@ -1,0 +1,10 @@
+use Rattle.std.specs.Prelude.{refl}
+use Rattle.std.proofs.Common.{arith}
+use Rattle.test_states.specs.Rows.{moved}
+use Rattle.test_states.proofs.Computing.{computing}
+use Rattle.test_states.proofs.Within.{refc_faults}
+use Rattle.test_states.proofs.rows.moved_piece.Goals as goal
+
+pub returns : goal.returns
+unfolding computing
+returns c = ((refl, refl), (refl, refl), (refl, refl), (refl, refc_faults moved 0 256 refl (omega arith)))
