@@ -5,6 +5,3 @@ mod cache;
 mod stored;
 
 pub use cache::{BlkCache, Memory};
-
-#[cfg(test)]
-mod tests;

@@ -21,6 +21,3 @@ pub use memory::MemDevice;
 pub use sink::{Sink, SinkFailed, put_all};
 pub use source::{Source, SourceFailed};
 pub use unsynced::Unsynced;
-
-#[cfg(test)]
-mod tests;

@@ -15,6 +15,3 @@ pub use fields::{
 };
 pub use plain::plain_crc32c;
 pub use steps::Steps;
-
-#[cfg(test)]
-mod tests;

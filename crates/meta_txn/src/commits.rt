@@ -72,8 +72,9 @@ fn write_some<D: Device>(
 }
 
 /// Writes a batch of at most 160 blocks whose numbers rise and count blocks of the image, counts
-/// them as written, and tells the cache. Of an empty one nothing is written. Where nothing waits
-/// and nothing is pending, a crash during it leaves the image as it was, or with the whole batch.
+/// them as written, and tells the cache. Of an empty one nothing is written. Where no batch waits
+/// and all writes are synced, a crash during it leaves contents that recovery turns into the image
+/// before, or into that with the whole batch.
 pub fn write_batch<D: Device, L: Ledger>(
     dev: &mut D,
     cache: &mut BlkCache,

@@ -11,6 +11,3 @@ mod whole;
 pub use fault::TxnFault;
 pub use laws::changes_one_block;
 pub use txn::Txn;
-
-#[cfg(test)]
-mod tests;

@@ -74,9 +74,10 @@ fn prepared<D: Device>(dev: &mut D, batch: &[(u64, Block)]) -> Result<(), Device
     }
 }
 
-/// Writes a batch of 1 to 160 blocks whose numbers rise and count blocks of the image. Where
-/// nothing waits and nothing is pending, a crash during it leaves the image as it was, or with the
-/// whole batch; after Ok it is with the batch, and durable.
+/// Writes a batch of 1 to 160 blocks whose numbers rise and count blocks of the image. Where no
+/// batch waits and all writes are synced, a crash during it leaves contents that recovery turns
+/// into the image before, or into that with the whole batch; after Ok it is with the batch, all
+/// synced.
 pub fn write_whole<D: Device>(dev: &mut D, batch: &[(u64, Block)]) -> Result<(), DeviceFailed>
     requires few { length batch.now ≤ MAX_BATCH }
     requires room { REDO_BLOCKS ≤ D.blocks dev.old Redo }

@@ -26,6 +26,3 @@ pub const TABLE_BLOCK: u64 = 1;
 
 /// The block of the redo region where the copies of a batch's blocks begin.
 pub const FIRST_COPY: u64 = 2;
-
-#[cfg(test)]
-mod tests;

@@ -1,10 +1,9 @@
-ghost use Rattle.std.specs.Prelude.{◌≡◌};
+ghost use Rattle.std.specs.Prelude.{◌≡◌, ◌&&◌, nat_le, nat_lt};
 ghost use Rattle.redo_area.specs.Table.{places, rises};
 
-use super::*;
-use crate::table::is_placed;
 use blk_device::{Device, FuseDevice, MemDevice, Region, Unsynced};
 use byte_fields::{Block, put_u32, put_u64};
+use redo_area::{BatchFault, RedoFault, close_gate, install, open_gate, prepare, recover, waiting};
 use std::alloc::{AllocError, Global};
 use std::test::Fail;
 
@@ -25,6 +24,13 @@ fn batch_of(alloc: Global, count: u8) -> Result<Vec<(u64, Block)>, AllocError> {
         batch.push((u64::from(i) + 20, filled(i.saturating_add(1))))?;
     }
     Ok(batch)
+}
+
+// Whether a number comes at its place: not below the least, and below the size.
+fn is_placed(number: u64, least: u64, size: u64) -> bool
+    ensures { result ≡ (nat_le least number && nat_lt number size) }
+{
+    number >= least && number < size
 }
 
 fn does_rise(batch: &[(u64, Block)], size: u64) -> bool

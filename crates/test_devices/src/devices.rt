@@ -1,4 +1,6 @@
-use super::*;
+use blk_device::{
+    Device, FileDevice, FuseDevice, MemDevice, MemSource, Region, Source, SourceFailed, Unsynced,
+};
 use byte_fields::Block;
 use std::alloc::{AllocError, Global};
 use std::fs::{File, Files, OpenFile};
@@ -110,18 +112,71 @@ fn a_fuse_passes_two_calls_and_fails_the_rest(rt: HostRuntime) -> Result<(), Fai
     Ok(())
 }
 
-// What a crash leaves of a synced write, of one that wasn't synced, and of one that failed.
-fn left_by(alloc: Global, choices: &[Unsynced]) -> Result<[Option<(u8, u8)>; 3], AllocError> {
+// A device with a write that was synced, one that wasn't, and one that failed.
+fn in_doubt(alloc: Global) -> Result<MemDevice, AllocError> {
     let mut device = MemDevice::new(alloc, 2, 2, [3u64].to_vec(alloc)?);
     write_at(&mut device, Region::Image, 0, 1);
     sync_of(&mut device, Region::Image);
     write_at(&mut device, Region::Image, 1, 2);
     write_at(&mut device, Region::Redo, 1, 3);
-    let mut left = device.crash_by(alloc, choices)?;
-    let synced = ends_at(&mut left, Region::Image, 0);
-    let unsynced = ends_at(&mut left, Region::Image, 1);
-    let failed = ends_at(&mut left, Region::Redo, 1);
-    Ok([synced, unsynced, failed])
+    Ok(device)
+}
+
+fn three_of(left: &mut MemDevice) -> [Option<(u8, u8)>; 3] {
+    [
+        ends_at(left, Region::Image, 0),
+        ends_at(left, Region::Image, 1),
+        ends_at(left, Region::Redo, 1),
+    ]
+}
+
+// What a crash leaves of the three by these choices.
+fn left_by(alloc: Global, choices: &[Unsynced]) -> Result<[Option<(u8, u8)>; 3], AllocError> {
+    let mut left = in_doubt(alloc)?.crash_by(alloc, choices)?;
+    Ok(three_of(&mut left))
+}
+
+// What a crash leaves of the three where these writes in doubt stand.
+fn kept_by(alloc: Global, keep: u64) -> Result<[Option<(u8, u8)>; 3], AllocError> {
+    let mut left = in_doubt(alloc)?.crash(alloc, keep)?;
+    Ok(three_of(&mut left))
+}
+
+#[test]
+fn a_crash_keeps_the_writes_whose_bits_are_set(rt: HostRuntime) -> Result<(), Fail> {
+    let alloc = rt.alloc();
+    assert_eq!(rt;
+        kept_by(alloc, 0)?,
+        [Some((1, 1)), Some((0, 0)), Some((0, 0))]
+    );
+    assert_eq!(rt;
+        kept_by(alloc, 1)?,
+        [Some((1, 1)), Some((2, 2)), Some((0, 0))]
+    );
+    assert_eq!(rt;
+        kept_by(alloc, 2)?,
+        [Some((1, 1)), Some((0, 0)), Some((3, 3))]
+    );
+    assert_eq!(rt;
+        kept_by(alloc, 7)?,
+        [Some((1, 1)), Some((2, 2)), Some((3, 3))]
+    );
+    Ok(())
+}
+
+#[test]
+fn a_source_gives_its_bytes_in_order(rt: HostRuntime) -> Result<(), Fail> {
+    let alloc = rt.alloc();
+    let mut source = MemSource::new(b"abcde".to_vec(alloc)?, [1u64].to_vec(alloc)?);
+    let mut into = [0; 3];
+    assert_eq!(rt; source.take(&mut into), Ok(3));
+    assert_eq!(rt; into, *b"abc");
+    assert_eq!(rt; source.take(&mut into), Err(SourceFailed));
+    assert_eq!(rt; source.take(&mut into), Ok(2));
+    assert_eq!(rt; into, *b"dec");
+    assert_eq!(rt; source.take(&mut into), Ok(0));
+    assert_eq!(rt; source.fault_count(), 1);
+    Ok(())
 }
 
 #[test]

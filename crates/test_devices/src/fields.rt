@@ -1,6 +1,6 @@
 ghost use Rattle.std.specs.Prelude.{◌≡◌, ◌+◌};
 
-use crate::{Block, Steps, crc32c, is_summed, plain_crc32c, put_sum, sum_at};
+use byte_fields::{Block, Steps, crc32c, is_summed, plain_crc32c, put_sum, sum_at};
 use std::marker::Brand;
 use std::sync::ledger::{Blank, Ledger};
 

@@ -1,5 +1,5 @@
 use Rattle.std.proofs.Common.{◌≡◌, length}
-use Rattle.byte_fields.proofs.tests.counted.Given as goal
+use Rattle.test_devices.proofs.fields.counted.Given as goal
 
 abbrev pub invariant-loop-i : goal.invariant-loop-i
 invariant-loop-i l = length l.bytes ≡ 4096

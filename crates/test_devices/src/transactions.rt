@@ -3,10 +3,10 @@ ghost use Rattle.blk_cache.specs.Cache.{AgreesTold};
 ghost use Rattle.blk_device.specs.declared.device.Region.TheVariants.{Image};
 ghost use Rattle.meta_txn.specs.Joined.{IsInside};
 
-use super::*;
 use blk_cache::BlkCache;
 use blk_device::{Device, FuseDevice, MemDevice, Region, Unsynced};
 use byte_fields::{Block, Steps};
+use meta_txn::{Txn, TxnFault};
 use redo_area::recover;
 use std::alloc::{AllocError, Global};
 use std::marker::Brand;

@@ -1,4 +1,4 @@
-use Rattle.byte_fields.proofs.tests.caller_that_counts_nothing.Given as goal
+use Rattle.test_devices.proofs.fields.caller_that_counts_nothing.Given as goal
 
 -- the ledger is the blank's
 abbrev pub ghosts-uncounted : goal.ghosts-uncounted

@@ -1,7 +1,7 @@
 ghost use Rattle.std.specs.Prelude.{◌≡◌};
 ghost use Rattle.blk_cache.specs.Cache.{AgreesTold};
 
-use super::*;
+use blk_cache::{BlkCache, Memory};
 use blk_device::{Device, MemDevice, Region};
 use byte_fields::Block;
 use std::alloc::Global;
