@@ -74,7 +74,7 @@ module _ {K : Type 0} where
       let k : suc a + h ≡ a + suc h = omega arith in
       let m : n - h ≡ suc n - suc h = omega arith in
       keep_none (a + suc h) p (above (a + suc h) ps) (from_up (a + suc h) (suc n - suc h)) (dec_le (a + suc h) p.0) (omega (arith, f))
-          (subst (λ m. actors_of (above (a + suc h) ps) ≡ from_up (a + suc h) m) m (subst (λ m. actors_of (above m ps) ≡ from_up m (n - h)) k i))
+      (subst (λ m. actors_of (above (a + suc h) ps) ≡ from_up (a + suc h) m) m (subst (λ m. actors_of (above m ps) ≡ from_up m (n - h)) k i))
 
   -- a turn leaves the actors as they are
   pub actors_kept : (f : ℕ × K → ℕ × K) → ((p : ℕ × K) → (f p).0 ≡ p.0) → (xs : List (ℕ × K)) → actors_of (map f xs) ≡ actors_of xs
