@@ -1,0 +1,4 @@
+pub mod Header
+pub mod Loaded
+pub mod Shapes
+pub mod Trees
