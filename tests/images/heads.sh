@@ -34,7 +34,7 @@ each_with_later() {
 }
 
 superblock_faults() {
-  local field bits
+  local field bits bytes
   build 'superblock'
   local faults=(magic version sizes 'feature 40' realtime checksum counts deviceshort)
   local edits=('--head 0:sb:magic:0' '--head 0:sb:versionnum:4' '--head 0:sb:sectsize:4096'
@@ -63,6 +63,12 @@ superblock_faults() {
   done
   made 'cut to nothing' 'image deviceshort' --cut 0
   made 'cut to ten blocks' 'image deviceshort' --cut 10
+  # A partial last block isn't counted: 255 blocks and 100 bytes, and 100 bytes.
+  for bytes in 1044580 100; do
+    cp --sparse=always -- sound.img made.img
+    truncate -s "$bytes" made.img
+    checked "made: $built, cut to $bytes bytes" 'image deviceshort' made.img
+  done
 }
 
 # A log of its own has to lie in one group. Its owner is among the reverse mappings of an image

@@ -6,7 +6,7 @@ use Rattle.blk_device.specs.Taken.{Takes, TakesFront, IsFront}
 use Rattle.blk_device.proofs.TakenLemmas.{then, whole_front, takes_nothing}
 use Rattle.xscrub.proofs.ShownLemmas.{told_nothing}
 use Rattle.std.specs.List.{list_all}
-use Rattle.xscrub.specs.Ending.{IsShown, IsToldOf, IsFoundBy, Decides, EndsFor, HasCause, IsSettled, IsOutcome, IsAsked, IsOfImage, IsWorded, EndsByWords}
+use Rattle.xscrub.specs.Ending.{IsShown, IsToldOf, IsFoundBy, Decides, EndsFor, HasCause, IsSettled, IsOutcome, IsAsked, IsOfImage, IsWorded, IsImageLine, EndsByWords}
 use Rattle.xscrub.specs.Command.{Job, check_of, unbuilt, usage}
 use Rattle.xscrub.specs.Stored.{Request}
 use Rattle.xscrub.specs.Units.{HasAllUnits, HasUnits}
@@ -183,6 +183,15 @@ told_fixed told s line k k' none fixed (inl whole) = whole.0
 told_fixed told s line k k' none fixed (inr (inl failed)) = with_journal s failed.2 none
 told_fixed told s line k k' none fixed (inr (inr memory)) = let loose : is_fixed line ≡ false = memory.3 none in absurd (true_not_false (sym fixed ∙ loose))
 
+failed_not_refused : statuses.Failed ≡ statuses.Refused → ⊥
+failed_not_refused e = cc
+
+memory_not_refused : statuses.Memory ≡ statuses.Refused → ⊥
+memory_not_refused e = cc
+
+full_not_refused : statuses.Full ≡ statuses.Refused → ⊥
+full_not_refused e = cc
+
 judged_not_usage : (journal : List Entry) → judged_status journal ≡ statuses.Usage → ⊥
 judged_not_usage journal e = either (list_all is_calm journal) e
   where
@@ -224,12 +233,35 @@ told_not_unbuilt finding told k k' of (inl whole) e = found_not_unbuilt finding 
 told_not_unbuilt finding told k k' of (inr (inl failed)) e = let clash : Some lines.HostFailed ≡ Some lines.UnbuiltJob = ap (λ (q : Outcome). q.last) (sym failed.0) ∙ e in cc
 told_not_unbuilt finding told k k' of (inr (inr memory)) e = let clash : Some lines.Memory ≡ Some lines.UnbuiltJob = sym memory.1 ∙ e in cc
 
+judged_not_refused : (journal : List Entry) → judged_status journal ≡ statuses.Refused → ⊥
+judged_not_refused journal e = either (list_all is_calm journal) e
+  where
+    either : (b : Bool) → cond b statuses.Clean statuses.Faulty ≡ statuses.Refused → ⊥
+    either true e = cc
+    either false e = cc
+
+found_image : (finding : Finding) → IsOfImage finding → (outcome_of finding).status ≡ statuses.Refused → IsImageLine (outcome_of finding).last
+found_image (findings.Judged journal) of e = absurd (judged_not_refused journal.items e)
+found_image (findings.Full journal) of e = absurd (full_not_refused e)
+found_image (findings.Refused line) of e = (line, refl, of)
+found_image findings.Usage of e = absurd of
+found_image findings.DeviceFailed of e = absurd (failed_not_refused e)
+found_image findings.HostFailed of e = absurd (failed_not_refused e)
+found_image findings.Memory of e = absurd (memory_not_refused e)
+
+told_image : (finding : Finding) (told : Outcome) (k k' : ℕ) → IsOfImage finding → IsToldOf (outcome_of finding) k k' told → told.status ≡ statuses.Refused → IsImageLine told.last
+told_image finding told k k' of (inl whole) e =
+    subst (λ (o : Outcome). IsImageLine o.last) (sym whole.0) (found_image finding of (ap (λ (q : Outcome). q.status) (sym whole.0) ∙ e))
+told_image finding told k k' of (inr (inl failed)) e = absurd (failed_not_refused (ap (λ (q : Outcome). q.status) (sym failed.0) ∙ e))
+told_image finding told k k' of (inr (inr memory)) e = absurd (memory_not_refused (sym memory.0 ∙ e))
+
 pub told_by_words : (job : Job) (finding : Finding) (told : Outcome) (k k' : ℕ) → IsWorded job finding → IsToldOf (outcome_of finding) k k' told → EndsByWords job told
 told_by_words usage finding told k k' worded ends =
     told_fixed told statuses.Usage lines.Usage k k' refl refl (subst (λ (f : Finding). IsToldOf (outcome_of f) k k' told) worded ends)
 told_by_words unbuilt finding told k k' worded ends =
     told_fixed told statuses.Refused lines.UnbuiltJob k k' refl refl (subst (λ (f : Finding). IsToldOf (outcome_of f) k k' told) worded ends)
-told_by_words (check_of name) finding told k k' worded ends = (told_not_usage finding told k k' worded ends, told_not_unbuilt finding told k k' worded ends)
+told_by_words (check_of name) finding told k k' worded ends =
+    (told_not_usage finding told k k' worded ends, told_not_unbuilt finding told k k' worded ends, told_image finding told k k' worded ends)
 
 -- ---- the units of a journal
 

@@ -140,11 +140,16 @@ pub record IsOutcome (told decided : Outcome) : Type 0 where
 abbrev pub IsAsked : Job → (short : Type 0) → (asked asked' : List Request) → Type 0
 IsAsked command short asked asked' = (short × (asked' ≡ asked)) ⊎ (asked' ≡ asked ++ requests_of command)
 
--- Words that ask for no check end the run at once, and always so; only they do.
+-- a line that tells of the image
+abbrev pub IsImageLine : Option LastLine → Type 0
+IsImageLine last = (line : LastLine) × (last ≡ Some line) × (is_image_line line ≡ true)
+
+-- Words that ask for no check end the run at once, and always so; only they do. A check that is
+-- refused tells of the image.
 abbrev pub EndsByWords : Job → Outcome → Type 0
 EndsByWords usage told = told ≡ ended_outcome statuses.Usage lines.Usage
 EndsByWords unbuilt told = told ≡ ended_outcome statuses.Refused lines.UnbuiltJob
-EndsByWords (check_of name) told = (told.status ≡ statuses.Usage → ⊥) × (told.last ≡ Some lines.UnbuiltJob → ⊥)
+EndsByWords (check_of name) told = (told.status ≡ statuses.Usage → ⊥) × (told.last ≡ Some lines.UnbuiltJob → ⊥) × (told.status ≡ statuses.Refused → IsImageLine told.last)
 
 -- What a run owes: how it ended is what words and bytes decide, or has a cause in a count that
 -- rose; its journal has each unit of each group; and this is what the sink took.

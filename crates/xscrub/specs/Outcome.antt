@@ -35,14 +35,12 @@ is_calm_verdict verdicts.Rebuilt = true
 is_calm_verdict (verdicts.Skipped of cause) = false
 is_calm_verdict (verdicts.GaveUp reason) = false
 
--- the entry doesn't speak against the image
+-- the entry is no verdict that speaks against the image
 abbrev pub is_calm : Entry → Bool
-is_calm (entries.Fault group unit fault) = false
-is_calm (entries.Marked group kind cause) = false
 is_calm (entries.Verdict group unit verdict) = is_calm_verdict verdict
 is_calm entry = true
 
--- clean where nothing speaks against the image, else faulty
+-- clean where no verdict speaks against the image, else faulty
 abbrev pub judged_status : List Entry → Status
 judged_status journal = if list_all is_calm journal then statuses.Clean else statuses.Faulty
 

@@ -1,5 +1,5 @@
 //! The host of the program: images are files, and the report goes to standard output.
-ghost use Rattle.std.specs.Prelude.{◌≡◌, [], None, IsNone, IfOk};
+ghost use Rattle.std.specs.Prelude.{◌≡◌, ◌/◌, [], None, IsNone, IfOk};
 
 use crate::asked::{DeviceAsked, count_failed, count_fault, keep_request};
 use crate::host::{Host, OpenFault, Purpose};
@@ -44,10 +44,17 @@ impl<'a, R: Files + Print> FileHost<'a, R> {
     }
 }
 
+// How many whole blocks so many bytes are.
+fn whole_blocks(bytes: u64) -> u64
+    ensures { result ≡ bytes / 4096 }
+{
+    bytes / BLOCK_BYTES
+}
+
 // How many whole blocks a file has. The end is sought, which also tells the size of a block
 // device.
 fn blocks_of<F: Seek>(file: &mut F) -> io::Result<u64> {
-    Ok(file.seek(SeekFrom::End(0))? / BLOCK_BYTES)
+    Ok(whole_blocks(file.seek(SeekFrom::End(0))?))
 }
 
 fn open_image<R: Files>(rt: &R, name: &str, purpose: Purpose) -> io::Result<R::File> {

@@ -102,7 +102,6 @@ fn is_calm(entry: &Entry) -> bool
 {
     match entry {
         Entry::Verdict { verdict, .. } => is_calm_verdict(verdict),
-        Entry::Fault { .. } | Entry::Marked { .. } => false,
         _ => true,
     }
 }

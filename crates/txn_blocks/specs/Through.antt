@@ -1,0 +1,22 @@
+-- What is read through a transaction.
+use Rattle.std.specs.Prelude.{◌≡◌, ℕ, List, Option, Some, None}
+use Rattle.std.specs.Borrow.{MutBor}
+use Rattle.byte_fields.specs.Steps.{StepCount}
+use Rattle.blk_device.specs.Contents.{Contents}
+use Rattle.blk_device.specs.declared.device.Device.{Ghosts}
+use Rattle.blk_device.specs.declared.device.Region.TheVariants.{Image}
+use Rattle.meta_txn.specs.Joined.{Joined, written}
+use Rattle.tree_blocks.specs.Cached.{Follows}
+use Rattle.tree_defs.specs.Sites.{group_blocks}
+use Rattle.tree_defs.specs.declared.site.Site.{Site}
+
+-- the group's blocks, with those that are joined, where a device tells its content
+abbrev pub changed : Site → Joined → Option Contents → Option (ℕ → List ℕ)
+changed site txn None = None
+changed site txn (Some c) = Some (group_blocks site (written (c Image) txn))
+
+-- The same four are referred to, the device was only read, and nothing was joined.
+pub record Lasts {D C : Type 0} (g : Ghosts D) (dev_old dev_new : MutBor D) (cache_old cache_new : MutBor C) (steps_old steps_new : MutBor StepCount) (txn_old txn_new : MutBor Joined) : Type 0 where
+  pub below : Follows g dev_old dev_new cache_old cache_new steps_old steps_new
+  pub same_txn : txn_new.ghost_name ≡ txn_old.ghost_name
+  pub joined : txn_new.now ≡ txn_old.now

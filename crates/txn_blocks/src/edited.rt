@@ -1,0 +1,87 @@
+ghost use Rattle.std.proofs.Props.{props};
+ghost use Rattle.std.specs.Prelude.{◌≡◌, ◌+◌, ◌*◌, ◌^◌, ◌<◌, ◌≤◌, List, Ok, IfSome};
+ghost use Rattle.blk_device.specs.Reading.{OnlyRead};
+ghost use Rattle.meta_txn.specs.Joined.{written};
+ghost use Rattle.tree_defs.specs.Sites.{group_blocks};
+ghost use Rattle.tree_blocks.specs.Reading.{HasCause};
+ghost use Rattle.tree_find.specs.Find.{record_with};
+ghost use Rattle.tree_find.specs.Laws.{Holds};
+ghost use Rattle.tree_find.specs.Meets.{Meets};
+ghost use Rattle.blk_cache.specs.Cache.{AgreesTold};
+ghost use Rattle.blk_device.specs.declared.device.Region.TheVariants.{Image};
+
+use blk_cache::BlkCache;
+use blk_device::Device;
+use byte_fields::{Block, Steps};
+use meta_txn::Txn;
+use sblock::RecKind;
+use std::sync::ledger::Ledger;
+use tree_blocks::{Blocks, TreeAt, WalkFault};
+use tree_defs::Site;
+use tree_find::find_site;
+
+/// The blocks of a group as a transaction has changed them: those that are joined as they are
+/// joined, and the others read through a cache. A read joins nothing, and each is counted, also of a
+/// block that is joined.
+#[derive(Drop)]
+pub struct Edited<'d, 'c, 's, 't, D: Device, L: Ledger> {
+    pub dev: &'d mut D,
+    pub cache: &'c mut BlkCache,
+    pub txn: &'t mut Txn,
+    pub site: Site,
+    pub steps: &'s mut Steps<L>,
+    pub ghost agreed: { AgreesTold cache.now (D.content dev.now) } by { Prim.hlevel props },
+    pub ghost room: { site.first + site.bounds.length ≤ D.blocks dev.now Image },
+    pub ghost fits: { 8 * (site.first + site.bounds.length) < 2 ^ 64 },
+}
+
+impl<'d, 'c, 's, 't, D: Device, L: Ledger> Blocks for Edited<'d, 'c, 's, 't, D, L> {
+    ghost use Rattle.tree_blocks.specs.Cached.{Follows};
+    ghost use Rattle.txn_blocks.specs.Through.{changed, Lasts};
+    ghost use Rattle.txn_blocks.specs.ThroughLaws.{lasts_self, lasts_on};
+
+    ghost told = { λ c. changed c.site c.txn.now (D.content c.dev.now) };
+
+    ghost place = { λ c. c.site };
+
+    ghost faults = { λ c. D.faults c.dev.now };
+
+    ghost count = { λ c. c.steps.now.reads };
+
+    ghost follows = { λ old new. Lasts D.Device old.dev new.dev old.cache new.cache old.steps new.steps old.txn new.txn };
+
+    ghost fits = { λ c. c.fits };
+
+    ghost follows_refl = { λ c. lasts_self _ D.only_now D.counts_now c.dev c.cache c.steps c.txn };
+
+    ghost follows_trans = { λ a b c. lasts_on _ D.only_now D.counts_now a.dev b.dev c.dev a.cache b.cache c.cache a.steps b.steps c.steps a.txn b.txn c.txn };
+
+    fn load(&mut self, p: u32) -> Result<Block, WalkFault> {
+        self.steps.block_read();
+        let at = self.site.first + u64::from(p);
+        if let Some(block) = self.txn.joined(at) {
+            return Ok(block);
+        }
+        let mut block = Block::zeroed();
+        match self.cache.get(self.dev, at, &mut block) {
+            Ok(()) => Ok(block),
+            Err(_) => Err(WalkFault::Failed),
+        }
+    }
+}
+
+/// The record with an equal key of a tree as the transaction has changed it, none where there is
+/// none; nothing is joined (XFS Algorithms and Data Structures, "Short Format B+trees").
+pub fn find_edited<K: RecKind, D: Device, L: Ledger>(
+    edit: &mut Edited<D, L>,
+    tree: &TreeAt,
+    key: &K::Key,
+) -> Result<Option<K::Rec>, WalkFault>
+    ensures right { IfSome (D.content edit.old.dev.now) (λ c. let site = edit.old.site in (recs : List K.Rec) → Holds K.form site (group_blocks site (written (c Image) edit.old.txn.now)) tree.now.root tree.now.levels recs → Meets (Ok (record_with K.form key.now recs)) result) }
+    ensures joined { edit.new.txn.now ≡ edit.old.txn.now }
+    ensures reading { OnlyRead D.Device edit.old.dev.now edit.new.dev.now edit.old.steps.now edit.new.steps.now }
+    ensures cause { HasCause (D.faults edit.old.dev.now) (D.faults edit.new.dev.now) result }
+{
+    let site = edit.site;
+    find_site::<K, Edited<D, L>>(edit, &site, tree, key)
+}
