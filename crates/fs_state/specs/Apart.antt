@@ -1,6 +1,6 @@
 -- Which part of the metadata has which block of the device? And the two invariants that no block is taken twice: no
 -- block of metadata has a second claim, and such a block that looks free, or that a fork maps, has a reverse mapping.
-use Rattle.std.specs.Prelude.{◌≡◌, ℕ, ◌+◌, ◌*◌, ◌/◌, ◌<◌, ◌==◌, ◌⊎◌, nat_lt, nat_le, Bool, true, false, ◌&&◌, ◌||◌, List, [], ◌∷◌, Option, None, Some, Result, Ok, Err}
+use Rattle.std.specs.Prelude.{◌≡◌, ℕ, ◌+◌, ◌*◌, ◌/◌, ◌<◌, ◌==◌, ◌⊎◌, nat_lt, nat_le, Bool, true, false, not, ◌&&◌, ◌||◌, List, [], ◌∷◌, Option, None, Some, Result, Ok, Err}
 use Rattle.std.specs.List.{list_any}
 use Rattle.byte_fields.specs.Below.{all_below}
 use Rattle.geom.specs.Layout.{Layout, device_block_of, split_of, group_len_of}
@@ -8,6 +8,7 @@ use Rattle.geom.specs.declared.geometry.Run3.{Run3}
 use Rattle.sblock.specs.declared.kind.Kind.{Kind}
 use Rattle.sblock.specs.declared.kind.Kind.TheVariants.{Rmap, Ino, Bno}
 use Rattle.span_recs.specs.declared.span.SpanRec.{SpanRec}
+use Rattle.rmap_recs.specs.Words.{is_fork_data}
 use Rattle.rmap_recs.specs.declared.records.RmapRec.{RmapRec}
 use Rattle.dinode_core.specs.declared.mapping.Fork.{Fork}
 use Rattle.dinode_core.specs.declared.mapping.ForkFault.{ForkFault}
@@ -15,6 +16,9 @@ use Rattle.dinode_core.specs.declared.mapping.Mapping.{Mapping}
 use Rattle.dinode_core.specs.Frame.{device_at, Lies}
 pub use Rattle.tree_defs.specs.Lists.{In}
 use Rattle.geom.specs.Layout.{inode_at}
+use Rattle.fs_state.specs.declared.intent.Intent.{Intent}
+use Rattle.fs_state.specs.declared.intent.IntentKind.{IntentKind}
+use Rattle.fs_state.specs.declared.intent.IntentKind.TheVariants.{RmapAdd, RmapRemove, RmapChange, RefMore, RefLess, Free}
 use Rattle.fs_state.specs.State.{State, ForkList, Owned, CoreState, Broken, Whole, recs_of, blocks_of}
 
 -- one thing that claims blocks
@@ -134,11 +138,34 @@ is_free recs p = list_any (λ r. nat_le r.start p && nat_lt p (r.start + r.count
 unfoldable pub is_covered : List RmapRec → ℕ → Bool
 is_covered recs p = list_any (λ r. nat_le r.start p && nat_lt p (r.start + r.count)) recs
 
--- a block that an event may take for free, or may free
-abbrev pub Exposed : State → ℕ → ℕ → Type 0
-Exposed a g p =
-    (is_free (recs_of ((a.group g).tree Bno).reading) p ≡ true) ⊎ ((ino : ℕ) × (f : Fork) × InMapped a ino f (device_block_of a.geometry g p))
+-- a reverse mapping covers the block that isn't one of a fork's data: such a mapping goes with the fork
+unfoldable pub is_held : List RmapRec → ℕ → Bool
+is_held recs p = list_any (λ r. not (is_fork_data r.owner r.word) && (nat_le r.start p && nat_lt p (r.start + r.count))) recs
 
--- metadata that is exposed is covered by a reverse mapping record
-abbrev pub Covered : State → Type 0
-Covered a = (g p : ℕ) → g < a.geometry.agcount → p < group_len_of a.geometry g → Exposed a g p → (c : Part) → Has a c (device_block_of a.geometry g p) → is_covered (recs_of ((a.group g).tree Rmap).reading) p ≡ true
+-- steps that end with a block freed
+abbrev pub frees : IntentKind → Bool
+frees RmapAdd = false
+frees RmapRemove = false
+frees RmapChange = false
+frees RefMore = false
+frees RefLess = true
+frees Free = true
+
+unfoldable pub is_due : ℕ → ℕ → List Intent → Bool
+is_due g p intents = list_any (λ i. frees i.kind && ((i.group == g) && (nat_le i.block p && nat_lt p (i.block + i.count)))) intents
+
+-- a block that an event may free: a fork maps it, or a chain still has to
+abbrev pub MayBeFreed : State → ℕ → ℕ → Type 0
+MayBeFreed a g p = ((ino : ℕ) × (f : Fork) × InMapped a ino f (device_block_of a.geometry g p)) ⊎ ((c : ℕ) × (is_due g p (a.chains c) ≡ true))
+
+abbrev pub listed_free : State → ℕ → List SpanRec
+listed_free a g = recs_of ((a.group g).tree Bno).reading
+
+abbrev pub mappings_of : State → ℕ → List RmapRec
+mappings_of a g = recs_of ((a.group g).tree Rmap).reading
+
+-- Is metadata kept from being taken or freed? A block of it that free space lists has a reverse mapping, so an
+-- allocation asks and finds it; one that an event may free has one that isn't a fork's, which stays when the fork's goes.
+pub record Covered (a : State) : Type 0 where
+  pub listed : (g p : ℕ) → g < a.geometry.agcount → p < group_len_of a.geometry g → is_free (listed_free a g) p ≡ true → (c : Part) → Has a c (device_block_of a.geometry g p) → is_covered (mappings_of a g) p ≡ true
+  pub freed : (g p : ℕ) → g < a.geometry.agcount → p < group_len_of a.geometry g → MayBeFreed a g p → (c : Part) → Has a c (device_block_of a.geometry g p) → is_held (mappings_of a g) p ≡ true
