@@ -1,12 +1,8 @@
 ghost use Rattle.std.proofs.Props.{props};
-ghost use Rattle.std.specs.Prelude.{◌≡◌, ◌+◌, ◌*◌, ◌^◌, ◌<◌, ◌≤◌, List, Ok, IfSome};
+ghost use Rattle.std.specs.Prelude.{◌≡◌, ◌+◌, ◌*◌, ◌^◌, ◌<◌, ◌≤◌};
 ghost use Rattle.blk_device.specs.Reading.{OnlyRead};
-ghost use Rattle.meta_txn.specs.Joined.{written};
-ghost use Rattle.tree_defs.specs.Sites.{group_blocks};
 ghost use Rattle.tree_blocks.specs.Reading.{HasCause};
-ghost use Rattle.tree_find.specs.Find.{record_with};
-ghost use Rattle.tree_find.specs.Laws.{Holds};
-ghost use Rattle.tree_find.specs.Meets.{Meets};
+ghost use Rattle.txn_blocks.specs.Through.{OfEdited, FindsIn};
 ghost use Rattle.blk_cache.specs.Cache.{AgreesTold};
 ghost use Rattle.blk_device.specs.declared.device.Region.TheVariants.{Image};
 
@@ -77,7 +73,7 @@ pub fn find_edited<K: RecKind, D: Device, L: Ledger>(
     tree: &TreeAt,
     key: &K::Key,
 ) -> Result<Option<K::Rec>, WalkFault>
-    ensures right { IfSome (D.content edit.old.dev.now) (λ c. let site = edit.old.site in (recs : List K.Rec) → Holds K.form site (group_blocks site (written (c Image) edit.old.txn.now)) tree.now.root tree.now.levels recs → Meets (Ok (record_with K.form key.now recs)) result) }
+    ensures right { OfEdited edit.old.site edit.old.txn.now (D.content edit.old.dev.now) (λ m. FindsIn K.form edit.old.site m tree.now key.now result) }
     ensures joined { edit.new.txn.now ≡ edit.old.txn.now }
     ensures reading { OnlyRead D.Device edit.old.dev.now edit.new.dev.now edit.old.steps.now edit.new.steps.now }
     ensures cause { HasCause (D.faults edit.old.dev.now) (D.faults edit.new.dev.now) result }

@@ -1,0 +1,4 @@
+pub mod BlockLemmas
+pub mod RowLemmas
+pub mod SoundLemmas
+pub mod TreeLemmas

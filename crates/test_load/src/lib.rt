@@ -1,0 +1,5 @@
+//! Tests of new short-form btrees, over public calls alone.
+#![tactic(auto)]
+
+#[cfg(test)]
+mod shapes;
