@@ -3,6 +3,7 @@ pub mod LeafLemmas
 pub mod PieceLemmas
 pub mod RootLemmas
 pub mod SeenLemmas
+pub mod SizeLemmas
 pub mod TaskLemmas
 pub mod WalkLemmas
 pub mod WholeLemmas

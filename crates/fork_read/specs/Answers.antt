@@ -60,6 +60,13 @@ IsStopped whole walk from Whole tasks trail = whole ≡ Ok trail
 IsStopped whole walk from (Left task) tasks trail = (whole ≡ walk (task ∷ tasks) trail) × (may_stop from trail.mappings task tasks ≡ true)
 IsStopped whole walk from (Long task) tasks trail = whole ≡ walk (task ∷ tasks) trail
 
+-- a piece that leaves something may end there
+abbrev pub MayLeave : ℕ → List Mapping → List Task → Stop → Type 0
+MayLeave from ms tasks Bad = ⊤
+MayLeave from ms tasks Whole = ⊤
+MayLeave from ms tasks (Left task) = may_stop from ms task tasks ≡ true
+MayLeave from ms tasks (Long task) = ⊤
+
 -- the fault that a way to end shows by itself
 abbrev pub stop_fault : ℕ → Stop → Trail → Option ForkFault
 stop_fault levels Bad trail = Some faults.Block

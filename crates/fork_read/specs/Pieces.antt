@@ -1,5 +1,5 @@
 -- What a piece of a fork is, by the bytes of an image.
-use Rattle.std.specs.Prelude.{◌≡◌, ℕ, ◌*◌, ◌/◌, ◌%◌, true, false, List, [], map, take, drop, Option, Some, None, Result, Ok, Err, ◌⊎◌, ⊤}
+use Rattle.std.specs.Prelude.{◌≡◌, ℕ, ◌*◌, ◌/◌, ◌%◌, ◌<◌, ◌≤◌, length, true, false, List, [], map, take, drop, Option, Some, None, Result, Ok, Err, ◌⊎◌, ⊤}
 use Rattle.geom.specs.Layout.{Layout, device_block_of, split_of}
 use Rattle.dinode_core.specs.declared.inode.Core3.{Core3}
 use Rattle.dinode_core.specs.declared.mapping.Fork.{Fork}
@@ -17,6 +17,11 @@ use Rattle.fork_read.specs.declared.tasks.Task.{Task}
 use Rattle.fork_read.specs.declared.walk.Stop.{Stop}
 use Rattle.fork_read.specs.Answers.{IsPiece, IsStopped, judged, next_of}
 use Rattle.fork_read.specs.Walk.{walk_all, walk_tasks}
+
+-- at most 512 mappings, and one at least where something is left
+pub record IsSized (piece : ForkPiece) : Type 0 where
+  pub most : length piece.mappings.items ≤ 512
+  pub some : (offset : ℕ) → piece.next ≡ Some offset → 0 < length piece.mappings.items
 
 -- the 512 bytes of an inode in its block
 abbrev pub slot_bytes : List ℕ → ℕ → List ℕ

@@ -8,7 +8,7 @@ ghost use Rattle.geom.specs.Places.{layout};
 ghost use Rattle.dinode_core.specs.ForkTree.{numrecs};
 ghost use Rattle.fork_read.specs.Walk.{entry_of, last_in, passed_from, read_at, trail_of, walk_tasks};
 ghost use Rattle.std.specs.List.{slice_get, list_all};
-ghost use Rattle.fork_read.specs.Answers.{AllLow, bytes_of, HasRead, is_failed, IsOutside, IsStopped, last_clears, may_stop};
+ghost use Rattle.fork_read.specs.Answers.{AllLow, bytes_of, HasRead, MayLeave, is_failed, IsOutside, IsStopped, last_clears, may_stop};
 
 use crate::block::is_sound_at;
 use crate::fault::ReadFault;
@@ -184,6 +184,7 @@ pub fn walk_on<D: Device, L: Ledger>(
     requires low { AllLow tasks.old.items }
     requires fresh { length seen.old.mappings.items ≤ 512 }
     ensures stopped { IfOk result (λ stop. (c : Contents) → D.content dev.old ≡ Some c → IsStopped (walk_tasks (layout geo.now) (c Image) core.now from tasks.old.items (trail_of seen.old)) (walk_tasks (layout geo.now) (c Image) core.now from) from stop tasks.new.items (trail_of seen.new)) }
+    ensures leaves { IfOk result (MayLeave from seen.new.mappings.items tasks.new.items) }
     ensures most { OnOk result (length seen.new.mappings.items ≤ 512) }
     ensures outside { IfErr result IsOutside }
     ensures reading { OnlyRead D.Device dev.old dev.new steps.old steps.new }
