@@ -1,5 +1,7 @@
+pub mod FirstLemmas
 pub mod JudgeLemmas
 pub mod LeafLemmas
+pub mod PartLemmas
 pub mod PieceLemmas
 pub mod RootLemmas
 pub mod SeenLemmas

@@ -67,6 +67,18 @@ MayLeave from ms tasks Whole = ⊤
 MayLeave from ms tasks (Left task) = may_stop from ms task tasks ≡ true
 MayLeave from ms tasks (Long task) = ⊤
 
+-- where a subtree is left, the walk came to it
+abbrev pub IsReached : (List Task → Trail → Type 0) → Stop → List Task → Trail → Type 0
+IsReached At Bad tasks trail = ⊤
+IsReached At Whole tasks trail = ⊤
+IsReached At (Left task) tasks trail = At (task ∷ tasks) trail
+IsReached At (Long task) tasks trail = At (task ∷ tasks) trail
+
+-- what holds where a block was read
+abbrev pub IfRead : Bool → Type 0 → Type 0
+IfRead true P = P
+IfRead false P = ⊤
+
 -- the fault that a way to end shows by itself
 abbrev pub stop_fault : ℕ → Stop → Trail → Option ForkFault
 stop_fault levels Bad trail = Some faults.Block
