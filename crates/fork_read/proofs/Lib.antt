@@ -1,8 +1,11 @@
+pub mod FirstLemmas
 pub mod JudgeLemmas
 pub mod LeafLemmas
+pub mod PartLemmas
 pub mod PieceLemmas
 pub mod RootLemmas
 pub mod SeenLemmas
+pub mod SizeLemmas
 pub mod TaskLemmas
 pub mod WalkLemmas
 pub mod WholeLemmas

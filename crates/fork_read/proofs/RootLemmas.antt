@@ -24,7 +24,7 @@ pub record Root (core : Core3) (fork : Fork) : Type 0 where
   pub room : root_keys (area_of core fork) ≤ key_room (size_of core fork)
   pub size : 8 ≤ size_of core fork
 
-is_there : (absent : Bool) (format : Option Format) → (if absent then false else has_tree format) ≡ true → (absent ≡ false) × (format ≡ Some Btree)
+pub is_there : (absent : Bool) (format : Option Format) → (if absent then false else has_tree format) ≡ true → (absent ≡ false) × (format ≡ Some Btree)
 is_there true format h = cc
 is_there false None h = cc
 is_there false (Some Dev) h = cc

@@ -9,7 +9,7 @@ use Rattle.dinode_core.specs.declared.inode.Core3.{Core3}
 use Rattle.dinode_core.specs.ForkTree.{Image, Trail, Last, Entry, entries, numrecs, first_key, is_fork_block, is_right, is_beside, ◌>>=◌, node_entries, leaf_mappings, with_mappings, walk_each}
 use Rattle.fork_read.specs.declared.tasks.Task.{Task}
 use Rattle.fork_read.specs.Answers.{AllLow, HasRead}
-use Rattle.fork_read.specs.Walk.{pruned, is_resumed, is_sound_from, read_at, passed_from, walk_from, entry_of, tasks_of, walk_tasks}
+use Rattle.fork_read.specs.Walk.{IsRead, Leaves, Reaches, below_of, pruned, is_resumed, is_sound_from, read_at, passed_from, taken_in, walk_from, entry_of, tasks_of, walk_tasks}
 
 part_five : (a b c d e f g h i j : Bool) → (a && b && c && d && e && f && g && h && i && j) ≡ true → e ≡ true
 part_five a b c d e f g h i j p =
@@ -89,6 +89,53 @@ module _ (at : Layout) (image : Image) (core : Core3) (from : ℕ) where
   pub node_block : (x : Task) (xs ys : List Task) (t u : Trail) (bytes : List ℕ) → 0 < x.level → found x t ≡ Some bytes → u ≡ passed_from from x.level (entry_of x) bytes t → ys ≡ tasks_of (x.level - 1) (pruned from (node_entries bytes)) ++ xs → walk_tasks at image core from (x ∷ xs) t ≡ walk_tasks at image core from ys u
   node_block x xs ys t u bytes high h e f =
       rw (e, f) (unfold walk_tasks in rw (node_level x.level (entry_of x) t bytes high h) (sym (each_then (x.level - 1) (pruned from (node_entries bytes)) xs (passed_from from x.level (entry_of x) bytes t))))
+
+  nothing_below : (level : ℕ) (bytes : List ℕ) → level ≡ 0 → below_of from level bytes ≡ []
+  nothing_below zero bytes low = refl
+  nothing_below (suc level) bytes low = absurd (omega (arith, low))
+
+  entries_below : (level : ℕ) (bytes : List ℕ) → 0 < level → below_of from level bytes ≡ tasks_of (level - 1) (pruned from (node_entries bytes))
+  entries_below zero bytes high = absurd (omega (arith, high))
+  entries_below (suc level) bytes high = let below : suc level - 1 ≡ level = omega arith in rw below refl
+
+  taken_leaf : (level : ℕ) (e : Entry) (bytes : List ℕ) (t : Trail) → level ≡ 0 → taken_in from level e bytes t ≡ with_mappings (leaf_mappings bytes) (passed_from from level e bytes t)
+  taken_leaf zero e bytes t low = refl
+  taken_leaf (suc level) e bytes t low = absurd (omega (arith, low))
+
+  taken_node : (level : ℕ) (e : Entry) (bytes : List ℕ) (t : Trail) → 0 < level → taken_in from level e bytes t ≡ passed_from from level e bytes t
+  taken_node zero e bytes t high = absurd (omega (arith, high))
+  taken_node (suc level) e bytes t high = refl
+
+  pub leaf_read : (x : Task) (xs : List Task) (t u : Trail) (bytes : List ℕ) → x.level ≡ 0 → found x t ≡ Some bytes → u ≡ with_mappings (leaf_mappings bytes) (passed_from from x.level (entry_of x) bytes t) → IsRead at image core from x xs t xs u
+  leaf_read x xs t u bytes low h e = record {
+    bytes = bytes;
+    found = h;
+    tasks = sym (ap (λ ys. ys ++ xs) (nothing_below x.level bytes low));
+    taken = e ∙ sym (taken_leaf x.level (entry_of x) bytes t low);
+  }
+
+  pub node_read : (x : Task) (xs ys : List Task) (t u : Trail) (bytes : List ℕ) → 0 < x.level → found x t ≡ Some bytes → u ≡ passed_from from x.level (entry_of x) bytes t → ys ≡ tasks_of (x.level - 1) (pruned from (node_entries bytes)) ++ xs → IsRead at image core from x xs t ys u
+  node_read x xs ys t u bytes high h e f = record {
+    bytes = bytes;
+    found = h;
+    tasks = f ∙ sym (ap (λ zs. zs ++ xs) (entries_below x.level bytes high));
+    taken = e ∙ sym (taken_node x.level (entry_of x) bytes t high);
+  }
+
+  -- no block is read yet
+  pub reaches_first : (xs : List Task) (t : Trail) → Reaches at image core from xs t xs t
+  unfolding Leaves
+  reaches_first xs t = record { count = 0; leaves = (refl, refl) }
+
+  pub reaches_next : (xs all rest ys : List Task) (t u v : Trail) (x : Task) → all ≡ x ∷ rest → Reaches at image core from xs t all u → IsRead at image core from x rest u ys v → Reaches at image core from xs t ys v
+  unfolding Leaves
+  reaches_next xs all rest ys t u v x e h r = record {
+    count = suc h.count;
+    leaves = record { task = x; rest = rest; trail = u; before = subst (λ zs. Leaves at image core from xs t h.count zs u) e h.leaves; read = r };
+  }
+
+  pub reaches_popped : (xs all rest : List Task) (t u : Trail) (x : Task) → all ≡ x ∷ rest → Reaches at image core from xs t all u → Reaches at image core from xs t (x ∷ rest) u
+  reaches_popped xs all rest t u x e h = subst (λ zs. Reaches at image core from xs t zs u) e h
 
 pub with_leaf : (bytes : List ℕ) (noted taken want : Trail) → noted ≡ want → taken ≡ with_mappings (leaf_mappings bytes) noted → taken ≡ with_mappings (leaf_mappings bytes) want
 with_leaf bytes noted taken want e h = h ∙ ap (with_mappings (leaf_mappings bytes)) e

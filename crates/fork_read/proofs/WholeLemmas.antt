@@ -48,7 +48,7 @@ module _ (at : Layout) (image : Image) (core : Core3) where
   read_same level last e None = refl
   read_same level last e (Some p) = rw (resumed_same last e.key) refl
 
-  walk_same : (level : ℕ) (t : Trail) (e : Entry) → walk_from at image core 0 level t e ≡ walk_block at image core level t e
+  pub walk_same : (level : ℕ) (t : Trail) (e : Entry) → walk_from at image core 0 level t e ≡ walk_block at image core level t e
   unfolding walk_from walk_block block_at
   walk_same zero t e =
       λ i. walk_in (read_same zero (t.last zero) e (split_of at e.block) i) t (λ bytes. Ok (with_mappings (leaf_mappings bytes) (passed_same zero e bytes t i)))
@@ -78,13 +78,13 @@ all_kept : (ms : List Mapping) → filter (λ m. nat_le 0 m.offset) ms ≡ ms
 all_kept [] = refl
 all_kept (m ∷ ms) = rw (all_above m.offset) (ap (λ xs. m ∷ xs) (all_kept ms))
 
-some_none : (f : ForkFault) → ◌≡◌ {A = Option ForkFault} (Some f) None → ⊥
+pub some_none : (f : ForkFault) → ◌≡◌ {A = Option ForkFault} (Some f) None → ⊥
 some_none f e = cc
 
 key_none : (n : ℕ) → ◌≡◌ {A = Option ℕ} (Some n) None → ⊥
 key_none n e = cc
 
-else_parts : (o x : Option ForkFault) → or_else o x ≡ None → (o ≡ None) × (x ≡ None)
+pub else_parts : (o x : Option ForkFault) → or_else o x ≡ None → (o ≡ None) × (x ≡ None)
 else_parts None x h = (refl, h)
 else_parts (Some f) x h = absurd (some_none f h)
 

@@ -60,6 +60,25 @@ IsStopped whole walk from Whole tasks trail = whole ≡ Ok trail
 IsStopped whole walk from (Left task) tasks trail = (whole ≡ walk (task ∷ tasks) trail) × (may_stop from trail.mappings task tasks ≡ true)
 IsStopped whole walk from (Long task) tasks trail = whole ≡ walk (task ∷ tasks) trail
 
+-- a piece that leaves something may end there
+abbrev pub MayLeave : ℕ → List Mapping → List Task → Stop → Type 0
+MayLeave from ms tasks Bad = ⊤
+MayLeave from ms tasks Whole = ⊤
+MayLeave from ms tasks (Left task) = may_stop from ms task tasks ≡ true
+MayLeave from ms tasks (Long task) = ⊤
+
+-- where a subtree is left, the walk came to it
+abbrev pub IsReached : (List Task → Trail → Type 0) → Stop → List Task → Trail → Type 0
+IsReached At Bad tasks trail = ⊤
+IsReached At Whole tasks trail = ⊤
+IsReached At (Left task) tasks trail = At (task ∷ tasks) trail
+IsReached At (Long task) tasks trail = At (task ∷ tasks) trail
+
+-- what holds where a block was read
+abbrev pub IfRead : Bool → Type 0 → Type 0
+IfRead true P = P
+IfRead false P = ⊤
+
 -- the fault that a way to end shows by itself
 abbrev pub stop_fault : ℕ → Stop → Trail → Option ForkFault
 stop_fault levels Bad trail = Some faults.Block

@@ -1,5 +1,5 @@
 -- What a piece of a fork is, by the bytes of an image.
-use Rattle.std.specs.Prelude.{◌≡◌, ℕ, ◌*◌, ◌/◌, ◌%◌, true, false, List, [], map, take, drop, Option, Some, None, Result, Ok, Err, ◌⊎◌, ⊤}
+use Rattle.std.specs.Prelude.{◌≡◌, ℕ, ◌*◌, ◌/◌, ◌%◌, ◌<◌, ◌≤◌, length, true, false, List, [], map, take, drop, Option, Some, None, Result, Ok, Err, ◌⊎◌, ⊤}
 use Rattle.geom.specs.Layout.{Layout, device_block_of, split_of}
 use Rattle.dinode_core.specs.declared.inode.Core3.{Core3}
 use Rattle.dinode_core.specs.declared.mapping.Fork.{Fork}
@@ -9,14 +9,19 @@ use Rattle.dinode_core.specs.declared.mapping.ForkFault.{ForkFault}
 use Rattle.dinode_core.specs.Core.{core_fault, core_of}
 use Rattle.dinode_core.specs.Inline.{inline_fault, inline_mappings, root_level}
 use Rattle.dinode_core.specs.Shape.{area_of}
-use Rattle.dinode_core.specs.ForkTree.{Image, Trail, is_tree}
+use Rattle.dinode_core.specs.ForkTree.{Image, Trail, is_tree, start}
 use Rattle.fork_read.specs.declared.fault.ForkPiece.{ForkPiece}
 use Rattle.fork_read.specs.declared.fault.ReadFault.{ReadFault}
 use Rattle.fork_read.specs.declared.fault.ReadFault.TheVariants.{Fork as IsFork, Core as IsCoreFault, Failed, Memory}
 use Rattle.fork_read.specs.declared.tasks.Task.{Task}
 use Rattle.fork_read.specs.declared.walk.Stop.{Stop}
-use Rattle.fork_read.specs.Answers.{IsPiece, IsStopped, judged, next_of}
-use Rattle.fork_read.specs.Walk.{walk_all, walk_tasks}
+use Rattle.fork_read.specs.Answers.{IsPiece, IsReached, IsStopped, judged, next_of}
+use Rattle.fork_read.specs.Walk.{Reaches, first_tasks, walk_all, walk_tasks}
+
+-- at most 512 mappings, and one at least where something is left
+pub record IsSized (piece : ForkPiece) : Type 0 where
+  pub most : length piece.mappings.items ≤ 512
+  pub some : (offset : ℕ) → piece.next ≡ Some offset → 0 < length piece.mappings.items
 
 -- the 512 bytes of an inode in its block
 abbrev pub slot_bytes : List ℕ → ℕ → List ℕ
@@ -41,6 +46,7 @@ IsCore bytes ino uuid (Err Memory) = ⊥
 -- the walk of the btree from the offset on ends so, with this trail
 pub record Ends (at : Layout) (image : Image) (core : Core3) (fork : Fork) (from : ℕ) (stop : Stop) (trail : Trail) : Type 0 where
   pub rest : List Task
+  pub reached : IsReached (Reaches at image core from (first_tasks core fork from) start) stop rest trail
   pub stopped : IsStopped (walk_all at image core fork from) (walk_tasks at image core from) from stop rest trail
 
 -- the fault that the walk of a btree from the offset on meets first

@@ -1,5 +1,5 @@
 -- The walk of a fork's btree from an offset on, as far as it has come.
-use Rattle.std.specs.Prelude.{ℕ, zero, suc, ◌-◌, ◌==◌, nat_lt, Bool, false, ◌&&◌, ◌||◌, if◌then◌else◌, List, [], ◌∷◌, ◌++◌, length, map, get_or, Option, Some, None, Result, Ok}
+use Rattle.std.specs.Prelude.{◌≡◌, ℕ, zero, suc, ◌-◌, ◌==◌, nat_lt, Bool, false, ◌&&◌, ◌||◌, if◌then◌else◌, List, [], ◌∷◌, ◌++◌, length, map, get_or, Option, Some, None, Result, Ok}
 use Rattle.byte_fields.specs.Fields.{field}
 use Rattle.geom.specs.Layout.{Layout, device_block_of, split_of}
 use Rattle.dinode_core.specs.declared.inode.Core3.{Core3}
@@ -68,6 +68,41 @@ walk_tasks at image core from (x ∷ xs) trail = walk_from at image core from x.
 
 abbrev pub first_tasks : Core3 → Fork → ℕ → List Task
 first_tasks core fork from = tasks_of (root_level (area_of core fork) - 1) (pruned from (root_entries core fork))
+
+-- a node's subtrees come in its own place
+abbrev pub below_of : ℕ → ℕ → List ℕ → List Task
+below_of from zero bytes = []
+below_of from (suc level) bytes = tasks_of level (pruned from (node_entries bytes))
+
+-- a leaf's mappings come behind those that were met
+abbrev pub taken_in : ℕ → ℕ → Entry → List ℕ → Trail → Trail
+taken_in from zero entry bytes trail = with_mappings (leaf_mappings bytes) (passed_from from zero entry bytes trail)
+taken_in from (suc level) entry bytes trail = passed_from from (suc level) entry bytes trail
+
+-- the block of the first subtree is sound, and with it these are left, and this is the trail
+pub record IsRead (at : Layout) (image : Image) (core : Core3) (from : ℕ) (task : Task) (rest : List Task) (trail : Trail) (left : List Task) (after : Trail) : Type 0 where
+  pub bytes : List ℕ
+  pub found : read_at at image core from task.level (trail.last task.level) (entry_of task) (split_of at task.block) ≡ Some bytes
+  pub tasks : left ≡ below_of from task.level bytes ++ rest
+  pub taken : after ≡ taken_in from task.level (entry_of task) bytes trail
+
+-- one block more was read
+pub record IsNext (at : Layout) (image : Image) (core : Core3) (from : ℕ) (Before : List Task → Trail → Type 0) (left : List Task) (after : Trail) : Type 0 where
+  pub task : Task
+  pub rest : List Task
+  pub trail : Trail
+  pub before : Before (task ∷ rest) trail
+  pub read : IsRead at image core from task rest trail left after
+
+-- the reading of n blocks of these subtrees leaves these, with this trail
+unfoldable pub Leaves : Layout → Image → Core3 → ℕ → List Task → Trail → ℕ → List Task → Trail → Type 0
+Leaves at image core from tasks trail zero left after = (left ≡ tasks) × (after ≡ trail)
+Leaves at image core from tasks trail (suc n) left after = IsNext at image core from (Leaves at image core from tasks trail n) left after
+
+-- so many blocks of these subtrees are read, each of them sound
+pub record Reaches (at : Layout) (image : Image) (core : Core3) (from : ℕ) (tasks : List Task) (trail : Trail) (left : List Task) (after : Trail) : Type 0 where
+  pub count : ℕ
+  pub leaves : Leaves at image core from tasks trail count left after
 
 -- the whole walk of a btree from an offset on
 unfoldable pub walk_all : Layout → Image → Core3 → Fork → ℕ → Result Trail Trail

@@ -10,7 +10,7 @@ ghost use Rattle.dinode_core.specs.ForkTree.{entries, is_tree};
 ghost use Rattle.dinode_core.specs.Inline.{form_fault, key_room, root_keys, root_level};
 ghost use Rattle.dinode_core.specs.Shape.{size_of};
 ghost use Rattle.fork_read.specs.Answers.{is_failed};
-ghost use Rattle.fork_read.specs.Pieces.{IsAnswer, IsForkAnswer, IsRefused, IsTreeAnswer};
+ghost use Rattle.fork_read.specs.Pieces.{IsAnswer, IsForkAnswer, IsRefused, IsSized, IsTreeAnswer};
 ghost use Rattle.fork_read.specs.Walk.{pruned, tasks_of};
 
 use crate::fault::{ForkPiece, ReadFault};
@@ -76,6 +76,7 @@ fn tree_piece<D: Device, L: Ledger>(
     requires tree { is_tree core.now fork ≡ true }
     requires room { geo.now.dblocks ≤ D.blocks dev.old Image }
     ensures exact { (c : Contents) → D.content dev.old ≡ Some c → IsTreeAnswer (layout geo.now) (c Image) core.now fork from result }
+    ensures size { IfOk result IsSized }
     ensures reading { OnlyRead D.Device dev.old dev.new steps.old steps.new }
     ensures cause { HasCauseBy is_failed (D.faults dev.old) (D.faults dev.new) result }
     ensures few { steps.new.reads ≤ steps.old.reads + 128 }
@@ -117,6 +118,7 @@ fn piece_in<D: Device, L: Ledger>(
 ) -> Result<ForkPiece, ReadFault>
     requires { geo.now.dblocks ≤ D.blocks dev.old Image }
     ensures exact { (c : Contents) → D.content dev.old ≡ Some c → IsForkAnswer (layout geo.now) (c Image) core.now fork from result }
+    ensures size { IfOk result IsSized }
     ensures reading { OnlyRead D.Device dev.old dev.new steps.old steps.new }
     ensures cause { HasCauseBy is_failed (D.faults dev.old) (D.faults dev.new) result }
     ensures few { steps.new.reads ≤ steps.old.reads + 128 }
@@ -132,11 +134,11 @@ fn piece_in<D: Device, L: Ledger>(
 }
 
 /// The next mappings of a fork: those that begin at the offset `from` or behind it, at most 512, and
-/// the blocks of its btree whose first mapping is among these, at most 128 of which are read, from the
-/// device itself. Where `next` is given, a mapping is left and at least one came; pieces from 0 on,
-/// each from the `next` of the one before, go through the whole fork. The core's first fault is
-/// refused, and the fork's: the first that is met. The number of a btree's mappings isn't compared
-/// with the core's. (XFS Algorithms and Data Structures, "Data Fork" and "Long Format B+trees".)
+/// the blocks of its btree whose first mapping isn't one of an earlier piece, at most 128 of which are
+/// read, from the device itself. Where `next` is given, a subtree that begins there is left, and at
+/// least one mapping came. The core's first fault is refused, and the fork's: the first of what was
+/// met. The number of a btree's mappings isn't compared with the core's. (XFS Algorithms and Data
+/// Structures, "Data Fork" and "Long Format B+trees".)
 pub fn fork_piece<D: Device, L: Ledger>(
     alloc: Global,
     dev: &mut D,
@@ -151,6 +153,7 @@ pub fn fork_piece<D: Device, L: Ledger>(
     requires room { geo.now.dblocks ≤ D.blocks dev.old Image }
     requires agreed { AgreesTold cache.old (D.content dev.old) }
     ensures exact { (c : Contents) → D.content dev.old ≡ Some c → IsAnswer (layout geo.now) (c Image) ino fork from result }
+    ensures size { IfOk result IsSized }
     ensures reading { OnlyRead D.Device dev.old dev.new steps.old steps.new }
     ensures cause { HasCauseBy is_failed (D.faults dev.old) (D.faults dev.new) result }
     ensures agrees { AgreesTold cache.new (D.content dev.new) }

@@ -6,9 +6,9 @@ ghost use Rattle.blk_device.specs.declared.device.Region.TheVariants.{Image};
 ghost use Rattle.geom.specs.Layout.{split_of};
 ghost use Rattle.geom.specs.Places.{layout};
 ghost use Rattle.dinode_core.specs.ForkTree.{numrecs};
-ghost use Rattle.fork_read.specs.Walk.{entry_of, last_in, passed_from, read_at, trail_of, walk_tasks};
+ghost use Rattle.fork_read.specs.Walk.{IsRead, Reaches, entry_of, last_in, passed_from, read_at, trail_of, walk_tasks};
 ghost use Rattle.std.specs.List.{slice_get, list_all};
-ghost use Rattle.fork_read.specs.Answers.{AllLow, bytes_of, HasRead, is_failed, IsOutside, IsStopped, last_clears, may_stop};
+ghost use Rattle.fork_read.specs.Answers.{AllLow, bytes_of, HasRead, IfRead, MayLeave, is_failed, IsOutside, IsReached, IsStopped, last_clears, may_stop};
 
 use crate::block::is_sound_at;
 use crate::fault::ReadFault;
@@ -110,6 +110,7 @@ fn read_task<D: Device, L: Ledger>(
     requires low { task.now.level < 9 }
     requires all_low { AllLow tasks.old.items }
     ensures read { IfOk result (λ read. (c : Contents) → D.content dev.old ≡ Some c → HasRead (walk_tasks (layout geo.now) (c Image) core.now from (task.now ∷ tasks.old.items) (trail_of seen.old)) read (walk_tasks (layout geo.now) (c Image) core.now from tasks.new.items (trail_of seen.new)) (trail_of seen.new)) }
+    ensures step { IfOk result (λ read. (c : Contents) → D.content dev.old ≡ Some c → IfRead read (IsRead (layout geo.now) (c Image) core.now from task.now tasks.old.items (trail_of seen.old) tasks.new.items (trail_of seen.new))) }
     ensures low { OnOk result (AllLow tasks.new.items) }
     ensures outside { IfErr result IsOutside }
     ensures grows { OnOk result (length seen.new.mappings.items ≤ length seen.old.mappings.items + 251) }
@@ -184,6 +185,8 @@ pub fn walk_on<D: Device, L: Ledger>(
     requires low { AllLow tasks.old.items }
     requires fresh { length seen.old.mappings.items ≤ 512 }
     ensures stopped { IfOk result (λ stop. (c : Contents) → D.content dev.old ≡ Some c → IsStopped (walk_tasks (layout geo.now) (c Image) core.now from tasks.old.items (trail_of seen.old)) (walk_tasks (layout geo.now) (c Image) core.now from) from stop tasks.new.items (trail_of seen.new)) }
+    ensures reached { IfOk result (λ stop. (c : Contents) → D.content dev.old ≡ Some c → IsReached (Reaches (layout geo.now) (c Image) core.now from tasks.old.items (trail_of seen.old)) stop tasks.new.items (trail_of seen.new)) }
+    ensures leaves { IfOk result (MayLeave from seen.new.mappings.items tasks.new.items) }
     ensures most { OnOk result (length seen.new.mappings.items ≤ 512) }
     ensures outside { IfErr result IsOutside }
     ensures reading { OnlyRead D.Device dev.old dev.new steps.old steps.new }

@@ -6,6 +6,7 @@ use Rattle.dinode_core.specs.Shape.{area_of, size_of}
 use Rattle.fork_read.specs.Walk.{trail_of}
 use Rattle.fork_read.proofs.PieceLemmas.{ends_of, numbers_same, tree_answered, tree_outside}
 use Rattle.fork_read.proofs.RootLemmas.{first_pushed, low_first, root_facts}
+use Rattle.fork_read.proofs.SizeLemmas.{sized}
 use Rattle.fork_read.proofs.piece.tree_piece.Goals as goal
 
 pub fork_area-area-requires : goal.fork_area-area-requires
@@ -47,5 +48,8 @@ pub returns-clause-exact : goal.returns-clause-exact
 returns-clause-exact g c = λ m e.
     let first = first_pushed c.args.core.now c.args.fork c.args.from c.fork_area-area.result.now c.root_room-room.result c.push_root.new.tasks.items c.new-tasks.result.items c.fork_area-area.ensures.bytes c.root_room-room.ensures c.new-tasks.ensures.items c.in-Ok.ensures.pushed in
     let level : c.in-Ok.level ≡ root_level (area_of c.args.core.now c.args.fork) = c.in-Ok.ensures.level ∙ ap root_level c.fork_area-area.ensures.bytes in
-    let walked = ends_of (layout c.args.geo.now) (m Image) c.args.core.now c.args.fork c.args.from c.push_root.new.tasks.items c.walk_on.new.tasks.items (trail_of c.fresh_seen-seen.result) (trail_of c.walk_on.new.seen) c.in-Ok-walk_on.stop first c.fresh_seen-seen.ensures (c.in-Ok-walk_on.ensures.stopped m e) in
+    let walked = ends_of (layout c.args.geo.now) (m Image) c.args.core.now c.args.fork c.args.from c.push_root.new.tasks.items c.walk_on.new.tasks.items (trail_of c.fresh_seen-seen.result) (trail_of c.walk_on.new.seen) c.in-Ok-walk_on.stop first c.fresh_seen-seen.ensures (c.in-Ok-walk_on.ensures.reached m e) (c.in-Ok-walk_on.ensures.stopped m e) in
     tree_answered (layout c.args.geo.now) (m Image) c.args.core.now c.args.fork c.args.from c.in-Ok-walk_on.stop (trail_of c.walk_on.new.seen) c.in-Ok.level (map (λ b. b.block) c.walk_on.new.seen.blocks.items) c.answer.result walked level (numbers_same c.walk_on.new.seen.blocks.items) c.answer.ensures.good c.answer.ensures.piece c.answer.ensures.fault
+
+pub returns-clause-size : goal.returns-clause-size
+returns-clause-size g c = sized c.args.from c.walk_on.new.seen.mappings.items (map (λ b. b.block) c.walk_on.new.seen.blocks.items) c.walk_on.new.tasks.items c.in-Ok-walk_on.stop c.answer.result c.in-Ok-walk_on.ensures.most c.in-Ok-walk_on.ensures.leaves c.answer.ensures.piece

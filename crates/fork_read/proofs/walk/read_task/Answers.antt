@@ -3,7 +3,7 @@ use Rattle.blk_device.specs.declared.device.Region.TheVariants.{Image}
 use Rattle.geom.specs.Places.{layout}
 use Rattle.fork_read.specs.Answers.{bytes_of}
 use Rattle.fork_read.specs.Walk.{trail_of}
-use Rattle.fork_read.proofs.WalkLemmas.{bad_block, leaf_block, node_block, pushed_low, pushed_node, with_leaf}
+use Rattle.fork_read.proofs.WalkLemmas.{bad_block, leaf_block, leaf_read, node_block, node_read, pushed_low, pushed_node, with_leaf}
 use Rattle.fork_read.proofs.walk.read_task.Goals as goal
 
 pub returns-in_default-clause-read : goal.returns-in_default-clause-read
@@ -25,3 +25,14 @@ returns-in-Ok-push_entries-clause-read g c = λ m e.
 pub returns-in-Ok-push_entries-clause-low : goal.returns-in-Ok-push_entries-clause-low
 returns-in-Ok-push_entries-clause-low g c =
     pushed_low c.args.from (c.args.task.now.level - 1) c.in-Some.block.bytes c.args.tasks.now.items c.push_entries.new.tasks.items (omega (arith, c.requires.low)) c.requires.all_low (pushed_node c.args.from (c.args.task.now.level - 1) c.get_u16.result c.in-Some.block.bytes c.args.tasks.now.items c.push_entries.new.tasks.items c.get_u16.ensures c.in-Ok-push_entries.ensures.pushed)
+
+pub returns-in-Ok-take_leaf-clause-step : goal.returns-in-Ok-take_leaf-clause-step
+returns-in-Ok-take_leaf-clause-step g c = λ m e.
+    let found = c.in-Ok.ensures.found m e in
+    leaf_read (layout c.args.geo.now) (m Image) c.args.core.now c.args.from c.args.task.now c.args.tasks.now.items (trail_of c.args.seen.now) (trail_of c.take_leaf.new.seen) c.in-Some.block.bytes c.if-task-eq0.true (found ∙ ap bytes_of c.in-Some.is) (with_leaf c.in-Some.block.bytes (trail_of c.note_block.new.seen) (trail_of c.take_leaf.new.seen) _ c.in-Ok-note_block.ensures.trail c.in-Ok-take_leaf.ensures.trail)
+
+pub returns-in-Ok-push_entries-clause-step : goal.returns-in-Ok-push_entries-clause-step
+returns-in-Ok-push_entries-clause-step g c = λ m e.
+    let found = c.in-Ok.ensures.found m e in
+    let high : 0 < c.args.task.now.level = omega (arith, c.if-task-eq0.false) in
+    node_read (layout c.args.geo.now) (m Image) c.args.core.now c.args.from c.args.task.now c.args.tasks.now.items c.push_entries.new.tasks.items (trail_of c.args.seen.now) (trail_of c.note_block.new.seen) c.in-Some.block.bytes high (found ∙ ap bytes_of c.in-Some.is) c.in-Ok-note_block.ensures.trail (pushed_node c.args.from (c.args.task.now.level - 1) c.get_u16.result c.in-Some.block.bytes c.args.tasks.now.items c.push_entries.new.tasks.items c.get_u16.ensures c.in-Ok-push_entries.ensures.pushed)

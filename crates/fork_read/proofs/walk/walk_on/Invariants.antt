@@ -4,12 +4,13 @@ use Rattle.blk_device.specs.Reading.{OnlyRead}
 use Rattle.blk_device.specs.declared.device.Region.TheVariants.{Image}
 use Rattle.geom.specs.Places.{layout}
 use Rattle.fork_read.specs.Answers.{AllLow}
-use Rattle.fork_read.specs.Walk.{trail_of, walk_tasks}
+use Rattle.fork_read.specs.Walk.{Reaches, trail_of, walk_tasks}
 use Rattle.fork_read.proofs.walk.walk_on.Given as goal
 
 abbrev pub invariant-loop-i : goal.invariant-loop-i
 invariant-loop-i g l = record {
   goes_on : (c : Contents) → g.D.Device.content l.fn.dev ≡ Some c → walk_tasks (layout l.geo) (c Image) l.core l.from l.fn.tasks.items (trail_of l.fn.seen) ≡ walk_tasks (layout l.geo) (c Image) l.core l.from l.tasks.items (trail_of l.seen);
+  comes : (c : Contents) → g.D.Device.content l.fn.dev ≡ Some c → Reaches (layout l.geo) (c Image) l.core l.from l.fn.tasks.items (trail_of l.fn.seen) l.tasks.items (trail_of l.seen);
   low : AllLow l.tasks.items;
   most : length l.seen.mappings.items ≤ 512;
   reading : OnlyRead g.D.Device l.fn.dev l.dev l.fn.steps l.steps;
