@@ -1,0 +1,5 @@
+pub mod Counting
+pub mod FoundLemmas
+pub mod OrderLemmas
+pub mod SortedLemmas
+pub mod SweepLemmas

@@ -1,0 +1,5 @@
+pub mod Firsts
+pub mod Order
+pub mod Pieces
+pub mod Sets
+pub mod Sweep
