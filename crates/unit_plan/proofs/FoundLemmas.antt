@@ -202,12 +202,11 @@ hit_block b (p ∷ q ∷ ps) (One c) a h ea eh two some e = absurd (never e)
     never e = cc
 hit_block b (p ∷ q ∷ ps) (Two c d) a h ea eh two some e =
     let same = two_first p.claim q.claim c d e in
-    let stands = any_some (λ e. not (is_written_data e)) (on_one b (p ∷ q ∷ ps)) (subst (λ (k : ℕ). 0 < k) (sym eh) some) in
-    (
+    let stands = any_some (λ e. not (is_written_data e)) (on_one b (p ∷ q ∷ ps)) (subst (λ (k : ℕ). 0 < k) (sym eh) some) in (
       Overlap b c d,
       refl,
       ap (λ (t : Bool). if t then Some (Overlap b p.claim q.claim) else None) stands
-      ∙ ap (λ (x : Claim). Some (Overlap b x q.claim)) same.0 ∙ ap (λ (x : Claim). Some (Overlap b c x)) same.1,
+          ∙ ap (λ (x : Claim). Some (Overlap b x q.claim)) same.0 ∙ ap (λ (x : Claim). Some (Overlap b c x)) same.1,
     )
 
 -- ---- the lowest of all

@@ -1,4 +1,5 @@
 pub mod Firsts
+pub mod Laws
 pub mod Order
 pub mod Pieces
 pub mod Sets

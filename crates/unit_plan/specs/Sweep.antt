@@ -9,6 +9,6 @@ abbrev pub swept : Among → ℕ → ℕ → List Piece → Option ℕ
 swept among end hard [] = None
 swept among end hard (p ∷ ps) =
     if is_looked_at among p.claim && nat_lt 0 p.run.count then
-      (if nat_lt p.run.start (if is_hard p then end else hard) then Some p.run.start
-      else swept among (max end (p.run.start + p.run.count)) (if is_hard p then max hard (p.run.start + p.run.count) else hard) ps)
+    (if nat_lt p.run.start (if is_hard p then end else hard) then Some p.run.start
+    else swept among (max end (p.run.start + p.run.count)) (if is_hard p then max hard (p.run.start + p.run.count) else hard) ps)
     else swept among end hard ps

@@ -3,9 +3,11 @@
 #![tactic(auto)]
 
 mod claims;
+mod laws;
 mod order;
 mod piece;
 mod sweep;
 
 pub use claims::ClaimSet;
-pub use piece::{Among, Memory, Piece};
+pub use laws::{any_order, in_group};
+pub use piece::{Among, Memory, PIECE_BYTES, Piece};

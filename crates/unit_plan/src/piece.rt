@@ -5,6 +5,7 @@ ghost use Rattle.unit_plan.specs.Pieces.{is_hard as is_hard_of, has_block as has
 use fs_model::Claim;
 use run_sets::Run;
 use std::alloc::AllocFailed;
+use std::mem::size_of;
 use thiserror::Error;
 
 /// Blocks of a group that one structure claims: a run of them, group-relative. `unwritten` tells of
@@ -16,6 +17,11 @@ pub struct Piece {
     pub run: Run,
     pub unwritten: bool,
 }
+
+/// At most so many bytes does a piece take.
+pub const PIECE_BYTES: usize = 40;
+
+const _: () = prove!(size_of::<Piece>() <= PIECE_BYTES);
 
 /// Which claims are looked at: all, or those of the group's own metadata, which are all but file
 /// data, attributes and blocks of a fork's btree.
@@ -62,6 +68,5 @@ pub fn has_block(among: Among, piece: &Piece, block: u32) -> bool
     ensures { result ≡ has_block_of among block piece.now }
 {
     let end = u64::from(piece.run.start) + u64::from(piece.run.count);
-    is_looked_at(among, &piece.claim)
-        && (piece.run.start <= block && u64::from(block) < end)
+    is_looked_at(among, &piece.claim) && (piece.run.start <= block && u64::from(block) < end)
 }
