@@ -1,0 +1,6 @@
+pub mod Counting
+pub mod FoundLemmas
+pub mod LawLemmas
+pub mod OrderLemmas
+pub mod SortedLemmas
+pub mod SweepLemmas
