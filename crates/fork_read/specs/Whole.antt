@@ -17,8 +17,7 @@ pub record IsWhole (at : Layout) (image : Image) (core : Core3) (fork : Fork) (p
   pub mappings : piece.mappings.items ≡ (met_of at image core fork).mappings
   pub tree_blocks : piece.tree_blocks.items ≡ map (λ b. b.block) (met_of at image core fork).blocks
 
--- subtrees were left when a piece from 0 on found this fault: the first bad mapping of those that were met, or Order,
--- where no piece can end
+-- subtrees were left when a piece from 0 on found this fault: the first bad mapping of those that were met, or Order
 pub record IsCut (at : Layout) (image : Image) (core : Core3) (fork : Fork) (fault : ForkFault) : Type 0 where
   pub tasks : List Task
   pub trail : Trail

@@ -17,9 +17,10 @@ pub fn one_piece_is_whole(core: &Core3, fork: Fork, geo: &Geometry)
     ensures { (image : ℕ → List ℕ) (piece : AnyPiece) → IsForkPiece (layout geo.now) image core.now fork 0 piece → piece.next ≡ None → IsWhole (layout geo.now) image core.now fork piece }
 {}
 
-/// The fault for which a piece from 0 on is refused is the fork's first one, where the walk came to a
-/// bad block or to the fork's end; where it ended before, the first bad mapping of those that it met,
-/// or Order where no piece can end. (XFS Algorithms and Data Structures, "Data Fork".)
+/// The fault for which a piece from 0 on is refused is the fork's first one, where the inode shows it
+/// or the walk came to a bad block or to the fork's end. Where it was left before, the fault is the first
+/// bad mapping of those that were met, or Order, of which nothing is said then.
+/// (XFS Algorithms and Data Structures, "Data Fork".)
 pub fn refusal_is_first(core: &Core3, fork: Fork, geo: &Geometry)
     ensures { (image : ℕ → List ℕ) (fault : AnyFault) → IsForkFault (layout geo.now) image core.now fork 0 fault → (walk_fault (layout geo.now) image core.now fork ≡ Some fault) ⊎ IsCut (layout geo.now) image core.now fork fault }
 {}
