@@ -3,3 +3,5 @@
 
 #[cfg(test)]
 mod inodes;
+#[cfg(test)]
+mod pieces;
