@@ -39,10 +39,8 @@ fn forwards(alloc: Global, pieces: &[Piece], among: Among) -> Result<Option<Evid
 
 fn backwards(alloc: Global, pieces: &[Piece], among: Among) -> Result<Option<Evidence>, Memory> {
     let mut set = ClaimSet::new(alloc);
-    let mut rest = pieces;
-    while let Some((last, front)) = rest.split_last() {
-        set.put(*last)?;
-        rest = front;
+    for piece in pieces.iter().rev() {
+        set.put(*piece)?;
     }
     Ok(set.first_overlap(among))
 }
