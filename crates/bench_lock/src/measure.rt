@@ -12,7 +12,7 @@ use std::time::Instant;
 use turn_lock::ACTORS;
 
 // How many turns all threads take together.
-const TURNS: u32 = 160_000;
+const TURNS: u32 = 1_600_000;
 
 fn no_memory() -> io::Error {
     io::Error::new(io::ErrorKind::OutOfMemory, "memory")

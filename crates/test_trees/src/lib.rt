@@ -12,6 +12,8 @@ mod finding;
 #[cfg(test)]
 mod kinds;
 #[cfg(test)]
+mod pieces;
+#[cfg(test)]
 mod read;
 #[cfg(test)]
 mod single;

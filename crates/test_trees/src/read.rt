@@ -16,7 +16,8 @@ use std::marker::Brand;
 use std::sync::ledger::{Blank, Ledger};
 use tree_walk::{TreeAt, TreeRead, WalkFault, claimed, walk};
 
-fn one_group() -> Geometry
+/// The group, which is the only one.
+pub fn one_group() -> Geometry
     ensures group { result.agcount ≡ 1 }
     ensures blocks { result.dblocks ≡ 1048576 }
 {
@@ -32,7 +33,8 @@ fn one_group() -> Geometry
     }
 }
 
-fn tree_at(kind: Kind, root: u32, levels: u32) -> TreeAt
+/// The tree of this kind with this root and so many levels.
+pub fn tree_at(kind: Kind, root: u32, levels: u32) -> TreeAt
     ensures kind { result.kind ≡ kind }
     ensures group { result.group ≡ 0 }
 {
