@@ -5,13 +5,14 @@ ghost use Rattle.turn_lock.specs.Lists.{Begins};
 use std::alloc::Global;
 use turn_lock::{ACTORS, Recorded};
 
-// Who wrote a note, and which of its notes it is.
+/// Who wrote a note, and which of its notes it is.
 #[derive(Clone, Copy, Drop)]
 pub struct Note {
     pub actor: u32,
     pub number: u32,
 }
 
+/// A journal of notes, how many each actor wrote last, and a name that no turn changes.
 #[derive(Drop)]
 pub struct Notes {
     pub entries: Vec<Note>,
@@ -40,6 +41,7 @@ impl Recorded for Notes {
 }
 
 impl Notes {
+    /// A journal without notes.
     pub fn new(alloc: Global, name: u64) -> Notes
         ensures { result.entries.items ≡ [] }
     {
@@ -50,7 +52,7 @@ impl Notes {
         }
     }
 
-    // Writes a note down, and counts it. Without memory nothing changes.
+    /// Writes a note down, and counts it. Without memory nothing changes.
     pub fn add(&mut self, actor: u32, number: u32) -> bool
         requires { actor < ACTORS }
         ensures journal { Begins self.old.entries.items self.new.entries.items }
@@ -64,13 +66,13 @@ impl Notes {
         true
     }
 
-    // Whether these are the notes, in this order.
+    /// Whether these are the notes, in this order.
     pub fn are(&self, wanted: &[(u32, u32)]) -> bool {
         let found = self.entries.iter().map(|note| (note.actor, note.number));
         found.eq(wanted.iter().copied())
     }
 
-    // Whether each actor has so many notes in the journal, each once and in its order.
+    /// Whether each actor has so many notes in the journal, each once and in its order.
     pub fn has_all(&self, notes: u32) -> bool {
         let mut next = [0u32; 17];
         for note in &self.entries {

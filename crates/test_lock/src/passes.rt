@@ -11,7 +11,7 @@ use std::sync::Wait;
 use std::thread::{self, Threads};
 use turn_lock::{ACTORS, LockFault, Pass, TurnLock};
 
-// A lock round a new journal.
+/// A lock round a new journal.
 pub fn opened(alloc: Global, ticket: u64) -> Result<(TurnLock<Notes>, Pass<Notes>), LockFault>
     ensures belongs { IfOk result (λ r. Belongs r.1 r.0) }
     ensures speaks { IfOk result (λ r. actors_of (known r.1).kept ≡ from_up 0 ACTORS) }
@@ -45,7 +45,7 @@ fn note<W: Wait>(
     )
 }
 
-// A turn that adds no entry. The answer is how many there are.
+/// A turn that adds no entry. The answer is how many there are.
 pub fn count<W: Wait>(lock: &TurnLock<Notes>, rt: &W, pass: &mut Pass<Notes>) -> u64
     requires belongs { Belongs pass.old lock.now }
     ensures belongs { Belongs pass.new lock.now }
@@ -62,7 +62,7 @@ pub fn count<W: Wait>(lock: &TurnLock<Notes>, rt: &W, pass: &mut Pass<Notes>) ->
     )
 }
 
-// The notes of one actor, a turn for each, by a pass that speaks for `actors` actors from `first` up.
+/// The notes of one actor, a turn for each, by a pass that speaks for `actors` actors from `first` up.
 pub fn write<W: Wait>(
     lock: &TurnLock<Notes>,
     rt: &W,
@@ -83,7 +83,7 @@ pub fn write<W: Wait>(
     pass
 }
 
-// Two passes of one: the first `lower` of its actors, and the `upper` others.
+/// Two passes of one: the first `lower` of its actors, and the `upper` others.
 pub fn halves(
     lock: &TurnLock<Notes>,
     mut pass: Pass<Notes>,
@@ -102,7 +102,7 @@ pub fn halves(
     (pass, other)
 }
 
-// Each of the actors from `first` up writes its notes in a thread of its own, with a pass of its own.
+/// Each of the actors from `first` up writes its notes in a thread of its own, with a pass of its own.
 pub fn write_in_threads<R: Threads + Wait + Sync>(
     lock: &TurnLock<Notes>,
     rt: &R,

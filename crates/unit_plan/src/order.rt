@@ -5,7 +5,7 @@ ghost use Rattle.unit_plan.specs.Firsts.{listed, shown_of};
 use fs_model::{Claim, Evidence};
 use sblock::Kind;
 
-// The first two of some claims.
+/// The first two of some claims.
 #[derive(Clone, Copy)]
 pub enum Firsts {
     Nothing,
@@ -67,7 +67,7 @@ fn is_first(place: u8, inode: u64, other_place: u8, other_inode: u64) -> bool
     }
 }
 
-// Whether the claim is shown before the other.
+/// Whether the claim is shown before the other.
 pub fn comes_before(claim: Claim, other: Claim) -> bool
     ensures { result ≡ comes_before_of claim other }
 {
@@ -78,7 +78,7 @@ pub fn comes_before(claim: Claim, other: Claim) -> bool
     is_first(place, inode, other_place, other_inode)
 }
 
-// The first two of these claims and one more.
+/// The first two of these claims and one more.
 pub fn with_claim(firsts: Firsts, claim: Claim) -> Firsts
     ensures { listed result ≡ take 2 (put claim (listed firsts)) }
 {
@@ -107,7 +107,7 @@ fn with_two(first: Claim, second: Claim, claim: Claim) -> Firsts
     Firsts::Two(first, claim)
 }
 
-// What is shown of a block with these first two claims.
+/// What is shown of a block with these first two claims.
 pub fn shown(firsts: Firsts, block: u32) -> Option<Evidence>
     ensures { result ≡ shown_of block firsts }
 {

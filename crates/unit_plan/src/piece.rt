@@ -44,7 +44,7 @@ impl From<AllocFailed<Piece>> for Memory {
     }
 }
 
-// Whether claims of this sort are looked at.
+/// Whether claims of this sort are looked at.
 pub fn is_looked_at(among: Among, claim: &Claim) -> bool
     ensures { result ≡ is_looked_at_of among claim.now }
 {
@@ -56,14 +56,14 @@ pub fn is_looked_at(among: Among, claim: &Claim) -> bool
     }
 }
 
-// Whether the piece stands beside no other: it isn't written file data.
+/// Whether the piece stands beside no other: it isn't written file data.
 pub fn is_hard(piece: &Piece) -> bool
     ensures { result ≡ is_hard_of piece.now }
 {
     piece.unwritten || !matches!(piece.claim, Claim::Data(_))
 }
 
-// Whether the piece is looked at and has the block.
+/// Whether the piece is looked at and has the block.
 pub fn has_block(among: Among, piece: &Piece, block: u32) -> bool
     ensures { result ≡ has_block_of among block piece.now }
 {

@@ -54,8 +54,8 @@ fn is_met(passed: Passed, piece: &Piece) -> bool
     u64::from(piece.run.start) < reach
 }
 
-// The first of the blocks where a piece begins on which an earlier piece still goes on that it
-// can't stand beside.
+/// The first of the blocks where a piece begins on which an earlier piece still goes on that it
+/// can't stand beside.
 pub fn first_met(pieces: &[Piece], among: Among) -> Option<u32>
     ensures { result ≡ swept among 0 0 pieces.now }
 {
@@ -74,7 +74,7 @@ pub fn first_met(pieces: &[Piece], among: Among) -> Option<u32>
     None
 }
 
-// The first two claims on the block.
+/// The first two claims on the block.
 pub fn firsts_on(pieces: &[Piece], among: Among, block: u32) -> Firsts
     ensures { listed result ≡ firsts_from [] (map (λ p. p.claim) (filter (has_block_of among block) pieces.now)) }
 {
