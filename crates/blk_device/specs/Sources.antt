@@ -1,7 +1,11 @@
 -- What a source in memory tells beside what each source tells.
-use Rattle.std.specs.Prelude.{◌≡◌, ℕ, List, Contains}
+use Rattle.std.specs.Prelude.{◌≡◌, ℕ, List, Option, Some, Contains, drop}
 use Rattle.blk_device.specs.Causes.{one_more}
 use Rattle.blk_device.specs.declared.given.MemSource.{MemSource}
+
+-- the bytes that are left
+abbrev pub left_in : MemSource → Option (List ℕ)
+left_in s = Some (drop s.at s.bytes.items)
 
 -- how often it was asked
 abbrev pub calls_taken : MemSource → ℕ

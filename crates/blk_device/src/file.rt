@@ -17,7 +17,8 @@ enum RedoPlace<F: Drop> {
 }
 
 /// A device over two open files, the image and the redo file beside it. It tells nothing of what
-/// they hold: what the system does with a file is no part of a proof.
+/// they hold, and a crash may leave anything: what the system does with a file is no part of a
+/// proof.
 #[derive(Drop)]
 pub struct FileDevice<F: Read + Write + Seek + OpenFile + Drop> {
     image: F,
@@ -29,7 +30,7 @@ pub struct FileDevice<F: Read + Write + Seek + OpenFile + Drop> {
 }
 
 impl<F: Read + Write + Seek + OpenFile + Drop> FileDevice<F> {
-    ghost use Rattle.blk_device.specs.Contents.{same_region};
+    ghost use Rattle.blk_device.specs.Contents.{same_region, Contents};
     ghost use Rattle.blk_device.specs.declared.device.Region.{Region};
     ghost use Rattle.blk_device.specs.declared.device.Region.TheVariants.{Image};
 
@@ -43,6 +44,7 @@ impl<F: Read + Write + Seek + OpenFile + Drop> FileDevice<F> {
         redo_blocks: u64,
     ) -> Self
         ensures sizes { (r : Region) → ⟦<FileDevice<F> as Device>⟧.blocks result r ≡ (if same_region r Image then image_blocks else redo_blocks) }
+        ensures any_crash { (c : Contents) → ⟦<FileDevice<F> as Device>⟧.may_hold_now result c }
         ensures faults { ⟦<FileDevice<F> as Device>⟧.faults result ≡ 0 }
         ensures reads { ⟦<FileDevice<F> as Device>⟧.reads result ≡ 0 }
     {
@@ -101,17 +103,17 @@ fn sync_redo<F: OpenFile + Drop>(redo: &RedoPlace<F>) -> bool {
 }
 
 impl<F: Read + Write + Seek + OpenFile + Drop> Device for FileDevice<F> {
-    ghost use Rattle.std.specs.Prelude.{None};
+    ghost use Rattle.std.specs.Prelude.{None, ⊤};
     ghost use Rattle.blk_device.specs.Contents.{same_region};
     ghost use Rattle.blk_device.specs.declared.device.Region.TheVariants.{Image};
 
     ghost content = { λ d. None };
 
-    ghost may_hold_now = { λ d c. ⊥ };
+    ghost may_hold_now = { λ d c. ⊤ };
 
     ghost clock = { λ d. 0 };
 
-    ghost may_have_held_since = { λ d t c. ⊥ };
+    ghost may_have_held_since = { λ d t c. ⊤ };
 
     ghost faults = { λ d. d.faults };
 

@@ -1,7 +1,7 @@
 ghost use Rattle.std.specs.Prelude.{◌≡◌, ◌<◌, ◌-◌, ◌↔◌, Some, true, false, IsErr, IsTrue, OnErr, OnOk};
 ghost use Rattle.blk_device.specs.Causes.{HasCause, one_more};
 ghost use Rattle.blk_device.specs.Contents.{InDoubt, Holds, Doubts, map_told, put};
-ghost use Rattle.blk_device.specs.Crash.{Follows, NoMore, Elapses, IsDurable, KeepsOther, LeavesAny};
+ghost use Rattle.blk_device.specs.Crash.{Follows, NoMore, IsDurable, KeepsOther, LeavesAny};
 
 use crate::counted::answer;
 use crate::device::{Device, DeviceFailed, Region};
@@ -61,9 +61,9 @@ impl Device for FuseDevice {
     ghost use Rattle.std.specs.Prelude.{reverse};
     ghost use Rattle.blk_device.specs.Calls.{held_now, only_held, seen_now, seen_whole, LeavesSettled};
     ghost use Rattle.blk_device.specs.Stored.{with_stored, stored_whole};
-    ghost use Rattle.blk_device.specs.Fuse.{behind, FailsSoon, PassesOne};
+    ghost use Rattle.blk_device.specs.Fuse.{behind, left_behind, ElapsesBehind, FailsSoon, PassesOne};
     ghost use Rattle.blk_device.specs.Memory.{has_lost_doubt, size_of};
-    ghost use Rattle.blk_device.specs.Recorded.{seen, left_now, moment, left_since};
+    ghost use Rattle.blk_device.specs.Recorded.{seen};
 
     ghost content = { λ d. ⟦<MemDevice as Device>⟧.content d.inner };
 
@@ -99,14 +99,14 @@ impl Device for FuseDevice {
     fn read(&mut self, region: Region, at: u64, into: &mut Block) -> Result<(), DeviceFailed>
         ensures bytes { OnOk result (Holds region at into.new.bytes (Some (seen (behind self.old).log))) }
         ensures same { Some (seen (behind self.new).log) ≡ Some (seen (behind self.old).log) }
-        ensures crash { NoMore (left_now (behind self.old).log) (left_now (behind self.new).log) }
-        ensures time { Elapses (moment (behind self.old).log) (moment (behind self.new).log) (left_since (behind self.old).log) (left_since (behind self.new).log) (left_now (behind self.new).log) }
+        ensures crash { NoMore (left_behind self.old) (left_behind self.new) }
+        ensures time { ElapsesBehind self.old self.new }
         ensures sizes { size_of (behind self.new) ≡ size_of (behind self.old) }
         ensures cause { HasCause self.old.faults self.new.faults result }
         ensures reads { self.new.reads ≡ one_more self.old.reads }
         ensures fails { IsErr result ↔ FailsSoon self.old }
         ensures calls { PassesOne self.old self.new }
-        ensures doubts { NoMore (left_now (behind self.new).log) (left_now (behind self.old).log) }
+        ensures doubts { NoMore (left_behind self.new) (left_behind self.old) }
         ensures lost { has_lost_doubt (behind self.new) ≡ has_lost_doubt (behind self.old) }
     {
         self.reads = self.reads.saturating_add(1);
@@ -124,16 +124,16 @@ impl Device for FuseDevice {
     fn write(&mut self, region: Region, at: u64, from: &Block) -> Result<(), DeviceFailed>
         ensures written { OnOk result (Some (seen (behind self.new).log) ≡ Some (put region at from.now.bytes (seen (behind self.old).log))) }
         ensures doubt { InDoubt region at (seen (behind self.old).log) (seen (behind self.new).log) }
-        ensures crash { Follows (InDoubt region at) (left_now (behind self.old).log) (left_now (behind self.new).log) }
-        ensures time { Elapses (moment (behind self.old).log) (moment (behind self.new).log) (left_since (behind self.old).log) (left_since (behind self.new).log) (left_now (behind self.new).log) }
+        ensures crash { Follows (InDoubt region at) (left_behind self.old) (left_behind self.new) }
+        ensures time { ElapsesBehind self.old self.new }
         ensures sizes { size_of (behind self.new) ≡ size_of (behind self.old) }
         ensures cause { HasCause self.old.faults self.new.faults result }
         ensures reads { self.new.reads ≡ self.old.reads }
         ensures fails { FailsSoon self.old → IsErr result }
         ensures calls { PassesOne self.old self.new }
         ensures unwritten { OnErr result (seen (behind self.new).log ≡ seen (behind self.old).log) }
-        ensures torn { OnOk result (LeavesAny region at (left_now (behind self.old).log) (left_now (behind self.new).log)) }
-        ensures torn_failed { OnErr result (has_lost_doubt (behind self.new) ≡ false → LeavesAny region at (left_now (behind self.old).log) (left_now (behind self.new).log)) }
+        ensures torn { OnOk result (LeavesAny region at (left_behind self.old) (left_behind self.new)) }
+        ensures torn_failed { OnErr result (has_lost_doubt (behind self.new) ≡ false → LeavesAny region at (left_behind self.old) (left_behind self.new)) }
         ensures kept { OnOk result (has_lost_doubt (behind self.new) ≡ has_lost_doubt (behind self.old)) }
         ensures lost { has_lost_doubt (behind self.old) ≡ true → has_lost_doubt (behind self.new) ≡ true }
     {
@@ -149,18 +149,18 @@ impl Device for FuseDevice {
 
     /// Fails where no call is left to pass on, or where the device behind fails.
     fn sync(&mut self, region: Region) -> Result<(), DeviceFailed>
-        ensures durable { OnOk result (IsDurable region (Some (seen (behind self.old).log)) (left_now (behind self.new).log)) }
-        ensures settled { OnOk result (LeavesSettled region (seen (behind self.old).log) (left_now (behind self.old).log) (left_now (behind self.new).log)) }
-        ensures other { KeepsOther region (left_now (behind self.old).log) (left_now (behind self.new).log) }
+        ensures durable { OnOk result (IsDurable region (Some (seen (behind self.old).log)) (left_behind self.new)) }
+        ensures settled { OnOk result (LeavesSettled region (seen (behind self.old).log) (left_behind self.old) (left_behind self.new)) }
+        ensures other { KeepsOther region (left_behind self.old) (left_behind self.new) }
         ensures same { Some (seen (behind self.new).log) ≡ Some (seen (behind self.old).log) }
-        ensures crash { NoMore (left_now (behind self.old).log) (left_now (behind self.new).log) }
-        ensures time { Elapses (moment (behind self.old).log) (moment (behind self.new).log) (left_since (behind self.old).log) (left_since (behind self.new).log) (left_now (behind self.new).log) }
+        ensures crash { NoMore (left_behind self.old) (left_behind self.new) }
+        ensures time { ElapsesBehind self.old self.new }
         ensures sizes { size_of (behind self.new) ≡ size_of (behind self.old) }
         ensures cause { HasCause self.old.faults self.new.faults result }
         ensures reads { self.new.reads ≡ self.old.reads }
         ensures fails { FailsSoon self.old → IsErr result }
         ensures calls { PassesOne self.old self.new }
-        ensures doubts { OnErr result (NoMore (left_now (behind self.new).log) (left_now (behind self.old).log)) }
+        ensures doubts { OnErr result (NoMore (left_behind self.new) (left_behind self.old)) }
         ensures lost { has_lost_doubt (behind self.new) ≡ has_lost_doubt (behind self.old) }
     {
         if !does_pass(&mut self.left) {

@@ -66,10 +66,10 @@ fn copy_some(from: &[u8], into: &mut [u8]) -> usize
 }
 
 impl Source for MemSource {
-    ghost use Rattle.blk_device.specs.Sources.{FailsToGive, TakenOnce};
+    ghost use Rattle.blk_device.specs.Sources.{left_in, FailsToGive, TakenOnce};
     ghost use Rattle.blk_device.specs.Taken.{Gives, IsSpent};
 
-    ghost bytes_left = { λ s. Some (drop s.at s.bytes.items) };
+    ghost bytes_left = { left_in };
 
     ghost source_faults = { λ s. s.faults };
 
@@ -80,9 +80,9 @@ impl Source for MemSource {
     /// Fails exactly where this call's number is one of those that fail.
     fn take(&mut self, into: &mut [u8]) -> Result<usize, SourceFailed>
         ensures bound { IfOk result (λ n. n ≤ length into.new) }
-        ensures bytes { IfOk result (λ n. Gives (take n into.new) (Some (drop self.old.at self.old.bytes.items)) (Some (drop self.new.at self.new.bytes.items))) }
-        ensures end { IfOk result (λ n. n ≡ 0 → 0 < length into.new → IsSpent (Some (drop self.old.at self.old.bytes.items))) }
-        ensures none { OnErr result (Some (drop self.new.at self.new.bytes.items) ≡ Some (drop self.old.at self.old.bytes.items)) }
+        ensures bytes { IfOk result (λ n. Gives (take n into.new) (left_in self.old) (left_in self.new)) }
+        ensures end { IfOk result (λ n. n ≡ 0 → 0 < length into.new → IsSpent (left_in self.old)) }
+        ensures none { OnErr result (left_in self.new ≡ left_in self.old) }
         ensures cause { HasCause self.old.faults self.new.faults result }
         ensures fails { IsErr result ↔ FailsToGive self.old }
         ensures asked { TakenOnce self.old self.new }

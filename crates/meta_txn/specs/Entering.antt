@@ -1,10 +1,17 @@
 -- How the block of a number gets into a transaction.
-use Rattle.std.specs.Prelude.{◌≡◌, ◌<◌, ℕ, true, false, List, length, Option, Some, None}
+use Rattle.std.specs.Prelude.{◌≡◌, ◌<◌, ℕ, true, false, List, length, Option, Some, None, is_some, if◌then◌else◌}
+use Rattle.blk_cache.specs.Cache.{kept}
+use Rattle.blk_cache.specs.declared.cache.BlkCache.{BlkCache}
+use Rattle.blk_device.specs.Causes.{one_more}
 use Rattle.blk_device.specs.Contents.{Contents, Holds}
 use Rattle.blk_device.specs.declared.device.Region.TheVariants.{Image}
 use Rattle.redo_area.specs.Area.{Batch}
 use Rattle.meta_txn.specs.Joined.{Joined, bytes_at, with_block, Finds}
 use Rattle.meta_txn.specs.Places.{place, is_there, bytes_in, set_bytes}
+
+-- the device's count of reads after a read through the cache: no more where the cache keeps the block
+abbrev pub reads_after : BlkCache → ℕ → ℕ → ℕ
+reads_after cache at before = if is_some (kept cache at) then before else one_more before
 
 -- the number is joined, in this place
 pub record IsFound (at i : ℕ) (blocks : Batch) : Type 0 where

@@ -31,6 +31,10 @@ with_block at bytes (p ∷ ps) =
 abbrev pub written : Blocks → Joined → Blocks
 written image txn b = unwrap_or (bytes_at b txn.blocks) (image b)
 
+-- what a commit makes of an image
+abbrev pub written_by : Joined → Blocks → Blocks
+written_by txn image = written image txn
+
 -- each block has 4,096 bytes
 abbrev pub AreWhole : Batch → Type 0
 AreWhole [] = ⊤

@@ -1,15 +1,15 @@
 // A batch written and told.
-ghost use Rattle.std.specs.Prelude.{◌≡◌, ◌≤◌, ◌<◌, ◌+◌, ◌^◌, ℕ, Bool, [], true, length, IsOk, IfErr, IfSome, OnOk, OnErr};
+ghost use Rattle.std.specs.Prelude.{◌≡◌, ◌≤◌, ◌<◌, ◌+◌, ◌^◌, ℕ, Bool, [], true, length, IsOk, IfErr, OnOk, OnErr};
 ghost use Rattle.blk_cache.specs.Cache.{capacity_of, Agrees, AgreesTold};
 ghost use Rattle.blk_device.specs.Causes.{HasCause};
 ghost use Rattle.blk_device.specs.Contents.{Contents, Becomes};
-ghost use Rattle.blk_device.specs.Crash.{LeavesOnly};
 ghost use Rattle.blk_device.specs.declared.device.Region.TheVariants.{Image, Redo};
 ghost use Rattle.redo_area.specs.Area.{bytes_of, put_homes, with_batch};
+ghost use Rattle.redo_area.specs.Calls.{LeavesFrom, Reaches};
 ghost use Rattle.redo_area.specs.Recover.{StaysTold};
-ghost use Rattle.redo_area.specs.Stages.{AtRest, AtRestBut, Ends, EndsBut};
+ghost use Rattle.redo_area.specs.Stages.{AtRest, AtRestBut, BeforeOrAfter, BeforeOrAfterBut, EndsAs, EndsAsBut};
 ghost use Rattle.redo_area.specs.Table.{places, rises};
-ghost use Rattle.meta_txn.specs.Whole.{HoldsBatch, StandsForEither, StandsForEitherBut};
+ghost use Rattle.meta_txn.specs.Whole.{HoldsBatch};
 
 use crate::fault::TxnFault;
 use crate::whole::write_whole;
@@ -54,10 +54,12 @@ fn write_some<D: Device>(
     requires rise { rises 0 (D.blocks dev.old Image) (places batch.now) ≡ true }
     requires agreed { AgreesTold cache.old (D.content dev.old) }
     ensures image { OnOk result (Becomes (D.content dev.old) (D.content dev.new) (HoldsBatch (bytes_of batch.now))) }
-    ensures done { IfSome (D.content dev.old) (AtRest (D.may_hold_now dev.old)) → OnOk result (Becomes (D.content dev.old) (D.content dev.new) (λ m. Ends (with_batch (bytes_of batch.now) (m Image)) (D.may_hold_now dev.new))) }
-    ensures any_moment { IfSome (D.content dev.old) (λ m. AtRest (D.may_hold_now dev.old) m → LeavesOnly D.clock D.may_have_held_since dev.old dev.new (StandsForEither (D.blocks dev.old Image) (m Image) (with_batch (bytes_of batch.now) (m Image)))) }
-    ensures done_but { (K : ℕ → Bool) → IfSome (D.content dev.old) (AtRestBut K (D.may_hold_now dev.old)) → OnOk result (Becomes (D.content dev.old) (D.content dev.new) (λ m. Ends (with_batch (bytes_of batch.now) (m Image)) (D.may_hold_now dev.new))) }
-    ensures any_moment_but { (K : ℕ → Bool) → IfSome (D.content dev.old) (λ m. AtRestBut K (D.may_hold_now dev.old) m → LeavesOnly D.clock D.may_have_held_since dev.old dev.new (StandsForEitherBut K (D.blocks dev.old Image) (m Image) (with_batch (bytes_of batch.now) (m Image)))) }
+    ensures done { Reaches D.Device dev.old dev.new result AtRest (EndsAs (with_batch (bytes_of batch.now))) }
+    ensures any_moment { LeavesFrom D.Device dev.old dev.new AtRest (BeforeOrAfter (with_batch (bytes_of batch.now))) }
+    ensures done_but { (K : ℕ → Bool) → Reaches D.Device dev.old dev.new result
+        (AtRestBut K) (EndsAs (with_batch (bytes_of batch.now))) }
+    ensures any_moment_but { (K : ℕ → Bool) → LeavesFrom D.Device dev.old dev.new
+        (AtRestBut K) (BeforeOrAfterBut K (with_batch (bytes_of batch.now))) }
     ensures agrees { OnOk result (AgreesTold cache.new (D.content dev.new)) }
     ensures untold { OnErr result (cache.new ≡ cache.old) }
     ensures capacity { capacity_of cache.new ≡ capacity_of cache.old }
@@ -86,11 +88,14 @@ pub fn write_batch<D: Device, L: Ledger>(
     requires rise { rises 0 (D.blocks dev.old Image) (places batch.now) ≡ true }
     requires agreed { AgreesTold cache.old (D.content dev.old) }
     ensures image { OnOk result (Becomes (D.content dev.old) (D.content dev.new) (HoldsBatch (bytes_of batch.now))) }
-    ensures done { IfSome (D.content dev.old) (AtRest (D.may_hold_now dev.old)) → OnOk result (Becomes (D.content dev.old) (D.content dev.new) (λ m. Ends (with_batch (bytes_of batch.now) (m Image)) (D.may_hold_now dev.new))) }
-    ensures any_moment { IfSome (D.content dev.old) (λ m. AtRest (D.may_hold_now dev.old) m → LeavesOnly D.clock D.may_have_held_since dev.old dev.new (StandsForEither (D.blocks dev.old Image) (m Image) (with_batch (bytes_of batch.now) (m Image)))) }
-    ensures done_but { (K : ℕ → Bool) → 0 < length batch.now → IfSome (D.content dev.old) (AtRestBut K (D.may_hold_now dev.old)) → OnOk result (Becomes (D.content dev.old) (D.content dev.new) (λ m. Ends (with_batch (bytes_of batch.now) (m Image)) (D.may_hold_now dev.new))) }
-    ensures rest_but { (K : ℕ → Bool) → IfSome (D.content dev.old) (AtRestBut K (D.may_hold_now dev.old)) → OnOk result (Becomes (D.content dev.old) (D.content dev.new) (λ m. EndsBut K (with_batch (bytes_of batch.now) (m Image)) (D.may_hold_now dev.new))) }
-    ensures any_moment_but { (K : ℕ → Bool) → IfSome (D.content dev.old) (λ m. AtRestBut K (D.may_hold_now dev.old) m → LeavesOnly D.clock D.may_have_held_since dev.old dev.new (StandsForEitherBut K (D.blocks dev.old Image) (m Image) (with_batch (bytes_of batch.now) (m Image)))) }
+    ensures done { Reaches D.Device dev.old dev.new result AtRest (EndsAs (with_batch (bytes_of batch.now))) }
+    ensures any_moment { LeavesFrom D.Device dev.old dev.new AtRest (BeforeOrAfter (with_batch (bytes_of batch.now))) }
+    ensures done_but { (K : ℕ → Bool) → 0 < length batch.now → Reaches D.Device dev.old dev.new result
+        (AtRestBut K) (EndsAs (with_batch (bytes_of batch.now))) }
+    ensures rest_but { (K : ℕ → Bool) → Reaches D.Device dev.old dev.new result
+        (AtRestBut K) (EndsAsBut K (with_batch (bytes_of batch.now))) }
+    ensures any_moment_but { (K : ℕ → Bool) → LeavesFrom D.Device dev.old dev.new
+        (AtRestBut K) (BeforeOrAfterBut K (with_batch (bytes_of batch.now))) }
     ensures nothing { bytes_of batch.now ≡ [] → IsOk result × (dev.new ≡ dev.old) × (cache.new ≡ cache.old) }
     ensures agrees { OnOk result (AgreesTold cache.new (D.content dev.new)) }
     ensures untold { OnErr result (cache.new ≡ cache.old) }
@@ -106,8 +111,6 @@ pub fn write_batch<D: Device, L: Ledger>(
     if batch.is_empty() {
         return Ok(());
     }
-    match write_some(dev, cache, batch) {
-        Ok(()) => Ok(()),
-        Err(DeviceFailed) => Err(TxnFault::Failed),
-    }
+    write_some(dev, cache, batch)?;
+    Ok(())
 }

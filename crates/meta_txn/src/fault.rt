@@ -1,5 +1,6 @@
 ghost use Rattle.std.specs.Prelude.{◌≡◌};
 
+use blk_device::DeviceFailed;
 use thiserror::Error;
 
 /// Why a transaction doesn't go on: with one block more it would have that many, and a batch has
@@ -10,4 +11,14 @@ pub enum TxnFault {
     TooMany(u64),
     #[error("device failed")]
     Failed,
+}
+
+impl From<DeviceFailed> for TxnFault {
+    ghost use Rattle.meta_txn.specs.declared.fault.TxnFault.TheVariants.{Failed};
+
+    ghost from_gives = { λ _ e. e ≡ Failed };
+
+    fn from(_: DeviceFailed) -> Self {
+        TxnFault::Failed
+    }
 }

@@ -1,11 +1,12 @@
 // Lists of numbered blocks, and one block read.
-ghost use Rattle.std.specs.Prelude.{◌≡◌, ◌+◌, ◌≤◌, ◌<◌, length, vec_len, vec_capacity, is_some, option_map, if◌then◌else◌, IfOk, IfErr};
-ghost use Rattle.blk_cache.specs.Cache.{kept, AgreesTold};
-ghost use Rattle.blk_device.specs.Causes.{HasCause, one_more};
+ghost use Rattle.std.specs.Prelude.{◌≡◌, ◌+◌, ◌≤◌, ◌<◌, length, vec_len, vec_capacity, option_map, IfOk, IfErr};
+ghost use Rattle.blk_cache.specs.Cache.{AgreesTold};
+ghost use Rattle.blk_device.specs.Causes.{HasCause};
 ghost use Rattle.blk_device.specs.Contents.{Holds};
 ghost use Rattle.blk_device.specs.Crash.{Elapses, NoMore};
 ghost use Rattle.blk_device.specs.declared.device.Region.TheVariants.{Image};
 ghost use Rattle.redo_area.specs.Area.{bytes_of};
+ghost use Rattle.meta_txn.specs.Entering.{reads_after};
 ghost use Rattle.meta_txn.specs.Joined.{bytes_at};
 ghost use Rattle.meta_txn.specs.Places.{found};
 
@@ -71,7 +72,7 @@ pub fn load<D: Device, L: Ledger>(
     ensures bytes { IfOk result (λ block. Holds Image at block.bytes (D.content dev.old)) }
     ensures kind { IfErr result (λ fault. fault ≡ TxnFault.Failed) }
     ensures ticks { steps.new ≡ record steps.old { reads = steps.old.reads + 1 } }
-    ensures reads { D.reads dev.new ≡ (if is_some (kept cache.old at) then D.reads dev.old else one_more (D.reads dev.old)) }
+    ensures reads { D.reads dev.new ≡ reads_after cache.old at (D.reads dev.old) }
     ensures same { D.content dev.new ≡ D.content dev.old }
     ensures crash { NoMore (D.may_hold_now dev.old) (D.may_hold_now dev.new) }
     ensures time { Elapses (D.clock dev.old) (D.clock dev.new) (D.may_have_held_since dev.old) (D.may_have_held_since dev.new) (D.may_hold_now dev.new) }
@@ -81,8 +82,6 @@ pub fn load<D: Device, L: Ledger>(
 {
     let mut block = Block::zeroed();
     steps.block_read();
-    match cache.get(dev, at, &mut block) {
-        Ok(()) => Ok(block),
-        Err(_) => Err(TxnFault::Failed),
-    }
+    cache.get(dev, at, &mut block)?;
+    Ok(block)
 }

@@ -34,21 +34,21 @@ impl Model for Txn {
 }
 
 impl Txn {
-    ghost use Rattle.std.specs.Prelude.{◌≤◌, ◌+◌, ◌↔◌, ◌&&◌, ℕ, Bool, List, [], true, false, length, is_some, option_map, not, nat_lt, if◌then◌else◌, IsOk, IfOk, IfErr, IfSome, OnOk, OnErr, IsErrOf};
+    ghost use Rattle.std.specs.Prelude.{◌≤◌, ◌+◌, ◌↔◌, ℕ, Bool, List, [], true, false, length, is_some, option_map, IsOk, IfOk, IfErr, OnOk, OnErr, IsErrOf};
     ghost use Rattle.std.specs.Borrow.{sem};
-    ghost use Rattle.blk_cache.specs.Cache.{capacity_of, kept, AgreesTold};
-    ghost use Rattle.blk_device.specs.Causes.{HasCause, Rose, one_more};
+    ghost use Rattle.blk_cache.specs.Cache.{capacity_of, AgreesTold};
+    ghost use Rattle.blk_device.specs.Causes.{HasCause, Rose};
     ghost use Rattle.blk_device.specs.Contents.{Becomes, Holds};
-    ghost use Rattle.blk_device.specs.Crash.{Elapses, LeavesOnly, NoMore};
+    ghost use Rattle.blk_device.specs.Crash.{Elapses, NoMore};
     ghost use Rattle.blk_device.specs.declared.device.Region.TheVariants.{Image, Redo};
     ghost use Rattle.redo_area.specs.Area.{Batch};
+    ghost use Rattle.redo_area.specs.Calls.{LeavesFrom, Reaches};
     ghost use Rattle.redo_area.specs.Recover.{StaysTold};
-    ghost use Rattle.redo_area.specs.Stages.{AtRest, AtRestBut, Ends, EndsBut};
-    ghost use Rattle.meta_txn.specs.Entering.{IsAbsent, IsEntered, IsFound, IsReadIn};
-    ghost use Rattle.meta_txn.specs.Joined.{bytes_at, empty, reads_block, with_block, written, AreBelow, Finds, IsBatch, WouldBe};
+    ghost use Rattle.redo_area.specs.Stages.{AtRest, AtRestBut, BeforeOrAfter, BeforeOrAfterBut, EndsAs, EndsAsBut};
+    ghost use Rattle.meta_txn.specs.Entering.{reads_after, IsAbsent, IsEntered, IsFound, IsReadIn};
+    ghost use Rattle.meta_txn.specs.Joined.{bytes_at, empty, reads_block, with_block, written, written_by, AreBelow, Finds, IsBatch, WouldBe};
     ghost use Rattle.meta_txn.specs.Lending.{LendsJoined, LendsPlace};
     ghost use Rattle.meta_txn.specs.Places.{bytes_in};
-    ghost use Rattle.meta_txn.specs.Whole.{StandsForEither, StandsForEitherBut};
 
     /// An empty transaction, with room for 160 blocks and for as many at the mark.
     pub fn new(alloc: Global) -> Result<Self, Memory>
@@ -111,9 +111,10 @@ impl Txn {
         ensures bytes { IfOk result (λ block. Finds at self.now.blocks (D.content dev.old) block.bytes) }
 
         // A block that is joined costs nothing, and any other is read through the cache.
-        ensures joined { is_some (bytes_at at self.now.blocks) ≡ true → IsOk result × (dev.new ≡ dev.old) × (cache.new ≡ cache.old) × (steps.new ≡ steps.old) }
+        ensures joined { is_some (bytes_at at self.now.blocks) ≡ true →
+            IsOk result × (dev.new ≡ dev.old) × (cache.new ≡ cache.old) × (steps.new ≡ steps.old) }
         ensures ticks { is_some (bytes_at at self.now.blocks) ≡ false → steps.new ≡ record steps.old { reads = steps.old.reads + 1 } }
-        ensures reads { is_some (bytes_at at self.now.blocks) ≡ false → D.reads dev.new ≡ (if is_some (kept cache.old at) then D.reads dev.old else one_more (D.reads dev.old)) }
+        ensures reads { is_some (bytes_at at self.now.blocks) ≡ false → D.reads dev.new ≡ reads_after cache.old at (D.reads dev.old) }
         ensures same { D.content dev.new ≡ D.content dev.old }
         ensures crash { NoMore (D.may_hold_now dev.old) (D.may_hold_now dev.new) }
         ensures time { Elapses (D.clock dev.old) (D.clock dev.new) (D.may_have_held_since dev.old) (D.may_have_held_since dev.new) (D.may_hold_now dev.new) }
@@ -153,7 +154,7 @@ impl Txn {
         ensures too_many { (n : ℕ) → IsErrOf result (TxnFault.TooMany n) ↔ ((n ≡ length self.old.blocks + 1) × (MAX_BATCH < n)) }
         ensures untouched { MAX_BATCH ≤ length self.old.blocks → (dev.new ≡ dev.old) × (cache.new ≡ cache.old) × (steps.new ≡ steps.old) }
         ensures ticks { length self.old.blocks < MAX_BATCH → steps.new ≡ record steps.old { reads = steps.old.reads + 1 } }
-        ensures reads { length self.old.blocks < MAX_BATCH → D.reads dev.new ≡ (if is_some (kept cache.old at) then D.reads dev.old else one_more (D.reads dev.old)) }
+        ensures reads { length self.old.blocks < MAX_BATCH → D.reads dev.new ≡ reads_after cache.old at (D.reads dev.old) }
         ensures same { D.content dev.new ≡ D.content dev.old }
         ensures crash { NoMore (D.may_hold_now dev.old) (D.may_hold_now dev.new) }
         ensures time { Elapses (D.clock dev.old) (D.clock dev.new) (D.may_have_held_since dev.old) (D.may_have_held_since dev.new) (D.may_hold_now dev.new) }
@@ -167,13 +168,9 @@ impl Txn {
         if count >= MAX_BATCH {
             return Err(TxnFault::TooMany(count as u64 + 1));
         }
-        match load(dev, cache, at, steps) {
-            Ok(block) => {
-                self.insert(i, at, block);
-                Ok(i)
-            }
-            Err(fault) => Err(fault),
-        }
+        let block = load(dev, cache, at, steps)?;
+        self.insert(i, at, block);
+        Ok(i)
     }
 
     // The place of the block with this number, which is read where it isn't joined.
@@ -191,7 +188,7 @@ impl Txn {
         ensures too_many { (n : ℕ) → IsErrOf result (TxnFault.TooMany n) ↔ WouldBe at self.old.blocks n }
         ensures untouched { reads_block at self.old.blocks ≡ false → (dev.new ≡ dev.old) × (cache.new ≡ cache.old) × (steps.new ≡ steps.old) }
         ensures ticks { reads_block at self.old.blocks ≡ true → steps.new ≡ record steps.old { reads = steps.old.reads + 1 } }
-        ensures reads { reads_block at self.old.blocks ≡ true → D.reads dev.new ≡ (if is_some (kept cache.old at) then D.reads dev.old else one_more (D.reads dev.old)) }
+        ensures reads { reads_block at self.old.blocks ≡ true → D.reads dev.new ≡ reads_after cache.old at (D.reads dev.old) }
         ensures same { D.content dev.new ≡ D.content dev.old }
         ensures crash { NoMore (D.may_hold_now dev.old) (D.may_hold_now dev.new) }
         ensures time { Elapses (D.clock dev.old) (D.clock dev.new) (D.may_have_held_since dev.old) (D.may_have_held_since dev.new) (D.may_hold_now dev.new) }
@@ -228,7 +225,7 @@ impl Txn {
         // A block that is joined or has no room costs nothing, and any other is read through the cache.
         ensures untouched { reads_block at self.old.blocks ≡ false → (dev.new ≡ dev.old) × (cache.new ≡ cache.old) × (steps.new ≡ steps.old) }
         ensures ticks { reads_block at self.old.blocks ≡ true → steps.new ≡ record steps.old { reads = steps.old.reads + 1 } }
-        ensures reads { reads_block at self.old.blocks ≡ true → D.reads dev.new ≡ (if is_some (kept cache.old at) then D.reads dev.old else one_more (D.reads dev.old)) }
+        ensures reads { reads_block at self.old.blocks ≡ true → D.reads dev.new ≡ reads_after cache.old at (D.reads dev.old) }
         ensures same { D.content dev.new ≡ D.content dev.old }
         ensures crash { NoMore (D.may_hold_now dev.old) (D.may_hold_now dev.new) }
         ensures time { Elapses (D.clock dev.old) (D.clock dev.new) (D.may_have_held_since dev.old) (D.may_have_held_since dev.new) (D.may_hold_now dev.new) }
@@ -260,11 +257,13 @@ impl Txn {
         requires inside { AreBelow (D.blocks dev.old Image) self.old.blocks }
         requires agreed { AgreesTold cache.old (D.content dev.old) }
         ensures image { OnOk result (Becomes (D.content dev.old) (D.content dev.new) (λ m n. n Image ≡ written (m Image) self.old)) }
-        ensures done { IfSome (D.content dev.old) (AtRest (D.may_hold_now dev.old)) → OnOk result (Becomes (D.content dev.old) (D.content dev.new) (λ m. Ends (written (m Image) self.old) (D.may_hold_now dev.new))) }
-        ensures any_moment { IfSome (D.content dev.old) (λ m. AtRest (D.may_hold_now dev.old) m → LeavesOnly D.clock D.may_have_held_since dev.old dev.new (StandsForEither (D.blocks dev.old Image) (m Image) (written (m Image) self.old))) }
-        ensures done_but { (K : ℕ → Bool) → 0 < length self.old.blocks → IfSome (D.content dev.old) (AtRestBut K (D.may_hold_now dev.old)) → OnOk result (Becomes (D.content dev.old) (D.content dev.new) (λ m. Ends (written (m Image) self.old) (D.may_hold_now dev.new))) }
-        ensures rest_but { (K : ℕ → Bool) → IfSome (D.content dev.old) (AtRestBut K (D.may_hold_now dev.old)) → OnOk result (Becomes (D.content dev.old) (D.content dev.new) (λ m. EndsBut K (written (m Image) self.old) (D.may_hold_now dev.new))) }
-        ensures any_moment_but { (K : ℕ → Bool) → IfSome (D.content dev.old) (λ m. AtRestBut K (D.may_hold_now dev.old) m → LeavesOnly D.clock D.may_have_held_since dev.old dev.new (StandsForEitherBut K (D.blocks dev.old Image) (m Image) (written (m Image) self.old))) }
+        ensures done { Reaches D.Device dev.old dev.new result AtRest (EndsAs (written_by self.old)) }
+        ensures any_moment { LeavesFrom D.Device dev.old dev.new AtRest (BeforeOrAfter (written_by self.old)) }
+        ensures done_but { (K : ℕ → Bool) → 0 < length self.old.blocks → Reaches D.Device dev.old dev.new result
+            (AtRestBut K) (EndsAs (written_by self.old)) }
+        ensures rest_but { (K : ℕ → Bool) → Reaches D.Device dev.old dev.new result (AtRestBut K) (EndsAsBut K (written_by self.old)) }
+        ensures any_moment_but { (K : ℕ → Bool) → LeavesFrom D.Device dev.old dev.new
+            (AtRestBut K) (BeforeOrAfterBut K (written_by self.old)) }
         ensures emptied { self.new ≡ empty }
         ensures batch { IsBatch self.old.blocks }
         ensures nothing { self.old.blocks ≡ [] → IsOk result × (dev.new ≡ dev.old) × (cache.new ≡ cache.old) }

@@ -1,14 +1,14 @@
 // A batch written whole, or not at all after a crash.
-ghost use Rattle.std.specs.Prelude.{◌≡◌, ◌≤◌, ◌<◌, ◌⊎◌, ℕ, Bool, true, length, IfSome, OnOk};
+ghost use Rattle.std.specs.Prelude.{◌≡◌, ◌≤◌, ◌<◌, ℕ, Bool, true, length, OnOk};
 ghost use Rattle.blk_device.specs.Causes.{HasCause};
 ghost use Rattle.blk_device.specs.Contents.{Becomes};
-ghost use Rattle.blk_device.specs.Crash.{LeavesOnly};
 ghost use Rattle.blk_device.specs.declared.device.Region.TheVariants.{Image, Redo};
 ghost use Rattle.redo_area.specs.Area.{bytes_of, with_batch};
+ghost use Rattle.redo_area.specs.Calls.{LeavesFrom, Reaches};
 ghost use Rattle.redo_area.specs.Recover.{StaysTold};
-ghost use Rattle.redo_area.specs.Stages.{AtRest, AtRestBut, Ends, IsReady, IsReadyBut, IsWaiting, IsWaitingBut, Prepares, PreparesBut, StandsFor, StandsForBut};
+ghost use Rattle.redo_area.specs.Stages.{After, AfterBut, AtRest, AtRestBut, BeforeOrAfter, BeforeOrAfterBut, EndsAs, IsReady, IsReadyBut, IsWaiting, IsWaitingBut, Prepares, PreparesBut, StandsFor, StandsForBut};
 ghost use Rattle.redo_area.specs.Table.{places, rises};
-ghost use Rattle.meta_txn.specs.Whole.{HoldsBatch, SameImage, StandsForEither, StandsForEitherBut};
+ghost use Rattle.meta_txn.specs.Whole.{HoldsBatch, SameImage};
 
 use blk_device::{Device, DeviceFailed};
 use byte_fields::Block;
@@ -20,10 +20,14 @@ fn write_waiting<D: Device>(dev: &mut D, batch: &[(u64, Block)]) -> Result<(), D
     requires some { 0 < length batch.now }
     requires rise { rises 0 (D.blocks dev.old Image) (places batch.now) ≡ true }
     ensures image { OnOk result (Becomes (D.content dev.old) (D.content dev.new) (HoldsBatch (bytes_of batch.now))) }
-    ensures done { IfSome (D.content dev.old) (IsWaiting (D.blocks dev.old Image) (bytes_of batch.now) (D.may_hold_now dev.old)) → OnOk result (Becomes (D.content dev.old) (D.content dev.new) (λ m. Ends (with_batch (bytes_of batch.now) (m Image)) (D.may_hold_now dev.new))) }
-    ensures any_moment { IfSome (D.content dev.old) (λ m. IsWaiting (D.blocks dev.old Image) (bytes_of batch.now) (D.may_hold_now dev.old) m → LeavesOnly D.clock D.may_have_held_since dev.old dev.new (StandsFor (D.blocks dev.old Image) (with_batch (bytes_of batch.now) (m Image)))) }
-    ensures done_but { (K : ℕ → Bool) → IfSome (D.content dev.old) (IsWaitingBut K (D.blocks dev.old Image) (bytes_of batch.now) (D.may_hold_now dev.old)) → OnOk result (Becomes (D.content dev.old) (D.content dev.new) (λ m. Ends (with_batch (bytes_of batch.now) (m Image)) (D.may_hold_now dev.new))) }
-    ensures any_moment_but { (K : ℕ → Bool) → IfSome (D.content dev.old) (λ m. IsWaitingBut K (D.blocks dev.old Image) (bytes_of batch.now) (D.may_hold_now dev.old) m → LeavesOnly D.clock D.may_have_held_since dev.old dev.new (StandsForBut K (D.blocks dev.old Image) (with_batch (bytes_of batch.now) (m Image)))) }
+    ensures done { Reaches D.Device dev.old dev.new result
+        (IsWaiting (D.blocks dev.old Image) (bytes_of batch.now)) (EndsAs (with_batch (bytes_of batch.now))) }
+    ensures any_moment { LeavesFrom D.Device dev.old dev.new
+        (IsWaiting (D.blocks dev.old Image) (bytes_of batch.now)) (After (with_batch (bytes_of batch.now))) }
+    ensures done_but { (K : ℕ → Bool) → Reaches D.Device dev.old dev.new result
+        (IsWaitingBut K (D.blocks dev.old Image) (bytes_of batch.now)) (EndsAs (with_batch (bytes_of batch.now))) }
+    ensures any_moment_but { (K : ℕ → Bool) → LeavesFrom D.Device dev.old dev.new
+        (IsWaitingBut K (D.blocks dev.old Image) (bytes_of batch.now)) (AfterBut K (with_batch (bytes_of batch.now))) }
     ensures told { StaysTold (D.content dev.old) (D.content dev.new) }
     ensures sizes { D.blocks dev.new ≡ D.blocks dev.old }
     ensures cause { HasCause (D.faults dev.old) (D.faults dev.new) result }
@@ -39,10 +43,14 @@ fn write_ready<D: Device>(dev: &mut D, batch: &[(u64, Block)]) -> Result<(), Dev
     requires some { 0 < length batch.now }
     requires rise { rises 0 (D.blocks dev.old Image) (places batch.now) ≡ true }
     ensures image { OnOk result (Becomes (D.content dev.old) (D.content dev.new) (HoldsBatch (bytes_of batch.now))) }
-    ensures done { IfSome (D.content dev.old) (IsReady (D.blocks dev.old Image) (bytes_of batch.now) (D.may_hold_now dev.old)) → OnOk result (Becomes (D.content dev.old) (D.content dev.new) (λ m. Ends (with_batch (bytes_of batch.now) (m Image)) (D.may_hold_now dev.new))) }
-    ensures any_moment { IfSome (D.content dev.old) (λ m. IsReady (D.blocks dev.old Image) (bytes_of batch.now) (D.may_hold_now dev.old) m → LeavesOnly D.clock D.may_have_held_since dev.old dev.new (StandsForEither (D.blocks dev.old Image) (m Image) (with_batch (bytes_of batch.now) (m Image)))) }
-    ensures done_but { (K : ℕ → Bool) → IfSome (D.content dev.old) (IsReadyBut K (D.blocks dev.old Image) (bytes_of batch.now) (D.may_hold_now dev.old)) → OnOk result (Becomes (D.content dev.old) (D.content dev.new) (λ m. Ends (with_batch (bytes_of batch.now) (m Image)) (D.may_hold_now dev.new))) }
-    ensures any_moment_but { (K : ℕ → Bool) → IfSome (D.content dev.old) (λ m. IsReadyBut K (D.blocks dev.old Image) (bytes_of batch.now) (D.may_hold_now dev.old) m → LeavesOnly D.clock D.may_have_held_since dev.old dev.new (StandsForEitherBut K (D.blocks dev.old Image) (m Image) (with_batch (bytes_of batch.now) (m Image)))) }
+    ensures done { Reaches D.Device dev.old dev.new result
+        (IsReady (D.blocks dev.old Image) (bytes_of batch.now)) (EndsAs (with_batch (bytes_of batch.now))) }
+    ensures any_moment { LeavesFrom D.Device dev.old dev.new
+        (IsReady (D.blocks dev.old Image) (bytes_of batch.now)) (BeforeOrAfter (with_batch (bytes_of batch.now))) }
+    ensures done_but { (K : ℕ → Bool) → Reaches D.Device dev.old dev.new result
+        (IsReadyBut K (D.blocks dev.old Image) (bytes_of batch.now)) (EndsAs (with_batch (bytes_of batch.now))) }
+    ensures any_moment_but { (K : ℕ → Bool) → LeavesFrom D.Device dev.old dev.new
+        (IsReadyBut K (D.blocks dev.old Image) (bytes_of batch.now)) (BeforeOrAfterBut K (with_batch (bytes_of batch.now))) }
     ensures told { StaysTold (D.content dev.old) (D.content dev.new) }
     ensures sizes { D.blocks dev.new ≡ D.blocks dev.old }
     ensures cause { HasCause (D.faults dev.old) (D.faults dev.new) result }
@@ -59,10 +67,11 @@ fn prepared<D: Device>(dev: &mut D, batch: &[(u64, Block)]) -> Result<(), Device
     requires some { 0 < length batch.now }
     requires rise { rises 0 (D.blocks dev.old Image) (places batch.now) ≡ true }
     ensures image { OnOk result (Becomes (D.content dev.old) (D.content dev.new) SameImage) }
-    ensures ready { IfSome (D.content dev.old) (AtRest (D.may_hold_now dev.old)) → OnOk result (Becomes (D.content dev.old) (D.content dev.new) (Prepares (D.blocks dev.old Image) (bytes_of batch.now) (D.may_hold_now dev.new))) }
-    ensures any_moment { IfSome (D.content dev.old) (λ m. AtRest (D.may_hold_now dev.old) m → LeavesOnly D.clock D.may_have_held_since dev.old dev.new (StandsFor (D.blocks dev.old Image) (m Image))) }
-    ensures ready_but { (K : ℕ → Bool) → IfSome (D.content dev.old) (AtRestBut K (D.may_hold_now dev.old)) → OnOk result (Becomes (D.content dev.old) (D.content dev.new) (PreparesBut K (D.blocks dev.old Image) (bytes_of batch.now) (D.may_hold_now dev.new))) }
-    ensures any_moment_but { (K : ℕ → Bool) → IfSome (D.content dev.old) (λ m. AtRestBut K (D.may_hold_now dev.old) m → LeavesOnly D.clock D.may_have_held_since dev.old dev.new (StandsForBut K (D.blocks dev.old Image) (m Image))) }
+    ensures ready { Reaches D.Device dev.old dev.new result AtRest (Prepares (D.blocks dev.old Image) (bytes_of batch.now)) }
+    ensures any_moment { LeavesFrom D.Device dev.old dev.new AtRest StandsFor }
+    ensures ready_but { (K : ℕ → Bool) → Reaches D.Device dev.old dev.new result
+        (AtRestBut K) (PreparesBut K (D.blocks dev.old Image) (bytes_of batch.now)) }
+    ensures any_moment_but { (K : ℕ → Bool) → LeavesFrom D.Device dev.old dev.new (AtRestBut K) (StandsForBut K) }
     ensures told { StaysTold (D.content dev.old) (D.content dev.new) }
     ensures sizes { D.blocks dev.new ≡ D.blocks dev.old }
     ensures cause { HasCause (D.faults dev.old) (D.faults dev.new) result }
@@ -84,10 +93,12 @@ pub fn write_whole<D: Device>(dev: &mut D, batch: &[(u64, Block)]) -> Result<(),
     requires some { 0 < length batch.now }
     requires rise { rises 0 (D.blocks dev.old Image) (places batch.now) ≡ true }
     ensures image { OnOk result (Becomes (D.content dev.old) (D.content dev.new) (HoldsBatch (bytes_of batch.now))) }
-    ensures done { IfSome (D.content dev.old) (AtRest (D.may_hold_now dev.old)) → OnOk result (Becomes (D.content dev.old) (D.content dev.new) (λ m. Ends (with_batch (bytes_of batch.now) (m Image)) (D.may_hold_now dev.new))) }
-    ensures any_moment { IfSome (D.content dev.old) (λ m. AtRest (D.may_hold_now dev.old) m → LeavesOnly D.clock D.may_have_held_since dev.old dev.new (StandsForEither (D.blocks dev.old Image) (m Image) (with_batch (bytes_of batch.now) (m Image)))) }
-    ensures done_but { (K : ℕ → Bool) → IfSome (D.content dev.old) (AtRestBut K (D.may_hold_now dev.old)) → OnOk result (Becomes (D.content dev.old) (D.content dev.new) (λ m. Ends (with_batch (bytes_of batch.now) (m Image)) (D.may_hold_now dev.new))) }
-    ensures any_moment_but { (K : ℕ → Bool) → IfSome (D.content dev.old) (λ m. AtRestBut K (D.may_hold_now dev.old) m → LeavesOnly D.clock D.may_have_held_since dev.old dev.new (StandsForEitherBut K (D.blocks dev.old Image) (m Image) (with_batch (bytes_of batch.now) (m Image)))) }
+    ensures done { Reaches D.Device dev.old dev.new result AtRest (EndsAs (with_batch (bytes_of batch.now))) }
+    ensures any_moment { LeavesFrom D.Device dev.old dev.new AtRest (BeforeOrAfter (with_batch (bytes_of batch.now))) }
+    ensures done_but { (K : ℕ → Bool) → Reaches D.Device dev.old dev.new result
+        (AtRestBut K) (EndsAs (with_batch (bytes_of batch.now))) }
+    ensures any_moment_but { (K : ℕ → Bool) → LeavesFrom D.Device dev.old dev.new
+        (AtRestBut K) (BeforeOrAfterBut K (with_batch (bytes_of batch.now))) }
     ensures told { StaysTold (D.content dev.old) (D.content dev.new) }
     ensures sizes { D.blocks dev.new ≡ D.blocks dev.old }
     ensures cause { HasCause (D.faults dev.old) (D.faults dev.new) result }

@@ -1,7 +1,7 @@
 -- What a recovery answers and keeps.
 use Rattle.std.specs.Prelude.{◌≡◌, ◌⊎◌, ◌≤◌, ℕ, Bool, true, nat_lt, if◌then◌else◌, List, Option, Some, None, Result, Ok, Err, IsErrOf, ⊤}
 use Rattle.blk_device.specs.Causes.{Rose}
-use Rattle.blk_device.specs.declared.device.Region.TheVariants.{Redo}
+use Rattle.blk_device.specs.declared.device.Region.TheVariants.{Image, Redo}
 use Rattle.blk_device.specs.Contents.{Contents, Becomes}
 use Rattle.blk_device.specs.Crash.{LeavesOnly, NoMore}
 use Rattle.blk_device.specs.declared.device.Device.{Ghosts}
@@ -15,6 +15,10 @@ use Rattle.redo_area.specs.Table.{table_fault}
 -- the first fault, by the sizes of redo region and image
 abbrev pub redo_fault : ℕ → ℕ → Contents → Option RedoFault
 redo_fault redo image m = if nat_lt redo REDO_BLOCKS then Some Short else (if is_open m then table_fault image (m Redo 1) else None)
+
+-- the redo region is refused, by the sizes that a device tells
+abbrev pub IsRefused : {D : Type 0} → Ghosts D → D → Contents → Type 0
+IsRefused g d m = redo_fault (g.blocks d Redo) (g.blocks d Image) m ≡ None → ⊥
 
 -- the answer, where the device didn't fail, tells the first fault, and without one whether a batch waits
 abbrev pub Answers : Option RedoFault → Bool → Result Bool RedoFault → Type 0

@@ -1,5 +1,5 @@
 -- The stages of a commit, each with nothing pending on the device.
-use Rattle.std.specs.Prelude.{◌≡◌, ℕ, Bool, true, false, None}
+use Rattle.std.specs.Prelude.{◌≡◌, ◌⊎◌, ℕ, Bool, true, false, None}
 use Rattle.blk_device.specs.declared.device.Region.TheVariants.{Image, Redo}
 use Rattle.blk_device.specs.Contents.{Contents}
 use Rattle.redo_area.specs.Area.{Blocks, Batch, SameBut, after_crash, is_open, waiting_batch, with_batch}
@@ -17,6 +17,18 @@ IsSound size c = table_fault size (c Redo 1) ≡ None
 pub record StandsFor (size : ℕ) (blocks : Blocks) (c : Contents) : Type 0 where
   pub image : after_crash c ≡ blocks
   pub sound : is_open c ≡ true → IsSound size c
+
+-- a recovery gives the changed image
+abbrev pub After : (Blocks → Blocks) → ℕ → Blocks → Contents → Type 0
+After change size image = StandsFor size (change image)
+
+-- a recovery gives one of these two images
+abbrev pub StandsForEither : ℕ → Blocks → Blocks → Contents → Type 0
+StandsForEither size before after c = StandsFor size before c ⊎ StandsFor size after c
+
+-- a recovery gives the image before a change, or the one after it
+abbrev pub BeforeOrAfter : (Blocks → Blocks) → ℕ → Blocks → Contents → Type 0
+BeforeOrAfter change size image = StandsForEither size image (change image)
 
 -- nothing waits
 pub record AtRest (may_hold : Contents → Type 0) (m : Contents) : Type 0 where
@@ -59,6 +71,10 @@ pub record Ends (blocks : Blocks) (may_hold : Contents → Type 0) (n : Contents
   pub image : n Image ≡ blocks
   pub rest : AtRest may_hold n
 
+-- the image is the changed one, and nothing waits
+abbrev pub EndsAs : (Blocks → Blocks) → (Contents → Type 0) → Contents → Contents → Type 0
+EndsAs change may_hold m = Ends (change (m Image)) may_hold
+
 -- The same stages while some blocks of the image, those in K, are written and not yet durable: a crash may leave
 -- anything in them.
 
@@ -71,6 +87,18 @@ pub record IsQuietBut (K : ℕ → Bool) (may_hold : Contents → Type 0) (m : C
 pub record StandsForBut (K : ℕ → Bool) (size : ℕ) (blocks : Blocks) (c : Contents) : Type 0 where
   pub image : SameBut K (after_crash c) blocks
   pub sound : is_open c ≡ true → IsSound size c
+
+-- a recovery gives the changed image, but for the blocks in K
+abbrev pub AfterBut : (ℕ → Bool) → (Blocks → Blocks) → ℕ → Blocks → Contents → Type 0
+AfterBut K change size image = StandsForBut K size (change image)
+
+-- a recovery gives one of these two images, but for the blocks in K
+abbrev pub StandsForEitherBut : (ℕ → Bool) → ℕ → Blocks → Blocks → Contents → Type 0
+StandsForEitherBut K size before after c = StandsForBut K size before c ⊎ StandsForBut K size after c
+
+-- a recovery gives the image before a change, or the one after it, but for the blocks in K
+abbrev pub BeforeOrAfterBut : (ℕ → Bool) → (Blocks → Blocks) → ℕ → Blocks → Contents → Type 0
+BeforeOrAfterBut K change size image = StandsForEitherBut K size image (change image)
 
 -- nothing waits
 pub record AtRestBut (K : ℕ → Bool) (may_hold : Contents → Type 0) (m : Contents) : Type 0 where
@@ -107,3 +135,7 @@ pub record OpensBut (K : ℕ → Bool) (size : ℕ) (batch : Batch) (may_hold : 
 pub record EndsBut (K : ℕ → Bool) (blocks : Blocks) (may_hold : Contents → Type 0) (n : Contents) : Type 0 where
   pub image : n Image ≡ blocks
   pub rest : AtRestBut K may_hold n
+
+-- the image is the changed one, and nothing waits
+abbrev pub EndsAsBut : (ℕ → Bool) → (Blocks → Blocks) → (Contents → Type 0) → Contents → Contents → Type 0
+EndsAsBut K change may_hold m = EndsBut K (change (m Image)) may_hold

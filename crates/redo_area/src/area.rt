@@ -1,10 +1,11 @@
-ghost use Rattle.std.specs.Prelude.{◌≡◌, ◌≤◌, ◌<◌, ◌+◌, ◌^◌, ◌⊎◌, ◌↔◌, ℕ, Bool, true, length, slice_index, IfSome, OnOk, IsErrOf};
+ghost use Rattle.std.specs.Prelude.{◌≡◌, ◌≤◌, ◌<◌, ◌+◌, ◌^◌, ◌↔◌, ℕ, Bool, true, length, slice_index, OnOk, IsErrOf};
 ghost use Rattle.blk_device.specs.Causes.{HasCause, Rose};
-ghost use Rattle.blk_device.specs.Contents.{map_told, put, Becomes};
-ghost use Rattle.blk_device.specs.Crash.{IsDurable, Keeps, LeavesOnly};
+ghost use Rattle.blk_device.specs.Contents.{map_told, put};
+ghost use Rattle.blk_device.specs.Crash.{IsDurable, Keeps};
 ghost use Rattle.blk_device.specs.declared.device.Region.TheVariants.{Image, Redo};
 ghost use Rattle.redo_area.specs.Area.{Batch, put_copies, put_homes, homes_of, BehindGate, AllButGate, AllButHomes, bytes_of, gate_bytes, staged, with_batch};
-ghost use Rattle.redo_area.specs.Stages.{AtRest, AtRestBut, Ends, EndsBut, Installs, IsInstalled, IsInstalledBut, IsReady, IsReadyBut, IsWaiting, IsWaitingBut, Opens, OpensBut, Prepares, PreparesBut, StandsFor, StandsForBut};
+ghost use Rattle.redo_area.specs.Calls.{LeavesFrom, Reaches};
+ghost use Rattle.redo_area.specs.Stages.{After, AfterBut, AtRest, AtRestBut, BeforeOrAfter, BeforeOrAfterBut, EndsAs, EndsAsBut, Installs, IsInstalled, IsInstalledBut, IsReady, IsReadyBut, IsWaiting, IsWaitingBut, Opens, OpensBut, Prepares, PreparesBut, StandsFor, StandsForBut};
 ghost use Rattle.redo_area.specs.Recover.{StaysTold};
 ghost use Rattle.redo_area.specs.Table.{places, rises};
 
@@ -108,10 +109,11 @@ pub fn prepare<D: Device>(dev: &mut D, batch: &[(u64, Block)]) -> Result<(), Bat
     requires some { 0 < length batch.now }
     requires rise { rises 0 (D.blocks dev.old Image) (places batch.now) ≡ true }
     ensures written { OnOk result (D.content dev.new ≡ map_told (staged (D.blocks dev.old Image) batch.now) (D.content dev.old)) }
-    ensures prepared { IfSome (D.content dev.old) (AtRest (D.may_hold_now dev.old)) → OnOk result (Becomes (D.content dev.old) (D.content dev.new) (Prepares (D.blocks dev.old Image) (bytes_of batch.now) (D.may_hold_now dev.new))) }
-    ensures any_moment { IfSome (D.content dev.old) (λ m. AtRest (D.may_hold_now dev.old) m → LeavesOnly D.clock D.may_have_held_since dev.old dev.new (StandsFor (D.blocks dev.old Image) (m Image))) }
-    ensures prepared_but { (K : ℕ → Bool) → IfSome (D.content dev.old) (AtRestBut K (D.may_hold_now dev.old)) → OnOk result (Becomes (D.content dev.old) (D.content dev.new) (PreparesBut K (D.blocks dev.old Image) (bytes_of batch.now) (D.may_hold_now dev.new))) }
-    ensures any_moment_but { (K : ℕ → Bool) → IfSome (D.content dev.old) (λ m. AtRestBut K (D.may_hold_now dev.old) m → LeavesOnly D.clock D.may_have_held_since dev.old dev.new (StandsForBut K (D.blocks dev.old Image) (m Image))) }
+    ensures prepared { Reaches D.Device dev.old dev.new result AtRest (Prepares (D.blocks dev.old Image) (bytes_of batch.now)) }
+    ensures any_moment { LeavesFrom D.Device dev.old dev.new AtRest StandsFor }
+    ensures prepared_but { (K : ℕ → Bool) → Reaches D.Device dev.old dev.new result
+        (AtRestBut K) (PreparesBut K (D.blocks dev.old Image) (bytes_of batch.now)) }
+    ensures any_moment_but { (K : ℕ → Bool) → LeavesFrom D.Device dev.old dev.new (AtRestBut K) (StandsForBut K) }
     ensures too_many { (n : ℕ) → IsErrOf result (BatchFault.TooMany n) ↔ ((n ≡ length batch.now) × (MAX_BATCH < length batch.now)) }
     ensures untouched { MAX_BATCH < length batch.now → dev.new ≡ dev.old }
     ensures few { OnOk result (length batch.now ≤ MAX_BATCH) }
@@ -125,10 +127,8 @@ pub fn prepare<D: Device>(dev: &mut D, batch: &[(u64, Block)]) -> Result<(), Bat
     if batch.len() > MAX_BATCH {
         return Err(BatchFault::TooMany(batch.len() as u64));
     }
-    match stage(dev, batch) {
-        Ok(()) => Ok(()),
-        Err(DeviceFailed) => Err(BatchFault::Failed),
-    }
+    stage(dev, batch)?;
+    Ok(())
 }
 
 /// Opens the gate, and makes it durable: from Ok on the batch waits that table and copies give.
@@ -138,12 +138,14 @@ pub fn prepare<D: Device>(dev: &mut D, batch: &[(u64, Block)]) -> Result<(), Bat
 pub fn open_gate<D: Device>(dev: &mut D) -> Result<(), DeviceFailed>
     requires { REDO_BLOCKS ≤ D.blocks dev.old Redo }
     ensures written { OnOk result (D.content dev.new ≡ map_told (put Redo 0 (gate_bytes 1)) (D.content dev.old)) }
-    ensures opened { (batch : Batch) → IfSome (D.content dev.old) (IsReady (D.blocks dev.old Image) batch (D.may_hold_now dev.old)) → OnOk result (Becomes (D.content dev.old) (D.content dev.new) (Opens (D.blocks dev.old Image) batch (D.may_hold_now dev.new))) }
-    ensures any_moment { (batch : Batch) → IfSome (D.content dev.old) (λ m. IsReady (D.blocks dev.old Image) batch (D.may_hold_now dev.old) m → LeavesOnly D.clock D.may_have_held_since dev.old dev.new
-        (λ c. StandsFor (D.blocks dev.old Image) (m Image) c ⊎ StandsFor (D.blocks dev.old Image) (with_batch batch (m Image)) c)) }
-    ensures opened_but { (K : ℕ → Bool) (batch : Batch) → IfSome (D.content dev.old) (IsReadyBut K (D.blocks dev.old Image) batch (D.may_hold_now dev.old)) → OnOk result (Becomes (D.content dev.old) (D.content dev.new) (OpensBut K (D.blocks dev.old Image) batch (D.may_hold_now dev.new))) }
-    ensures any_moment_but { (K : ℕ → Bool) (batch : Batch) → IfSome (D.content dev.old) (λ m. IsReadyBut K (D.blocks dev.old Image) batch (D.may_hold_now dev.old) m → LeavesOnly D.clock D.may_have_held_since dev.old dev.new
-        (λ c. StandsForBut K (D.blocks dev.old Image) (m Image) c ⊎ StandsForBut K (D.blocks dev.old Image) (with_batch batch (m Image)) c)) }
+    ensures opened { (batch : Batch) → Reaches D.Device dev.old dev.new result
+        (IsReady (D.blocks dev.old Image) batch) (Opens (D.blocks dev.old Image) batch) }
+    ensures any_moment { (batch : Batch) → LeavesFrom D.Device dev.old dev.new
+        (IsReady (D.blocks dev.old Image) batch) (BeforeOrAfter (with_batch batch)) }
+    ensures opened_but { (K : ℕ → Bool) (batch : Batch) → Reaches D.Device dev.old dev.new result
+        (IsReadyBut K (D.blocks dev.old Image) batch) (OpensBut K (D.blocks dev.old Image) batch) }
+    ensures any_moment_but { (K : ℕ → Bool) (batch : Batch) → LeavesFrom D.Device dev.old dev.new
+        (IsReadyBut K (D.blocks dev.old Image) batch) (BeforeOrAfterBut K (with_batch batch)) }
     ensures told { StaysTold (D.content dev.old) (D.content dev.new) }
     ensures sizes { D.blocks dev.new ≡ D.blocks dev.old }
     ensures cause { HasCause (D.faults dev.old) (D.faults dev.new) result }
@@ -161,10 +163,14 @@ pub fn install<D: Device>(dev: &mut D, batch: &[(u64, Block)]) -> Result<(), Dev
     requires some { 0 < length batch.now }
     requires rise { rises 0 (D.blocks dev.old Image) (places batch.now) ≡ true }
     ensures written { OnOk result (D.content dev.new ≡ map_told (put_homes (bytes_of batch.now)) (D.content dev.old)) }
-    ensures installed { IfSome (D.content dev.old) (IsWaiting (D.blocks dev.old Image) (bytes_of batch.now) (D.may_hold_now dev.old)) → OnOk result (Becomes (D.content dev.old) (D.content dev.new) (Installs (D.blocks dev.old Image) (bytes_of batch.now) (D.may_hold_now dev.new))) }
-    ensures any_moment { IfSome (D.content dev.old) (λ m. IsWaiting (D.blocks dev.old Image) (bytes_of batch.now) (D.may_hold_now dev.old) m → LeavesOnly D.clock D.may_have_held_since dev.old dev.new (StandsFor (D.blocks dev.old Image) (with_batch (bytes_of batch.now) (m Image)))) }
-    ensures installed_but { (K : ℕ → Bool) → IfSome (D.content dev.old) (IsWaitingBut K (D.blocks dev.old Image) (bytes_of batch.now) (D.may_hold_now dev.old)) → OnOk result (Becomes (D.content dev.old) (D.content dev.new) (Installs (D.blocks dev.old Image) (bytes_of batch.now) (D.may_hold_now dev.new))) }
-    ensures any_moment_but { (K : ℕ → Bool) → IfSome (D.content dev.old) (λ m. IsWaitingBut K (D.blocks dev.old Image) (bytes_of batch.now) (D.may_hold_now dev.old) m → LeavesOnly D.clock D.may_have_held_since dev.old dev.new (StandsForBut K (D.blocks dev.old Image) (with_batch (bytes_of batch.now) (m Image)))) }
+    ensures installed { Reaches D.Device dev.old dev.new result
+        (IsWaiting (D.blocks dev.old Image) (bytes_of batch.now)) (Installs (D.blocks dev.old Image) (bytes_of batch.now)) }
+    ensures any_moment { LeavesFrom D.Device dev.old dev.new
+        (IsWaiting (D.blocks dev.old Image) (bytes_of batch.now)) (After (with_batch (bytes_of batch.now))) }
+    ensures installed_but { (K : ℕ → Bool) → Reaches D.Device dev.old dev.new result
+        (IsWaitingBut K (D.blocks dev.old Image) (bytes_of batch.now)) (Installs (D.blocks dev.old Image) (bytes_of batch.now)) }
+    ensures any_moment_but { (K : ℕ → Bool) → LeavesFrom D.Device dev.old dev.new
+        (IsWaitingBut K (D.blocks dev.old Image) (bytes_of batch.now)) (AfterBut K (with_batch (bytes_of batch.now))) }
     ensures told { StaysTold (D.content dev.old) (D.content dev.new) }
     ensures sizes { D.blocks dev.new ≡ D.blocks dev.old }
     ensures cause { HasCause (D.faults dev.old) (D.faults dev.new) result }
@@ -180,10 +186,12 @@ pub fn install<D: Device>(dev: &mut D, batch: &[(u64, Block)]) -> Result<(), Dev
 pub fn close_gate<D: Device>(dev: &mut D) -> Result<(), DeviceFailed>
     requires { REDO_BLOCKS ≤ D.blocks dev.old Redo }
     ensures written { OnOk result (D.content dev.new ≡ map_told (put Redo 0 (gate_bytes 0)) (D.content dev.old)) }
-    ensures ended { IfSome (D.content dev.old) (IsInstalled (D.blocks dev.old Image) (D.may_hold_now dev.old)) → OnOk result (Becomes (D.content dev.old) (D.content dev.new) (λ m. Ends (m Image) (D.may_hold_now dev.new))) }
-    ensures any_moment { IfSome (D.content dev.old) (λ m. IsInstalled (D.blocks dev.old Image) (D.may_hold_now dev.old) m → LeavesOnly D.clock D.may_have_held_since dev.old dev.new (StandsFor (D.blocks dev.old Image) (m Image))) }
-    ensures ended_but { (K : ℕ → Bool) → IfSome (D.content dev.old) (IsInstalledBut K (D.blocks dev.old Image) (D.may_hold_now dev.old)) → OnOk result (Becomes (D.content dev.old) (D.content dev.new) (λ m. EndsBut K (m Image) (D.may_hold_now dev.new))) }
-    ensures any_moment_but { (K : ℕ → Bool) → IfSome (D.content dev.old) (λ m. IsInstalledBut K (D.blocks dev.old Image) (D.may_hold_now dev.old) m → LeavesOnly D.clock D.may_have_held_since dev.old dev.new (StandsForBut K (D.blocks dev.old Image) (m Image))) }
+    ensures ended { Reaches D.Device dev.old dev.new result (IsInstalled (D.blocks dev.old Image)) (EndsAs (λ image. image)) }
+    ensures any_moment { LeavesFrom D.Device dev.old dev.new (IsInstalled (D.blocks dev.old Image)) StandsFor }
+    ensures ended_but { (K : ℕ → Bool) → Reaches D.Device dev.old dev.new result
+        (IsInstalledBut K (D.blocks dev.old Image)) (EndsAsBut K (λ image. image)) }
+    ensures any_moment_but { (K : ℕ → Bool) → LeavesFrom D.Device dev.old dev.new
+        (IsInstalledBut K (D.blocks dev.old Image)) (StandsForBut K) }
     ensures told { StaysTold (D.content dev.old) (D.content dev.new) }
     ensures sizes { D.blocks dev.new ≡ D.blocks dev.old }
     ensures cause { HasCause (D.faults dev.old) (D.faults dev.new) result }

@@ -13,6 +13,16 @@ pub enum BatchFault {
     Failed,
 }
 
+impl From<DeviceFailed> for BatchFault {
+    ghost use Rattle.redo_area.specs.declared.faults.BatchFault.TheVariants.{Failed};
+
+    ghost from_gives = { λ _ e. e ≡ Failed };
+
+    fn from(_: DeviceFailed) -> Self {
+        BatchFault::Failed
+    }
+}
+
 /// Why a redo region isn't recovered. Short: it has fewer than 162 blocks. Where a batch waits,
 /// Count: it hasn't 1 to 160 blocks; Size: it is for an image of another size; Place: its block
 /// numbers don't rise, or one isn't below the image's size. Failed: the device failed.

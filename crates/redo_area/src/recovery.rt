@@ -4,8 +4,9 @@ ghost use Rattle.blk_device.specs.Contents.{map_told, Becomes};
 ghost use Rattle.blk_device.specs.Crash.{Elapses, IsDurable, Keeps, LeavesOnly, NoMore};
 ghost use Rattle.blk_device.specs.declared.device.Region.TheVariants.{Image, Redo};
 ghost use Rattle.redo_area.specs.Area.{put_waiting, AllButHomes, after_crash, after_recovery, closed_over, is_open};
+ghost use Rattle.redo_area.specs.Calls.{Leaves};
 ghost use Rattle.redo_area.specs.Counts.{RaisedUpTo};
-ghost use Rattle.redo_area.specs.Recover.{redo_fault, Answers, IsOldOrSame, IsFound, IsSeen, OnlySettles, StaysTold, TellsFailed};
+ghost use Rattle.redo_area.specs.Recover.{redo_fault, Answers, IsOldOrSame, IsFound, IsRefused, IsSeen, OnlySettles, StaysTold, TellsFailed};
 ghost use Rattle.redo_area.specs.Stages.{Ends, IsInstalled, IsQuiet, StandsFor};
 ghost use Rattle.redo_area.specs.Table.{rises, table_count, table_fault, table_numbers};
 
@@ -74,7 +75,7 @@ fn install_waiting<D: Device>(dev: &mut D, table: &Block) -> Result<(), DeviceFa
     requires found { IfSome (D.content dev.old) (IsFound table.now.bytes (D.may_hold_now dev.old)) }
     ensures written { OnOk result (D.content dev.new ≡ map_told (put_waiting (table_numbers table.now.bytes) 2) (D.content dev.old)) }
     ensures installed { OnOk result (Becomes (D.content dev.old) (D.content dev.new) (λ m n. (n Image ≡ after_crash m) × IsInstalled (D.blocks dev.old Image) (D.may_hold_now dev.new) n)) }
-    ensures any_moment { IfSome (D.content dev.old) (λ m. LeavesOnly D.clock D.may_have_held_since dev.old dev.new (StandsFor (D.blocks dev.old Image) (after_crash m))) }
+    ensures any_moment { IfSome (D.content dev.old) (λ m. Leaves D.Device dev.old dev.new (StandsFor (D.blocks dev.old Image) (after_crash m))) }
     ensures told { StaysTold (D.content dev.old) (D.content dev.new) }
     ensures sizes { D.blocks dev.new ≡ D.blocks dev.old }
     ensures cause { HasCause (D.faults dev.old) (D.faults dev.new) result }
@@ -91,7 +92,7 @@ fn finish<D: Device>(dev: &mut D, table: &Block) -> Result<(), DeviceFailed>
     requires found { IfSome (D.content dev.old) (IsFound table.now.bytes (D.may_hold_now dev.old)) }
     ensures written { OnOk result (D.content dev.new ≡ map_told (closed_over table.now.bytes) (D.content dev.old)) }
     ensures ended { OnOk result (Becomes (D.content dev.old) (D.content dev.new) (λ m. Ends (after_crash m) (D.may_hold_now dev.new))) }
-    ensures any_moment { IfSome (D.content dev.old) (λ m. LeavesOnly D.clock D.may_have_held_since dev.old dev.new (StandsFor (D.blocks dev.old Image) (after_crash m))) }
+    ensures any_moment { IfSome (D.content dev.old) (λ m. Leaves D.Device dev.old dev.new (StandsFor (D.blocks dev.old Image) (after_crash m))) }
     ensures told { StaysTold (D.content dev.old) (D.content dev.new) }
     ensures sizes { D.blocks dev.new ≡ D.blocks dev.old }
     ensures cause { HasCause (D.faults dev.old) (D.faults dev.new) result }
@@ -110,11 +111,11 @@ pub fn recover<D: Device>(dev: &mut D) -> Result<bool, RedoFault>
     ensures written { OnOk result (D.content dev.new ≡ map_told after_recovery (D.content dev.old)) }
     ensures answers { IfSome (D.content dev.old) (λ m. Answers (redo_fault (D.blocks dev.old Redo) (D.blocks dev.old Image) m) (is_open m) result) }
     ensures ended { OnOk result (Becomes (D.content dev.old) (D.content dev.new) (λ m. Ends (after_crash m) (D.may_hold_now dev.new))) }
-    ensures any_moment { IfSome (D.content dev.old) (λ m. LeavesOnly D.clock D.may_have_held_since dev.old dev.new (IsOldOrSame (D.blocks dev.old Image) (D.may_hold_now dev.old) m)) }
+    ensures any_moment { IfSome (D.content dev.old) (λ m. Leaves D.Device dev.old dev.new (IsOldOrSame (D.blocks dev.old Image) (D.may_hold_now dev.old) m)) }
     ensures short { IsErrOf result RedoFault.Short ↔ (D.blocks dev.old Redo < REDO_BLOCKS) }
     ensures untouched { D.blocks dev.old Redo < REDO_BLOCKS → dev.new ≡ dev.old }
     ensures still { IfSome (D.content dev.old) (λ m. is_open m ≡ false → OnlySettles D.Device dev.old dev.new) }
-    ensures still_faulty { IfSome (D.content dev.old) (λ m. (redo_fault (D.blocks dev.old Redo) (D.blocks dev.old Image) m ≡ None → ⊥) → OnlySettles D.Device dev.old dev.new) }
+    ensures still_faulty { IfSome (D.content dev.old) (λ m. IsRefused D.Device dev.old m → OnlySettles D.Device dev.old dev.new) }
     ensures refused { IfErr result (λ e. e ≢ RedoFault.Failed → OnlySettles D.Device dev.old dev.new) }
     ensures told { StaysTold (D.content dev.old) (D.content dev.new) }
     ensures sizes { D.blocks dev.new ≡ D.blocks dev.old }
@@ -153,8 +154,6 @@ pub fn waiting<D: Device>(dev: &mut D) -> Result<bool, RedoFault>
         return Err(RedoFault::Short);
     }
     let mut gate = Block::zeroed();
-    match dev.read(Region::Redo, GATE_BLOCK, &mut gate) {
-        Ok(()) => Ok(gate.bytes[0] == 1),
-        Err(DeviceFailed) => Err(RedoFault::Failed),
-    }
+    dev.read(Region::Redo, GATE_BLOCK, &mut gate)?;
+    Ok(gate.bytes[0] == 1)
 }

@@ -1,5 +1,5 @@
 -- A refusal beside what the definition gives.
-use Rattle.std.specs.Prelude.{◌≡◌, ℕ, Option, Some, Result, Err, ⊤}
+use Rattle.std.specs.Prelude.{◌≡◌, ℕ, List, Option, Some, Result, Err, ⊤}
 use Rattle.sblock.specs.declared.block.BlockFault.{BlockFault}
 use Rattle.tree_blocks.specs.declared.tree.WalkFault.{WalkFault}
 use Rattle.tree_blocks.specs.declared.tree.WalkFault.TheVariants.{Bad, Failed, Memory}
@@ -15,6 +15,10 @@ abbrev pub RefusesBlock : ℕ → Option BlockFault → WalkFault → Type 0
 RefusesBlock p first (Bad block fault) = (block ≡ p) × (first ≡ Some fault)
 RefusesBlock p first Failed = ⊤
 RefusesBlock p first Memory = ⊤
+
+-- the same of a group's block, by its first test that fails, where the group's blocks are told
+abbrev pub RefusesTold : Option (ℕ → List ℕ) → ℕ → (List ℕ → Option BlockFault) → WalkFault → Type 0
+RefusesTold told p first fault = (m : ℕ → List ℕ) → told ≡ Some m → RefusesBlock p (first (m p)) fault
 
 abbrev pub IsMemory : WalkFault → Type 0
 IsMemory fault = fault ≡ Memory

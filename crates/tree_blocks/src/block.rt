@@ -2,7 +2,7 @@ ghost use Rattle.std.specs.Prelude.{◌≡◌, ◌+◌, ◌*◌, ◌^◌, ◌<�
 ghost use Rattle.sblock.specs.Blocks.{block_fault};
 ghost use Rattle.tree_defs.specs.Tree.{want_of};
 ghost use Rattle.tree_defs.specs.Claims.{lone_fault};
-ghost use Rattle.tree_blocks.specs.Meets.{RefusesBlock, IsNoMemory};
+ghost use Rattle.tree_blocks.specs.Meets.{RefusesTold, IsNoMemory};
 ghost use Rattle.tree_blocks.specs.Calls.{Reads};
 ghost use Rattle.tree_blocks.specs.Reading.{HasCause};
 
@@ -72,16 +72,13 @@ pub fn open_block<K: RecKind, B: Blocks>(
     requires here { B.place blocks.old ≡ site.now }
     ensures passes { IfOk result (λ block. lone_fault K.form site.now level root p block.bytes ≡ None) }
     ensures told { IfOk result (λ block. (m : ℕ → List ℕ) → B.told blocks.old ≡ Some m → block.bytes ≡ m p) }
-    ensures refused { IfErr result (λ fault. (m : ℕ → List ℕ) → B.told blocks.old ≡ Some m → RefusesBlock p (lone_fault K.form site.now level root p (m p)) fault) }
+    ensures refused { IfErr result (RefusesTold (B.told blocks.old) p (lone_fault K.form site.now level root p)) }
     ensures no_memory { IfErr result IsNoMemory }
     ensures reading { Reads B.Blocks blocks.old blocks.new }
     ensures cause { HasCause (B.faults blocks.old) (B.faults blocks.new) result }
     ensures one { B.count blocks.new ≡ B.count blocks.old + 1 }
 {
-    let block = match blocks.load(p) {
-        Ok(block) => block,
-        Err(fault) => return Err(fault),
-    };
+    let block = blocks.load(p)?;
     if let Some(fault) = lone_fault_of::<K>(&block, site, level, root, p) {
         return Err(WalkFault::Bad { block: p, fault });
     }

@@ -47,9 +47,7 @@ impl<'d, 'c, 's, D: Device, L: Ledger> Blocks for Cached<'d, 'c, 's, D, L> {
         let mut block = Block::zeroed();
         self.steps.block_read();
         let at = self.site.first + u64::from(p);
-        match self.cache.get(self.dev, at, &mut block) {
-            Ok(()) => Ok(block),
-            Err(_) => Err(WalkFault::Failed),
-        }
+        self.cache.get(self.dev, at, &mut block)?;
+        Ok(block)
     }
 }

@@ -2,8 +2,7 @@ use Rattle.std.proofs.Common.{◌≡◌, ℕ, ap, inr, sym, subst}
 use Rattle.blk_device.specs.declared.device.Region.{Region}
 use Rattle.blk_device.specs.declared.device.Region.TheVariants.{Image}
 use Rattle.redo_area.specs.Area.{Blocks, bytes_of, with_batch}
-use Rattle.redo_area.specs.Stages.{Ends, IsReady, IsReadyBut, IsWaiting, IsWaitingBut, Opens, OpensBut, StandsFor, StandsForBut}
-use Rattle.meta_txn.specs.Whole.{StandsForEither, StandsForEitherBut}
+use Rattle.redo_area.specs.Stages.{Ends, IsReady, IsReadyBut, IsWaiting, IsWaitingBut, Opens, OpensBut, StandsFor, StandsForBut, StandsForEither, StandsForEitherBut}
 use Rattle.meta_txn.proofs.WholeLemmas.{then_done, then_leaves}
 use Rattle.redo_area.proofs.ToldLemmas.{told_on}
 use Rattle.meta_txn.proofs.whole.write_ready.Goals as goal

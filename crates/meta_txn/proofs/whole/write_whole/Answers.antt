@@ -2,8 +2,7 @@ use Rattle.std.proofs.Common.{◌≡◌, ℕ, ap, inl, sym, subst}
 use Rattle.blk_device.specs.declared.device.Region.{Region}
 use Rattle.blk_device.specs.declared.device.Region.TheVariants.{Image}
 use Rattle.redo_area.specs.Area.{Blocks, bytes_of, with_batch}
-use Rattle.redo_area.specs.Stages.{AtRestBut, Ends, IsReadyBut, PreparesBut, StandsForBut}
-use Rattle.meta_txn.specs.Whole.{StandsForEitherBut}
+use Rattle.redo_area.specs.Stages.{AtRestBut, Ends, IsReadyBut, PreparesBut, StandsForBut, StandsForEitherBut}
 use Rattle.meta_txn.proofs.WholeLemmas.{leaves_too, then_done, then_leaves}
 use Rattle.redo_area.proofs.ToldLemmas.{told_on}
 use Rattle.meta_txn.proofs.whole.write_whole.Goals as goal

@@ -11,18 +11,18 @@ use Rattle.redo_area.proofs.Steps.{ended, while_behind, while_behind_but}
 use Rattle.redo_area.proofs.TableLemmas.{length_places, numbers_read, table_sound}
 use Rattle.redo_area.proofs.area.prepare.Goals as goal
 
-pub returns-in-Ok-clause-any_moment : goal.returns-in-Ok-clause-any_moment
-returns-in-Ok-clause-any_moment g c =
+pub returns-clause-any_moment : goal.returns-clause-any_moment
+returns-clause-any_moment g c =
     let d = g.D.Device in
     while_behind d.clock d.may_have_held_since d.may_hold_now (d.blocks c.args.dev.now Image) c.args.dev.now c.stage.new.dev (d.content c.args.dev.now) c.stage.ensures.moments
 
-pub returns-in-Err-clause-any_moment : goal.returns-in-Err-clause-any_moment
-returns-in-Err-clause-any_moment g c =
+pub returns-in_err-stage-clause-any_moment : goal.returns-in_err-stage-clause-any_moment
+returns-in_err-stage-clause-any_moment g c =
     let d = g.D.Device in
     while_behind d.clock d.may_have_held_since d.may_hold_now (d.blocks c.args.dev.now Image) c.args.dev.now c.stage.new.dev (d.content c.args.dev.now) c.stage.ensures.moments
 
-pub returns-in-Ok-clause-prepared : goal.returns-in-Ok-clause-prepared
-returns-in-Ok-clause-prepared g c =
+pub returns-clause-prepared : goal.returns-clause-prepared
+returns-clause-prepared g c =
     let d = g.D.Device in
     let met = g.met.D.Device in
     let old = c.args.dev.now in
@@ -34,22 +34,22 @@ returns-in-Ok-clause-prepared g c =
     let some : 0 < length ns = omega (arith, length_places batch, c.requires.some) in
     let answer : Result (Unit {0}) ℕ = Ok tt in
     λ rest. ended answer (d.content old) (d.content new) (d.may_hold_now new) (staged size batch) Redo (AtRest (d.may_hold_now old)) (Prepares size (bytes_of batch) (d.may_hold_now new))
-    c.in-Ok.ensures.written c.in-Ok.ensures.durable rest
+    c.in_ok-stage.ensures.written c.in_ok-stage.ensures.durable rest
     (λ m s durable. staged_law size (d.may_hold_now old) m s.quiet (d.may_hold_now new) batch s.shut (numbers_read ns size few c.requires.rise c.stage.ensures.bound) (table_sound ns size few c.requires.rise c.stage.ensures.bound some)
     (at_end d.clock d.may_have_held_since d.may_hold_now met.only_now met.counts_now old new (Reached BehindGate (d.may_hold_now old)) c.stage.ensures.moments) durable)
 
-pub returns-in-Ok-clause-any_moment_but : goal.returns-in-Ok-clause-any_moment_but
-returns-in-Ok-clause-any_moment_but g c =
+pub returns-clause-any_moment_but : goal.returns-clause-any_moment_but
+returns-clause-any_moment_but g c =
     let d = g.D.Device in
     λ K. while_behind_but d.clock d.may_have_held_since d.may_hold_now (d.blocks c.args.dev.now Image) c.args.dev.now c.stage.new.dev (d.content c.args.dev.now) K c.stage.ensures.moments
 
-pub returns-in-Err-clause-any_moment_but : goal.returns-in-Err-clause-any_moment_but
-returns-in-Err-clause-any_moment_but g c =
+pub returns-in_err-stage-clause-any_moment_but : goal.returns-in_err-stage-clause-any_moment_but
+returns-in_err-stage-clause-any_moment_but g c =
     let d = g.D.Device in
     λ K. while_behind_but d.clock d.may_have_held_since d.may_hold_now (d.blocks c.args.dev.now Image) c.args.dev.now c.stage.new.dev (d.content c.args.dev.now) K c.stage.ensures.moments
 
-pub returns-in-Ok-clause-prepared_but : goal.returns-in-Ok-clause-prepared_but
-returns-in-Ok-clause-prepared_but g c =
+pub returns-clause-prepared_but : goal.returns-clause-prepared_but
+returns-clause-prepared_but g c =
     let d = g.D.Device in
     let met = g.met.D.Device in
     let old = c.args.dev.now in
@@ -61,6 +61,6 @@ returns-in-Ok-clause-prepared_but g c =
     let some : 0 < length ns = omega (arith, length_places batch, c.requires.some) in
     let answer : Result (Unit {0}) ℕ = Ok tt in
     λ K rest. ended answer (d.content old) (d.content new) (d.may_hold_now new) (staged size batch) Redo (AtRestBut K (d.may_hold_now old)) (PreparesBut K size (bytes_of batch) (d.may_hold_now new))
-    c.in-Ok.ensures.written c.in-Ok.ensures.durable rest
+    c.in_ok-stage.ensures.written c.in_ok-stage.ensures.durable rest
     (λ m s durable. staged_but K size (d.may_hold_now old) m s.quiet (d.may_hold_now new) batch s.shut (numbers_read ns size few c.requires.rise c.stage.ensures.bound) (table_sound ns size few c.requires.rise c.stage.ensures.bound some)
     (at_end d.clock d.may_have_held_since d.may_hold_now met.only_now met.counts_now old new (Reached BehindGate (d.may_hold_now old)) c.stage.ensures.moments) durable)

@@ -6,11 +6,10 @@ use Rattle.blk_device.specs.Contents.{Becomes}
 use Rattle.blk_device.specs.Crash.{LeavesOnly}
 use Rattle.blk_device.specs.declared.device.Region.TheVariants.{Image}
 use Rattle.redo_area.specs.Area.{Blocks, bytes_of, with_batch}
-use Rattle.redo_area.specs.Stages.{AtRest, AtRestBut, Ends, EndsBut}
+use Rattle.redo_area.specs.Stages.{AtRest, AtRestBut, Ends, EndsBut, StandsForEither, StandsForEitherBut}
 use Rattle.redo_area.specs.Table.{places, rises}
 use Rattle.redo_area.proofs.AreaLaws.{homes_of_bytes}
 use Rattle.meta_txn.specs.Joined.{Joined, bytes_at, written, AreBelow}
-use Rattle.meta_txn.specs.Whole.{StandsForEither, StandsForEitherBut}
 use Rattle.meta_txn.proofs.ListLemmas.{length_bytes_of, rises_within, with_batch_is}
 use Rattle.meta_txn.proofs.BatchLemmas.{is_batch}
 use Rattle.meta_txn.proofs.txn.Txn.commit.Goals as goal
