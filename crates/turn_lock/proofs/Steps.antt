@@ -23,8 +23,8 @@ just_injective a b e = cc
 just_nothing : {A : Type 0} (a : A) (m : Maybe A) → m ≡ Nothing → m ≡ Just a → ⊥
 just_nothing a m e f = let g : Nothing ≡ Just a = sym e ∙ f in cc
 
-module _ {T E O K : Type 0} (journal : T → List E) (origin : T → O) (kept : T → ℕ → K) where
-  few : (s : State (Maybe T) (View T E O K)) → (h : LockHolds journal origin kept s) → h.drawn ≤ h.served + ACTORS
+module _ {T E O K : Type 0} (journal : T → List E) (origin : T → O) (kept : T → ℕ → K) (start : ℕ) where
+  few : (s : State (Maybe T) (View T E O K)) → (h : LockHolds journal origin kept start s) → h.drawn ≤ h.served + ACTORS
   few s h = let a = total_le (λ v. one v.ticket) (λ v. length v.kept) s.views h.each in let b = h.count in let c = h.actors in omega (arith, a, b, c)
 
   -- a telling view, in a list where another view changed
@@ -35,7 +35,7 @@ module _ {T E O K : Type 0} (journal : T → List E) (origin : T → O) (kept : 
       let ne : a.0 ≢ id = λ e. just_nothing x v.told quiet (ap (λ z. z.told) (some-injective v a.1 (sym at ∙ (ap (get_elem? s.views) (sym e) ∙ a.2))) ∙ a.3) in
       (a.0, a.1, set_else s.views id a.0 w ne ∙ a.2, a.3, a.4)
 
-  module _ (s : State (Maybe T) (View T E O K)) (h : LockHolds journal origin kept s) (id : ℕ) (v w : View T E O K) (at : get_elem? s.views id ≡ some v) where
+  module _ (s : State (Maybe T) (View T E O K)) (h : LockHolds journal origin kept start s) (id : ℕ) (v w : View T E O K) (at : get_elem? s.views id ≡ some v) where
     -- where the view has no new ticket
     once_kept : ((t : ℕ) → w.ticket ≡ Just t → v.ticket ≡ Just t) → (i j : ℕ) (u q : View T E O K) (t : ℕ) → i ≢ j → get_elem? (slice_set s.views id w) i ≡ some u → get_elem? (slice_set s.views id w) j ≡ some q → u.ticket ≡ Just t → q.ticket ≡ Just t → ⊥
     once_kept sub i j u q t ne a b = pairs_set (λ u q. (t : ℕ) → u.ticket ≡ Just t → q.ticket ≡ Just t → ⊥) s.views id w
@@ -90,6 +90,9 @@ module _ {T E O K : Type 0} (journal : T → List E) (origin : T → O) (kept : 
     count_kept : w.ticket ≡ v.ticket → h.drawn ≡ h.served + total (λ v. one v.ticket) (slice_set s.views id w)
     count_kept same = let c = h.count in let f : View T E O K → ℕ = λ v. one v.ticket in let e : total f (slice_set s.views id w) + one v.ticket ≡ total f s.views + one w.ticket = total_set f s.views id v w at in let z : one w.ticket ≡ one v.ticket = ap one same in omega (arith, c, e, z)
 
+    turns_kept : w.turns ≡ v.turns → h.served ≡ start + total (λ v. v.turns) (slice_set s.views id w)
+    turns_kept same = let a = h.turns in let f : View T E O K → ℕ = λ v. v.turns in let e : total f (slice_set s.views id w) + v.turns ≡ total f s.views + w.turns = total_set f s.views id v w at in omega (arith, a, e, same)
+
     actors_kept : length w.kept ≡ length v.kept → total (λ v. length v.kept) (slice_set s.views id w) ≡ ACTORS
     actors_kept same = let a = h.actors in let f : View T E O K → ℕ = λ v. length v.kept in let e : total f (slice_set s.views id w) + length v.kept ≡ total f s.views + length w.kept = total_set f s.views id v w at in omega (arith, a, e, same)
 
@@ -97,7 +100,7 @@ module _ {T E O K : Type 0} (journal : T → List E) (origin : T → O) (kept : 
     alone : v.ticket ≡ Just h.served → (j : ℕ) (u : View T E O K) → j ≢ id → get_elem? s.views j ≡ some u → u.ticket ≡ Just h.served → ⊥
     alone mine j u ne there e = h.once j id u v h.served ne there at e mine
 
-  pub draw_allows : (slots id : ℕ) (me : Me (Maybe T) (View T E O K)) → me.0.ticket ≡ Nothing → me.0.told ≡ Nothing → 0 < length me.0.kept → Allows (LockHolds journal origin kept) slots id me 0 (λ n. (n + 1) % 2 ^ 64) (Draws me)
+  pub draw_allows : (slots id : ℕ) (me : Me (Maybe T) (View T E O K)) → me.0.ticket ≡ Nothing → me.0.told ≡ Nothing → 0 < length me.0.kept → Allows (LockHolds journal origin kept start) slots id me 0 (λ n. (n + 1) % 2 ^ 64) (Draws me)
   draw_allows slots id me idle quiet speaks s h homes at small =
       let v = me.0 in
       let w = with_ticket me.0 h.drawn in
@@ -117,6 +120,7 @@ module _ {T E O K : Type 0} (journal : T → List E) (origin : T → O) (kept : 
               (λ j u ne there. ((λ t a b. let e = just_injective h.drawn t a in let l = (h.out j u there t b).1 in omega (arith, e, l)), (λ t b a. let e = just_injective h.drawn t a in let l = (h.out j u there t b).1 in omega (arith, e, l))))
               (λ i j u q _ _ ne a b t. h.once i j u q t ne a b) i j u q ne a b t;
           count = let c = h.count in let f : View T E O K → ℕ = λ v. one v.ticket in let e : total f (slice_set s.views id w) + one v.ticket ≡ total f s.views + 1 = total_set f s.views id v w at in let z : one v.ticket ≡ 0 = ap one idle in omega (arith, c, e, z);
+          turns = turns_kept s h id v w at refl;
           actors = actors_kept s h id v w at refl;
           each = all_set (λ i u. one u.ticket ≤ length u.kept) s.views id w speaks (λ j u ne. h.each j u);
           apart = apart_kept s h id v w at (λ a k x. (k, x));
@@ -134,13 +138,13 @@ module _ {T E O K : Type 0} (journal : T → List E) (origin : T → O) (kept : 
       )
 
   -- a load that changes nothing
-  stays : (s : State (Maybe T) (View T E O K)) (id word : ℕ) (v : View T E O K) (c : List (ℕ × Maybe T)) → LockHolds journal origin kept s → get_elem? s.views id ≡ some v → LockHolds journal origin kept (stepped s word (slice_index s.words word) id c v keeps)
+  stays : (s : State (Maybe T) (View T E O K)) (id word : ℕ) (v : View T E O K) (c : List (ℕ × Maybe T)) → LockHolds journal origin kept start s → get_elem? s.views id ≡ some v → LockHolds journal origin kept start (stepped s word (slice_index s.words word) id c v keeps)
   stays s id word v c h at =
-      let H : State (Maybe T) (View T E O K) → Type 0 = LockHolds journal origin kept in
+      let H : State (Maybe T) (View T E O K) → Type 0 = LockHolds journal origin kept start in
       let there = subst (λ (xs : List (View T E O K)). H (record { words = s.words; homes = s.homes; views = xs })) (sym (set_again s.views id v at)) h in
       subst (λ (ws : List ℕ). H (record { words = ws; homes = s.homes; views = slice_set s.views id v })) (sym (set-get_or s.words word 0)) there
 
-  pub look_allows : (slots id : ℕ) (me : Me (Maybe T) (View T E O K)) (t : ℕ) → me.0.ticket ≡ Just t → me.0.told ≡ Nothing → Allows (LockHolds journal origin kept) slots id me 1 (λ n. n) (Looks journal origin kept me)
+  pub look_allows : (slots id : ℕ) (me : Me (Maybe T) (View T E O K)) (t : ℕ) → me.0.ticket ≡ Just t → me.0.told ≡ Nothing → Allows (LockHolds journal origin kept start) slots id me 1 (λ n. n) (Looks journal origin kept me)
   look_allows slots id me t ticket quiet s h homes at small = elim (ℕ_discrete (slice_index s.words 1) (number me.0.ticket % 2 ^ 64)) [
     | no ne ↦ (me.0, keeps, tt, stays s id 1 me.0 me.1 h at, inr (ne, refl))
     | yes is ↦
@@ -169,6 +173,7 @@ module _ {T E O K : Type 0} (journal : T → List E) (origin : T → O) (kept : 
             out = out_kept s h id v w at (λ t e. e);
             once = once_kept s h id v w at (λ t e. e);
             count = count_kept s h id v w at refl;
+            turns = turns_kept s h id v w at refl;
             actors = actors_kept s h id v w at refl;
             each = all_set (λ i u. one u.ticket ≤ length u.kept) s.views id w (h.each id v at) (λ j u ne. h.each j u);
             apart = apart_kept s h id v w at (λ a k x. (k, x));
@@ -186,7 +191,7 @@ module _ {T E O K : Type 0} (journal : T → List E) (origin : T → O) (kept : 
   ]
 
   pub publish_core : (id n : ℕ) (v : View T E O K) (x y : T) (c : List (ℕ × Maybe T)) → v.told ≡ Just x → Extends journal origin kept v x y → n ≡ length (journal y)
-      → (s : State (Maybe T) (View T E O K)) → LockHolds journal origin kept s → get_elem? s.views id ≡ some v → LockHolds journal origin kept (stepped s 2 n id c (telling journal origin kept v y) keeps)
+      → (s : State (Maybe T) (View T E O K)) → LockHolds journal origin kept start s → get_elem? s.views id ≡ some v → LockHolds journal origin kept start (stepped s 2 n id c (telling journal origin kept v y) keeps)
   publish_core id n v x y c tells ext len s h at =
       let w = telling journal origin kept v y in
       let q = h.told id v at x tells in
@@ -224,6 +229,7 @@ module _ {T E O K : Type 0} (journal : T → List E) (origin : T → O) (kept : 
         out = out_kept s h id v w at (λ t e. e);
         once = once_kept s h id v w at (λ t e. e);
         count = count_kept s h id v w at refl;
+        turns = turns_kept s h id v w at refl;
         actors = actors_kept s h id v w at long;
         each = all_set (λ i u. one u.ticket ≤ length u.kept) s.views id w (let b = h.each id v at in omega (arith, b, long)) (λ j u ne. h.each j u);
         apart = apart_kept s h id v w at (λ a k x. let z = old a k x in (z.0, z.1));
@@ -244,7 +250,7 @@ module _ {T E O K : Type 0} (journal : T → List E) (origin : T → O) (kept : 
       }
 
   serve_plain : (slots id : ℕ) (v : View T E O K) (y : T) (r : List (ℕ × Maybe T)) → v.told ≡ Just y
-      → Allows (LockHolds journal origin kept) slots id (v, (0, Just y) ∷ r) 1 (λ n. (n + 1) % 2 ^ 64) (Serves (v, (0, Just y) ∷ r))
+      → Allows (LockHolds journal origin kept start) slots id (v, (0, Just y) ∷ r) 1 (λ n. (n + 1) % 2 ^ 64) (Serves (v, (0, Just y) ∷ r))
   serve_plain slots id v y r tells s h homes at small =
       let w = passed v in
       let q = h.told id v at y tells in
@@ -262,6 +268,7 @@ module _ {T E O K : Type 0} (journal : T → List E) (origin : T → O) (kept : 
               (λ j u ne there t e. let b = h.out j u there t e in let b0 = b.0 in let other : t ≢ h.served = λ eq. alone s h id v w at q.1 j u ne there (e ∙ ap (λ n. Just n) eq) in (omega (arith, b0, other), b.1));
           once = once_kept s h id v w at (λ t e. absurd (just_nothing t Nothing refl e));
           count = let c = h.count in let f : View T E O K → ℕ = λ v. one v.ticket in let e : total f (slice_set s.views id w) + one v.ticket ≡ total f s.views + 0 = total_set f s.views id v w at in let z : one v.ticket ≡ 1 = ap one q.1 in omega (arith, c, e, z);
+          turns = let c = h.turns in let f : View T E O K → ℕ = λ v. v.turns in let e : total f (slice_set s.views id w) + v.turns ≡ total f s.views + (v.turns + 1) = total_set f s.views id v w at in omega (arith, c, e);
           actors = actors_kept s h id v w at refl;
           each = all_set (λ i u. one u.ticket ≤ length u.kept) s.views id w (omega arith) (λ j u ne. h.each j u);
           apart = apart_kept s h id v w at (λ a k x. (k, x));
@@ -278,11 +285,11 @@ module _ {T E O K : Type 0} (journal : T → List E) (origin : T → O) (kept : 
       )
 
   pub serve_allows : (slots id : ℕ) (me : Me (Maybe T) (View T E O K)) (y : T) (r : List (ℕ × Maybe T)) → me.1 ≡ (0, Just y) ∷ r → me.0.told ≡ Just y
-      → Allows (LockHolds journal origin kept) slots id me 1 (λ n. (n + 1) % 2 ^ 64) (Serves me)
+      → Allows (LockHolds journal origin kept start) slots id me 1 (λ n. (n + 1) % 2 ^ 64) (Serves me)
   serve_allows slots id me y r carried tells =
-      subst (λ c. Allows (LockHolds journal origin kept) slots id (me.0, c) 1 (λ n. (n + 1) % 2 ^ 64) (Serves (me.0, c))) (sym carried) (serve_plain slots id me.0 y r tells)
+      subst (λ c. Allows (LockHolds journal origin kept start) slots id (me.0, c) 1 (λ n. (n + 1) % 2 ^ 64) (Serves (me.0, c))) (sym carried) (serve_plain slots id me.0 y r tells)
 
-  pub settle_allows : (slots id : ℕ) (me : Me (Maybe T) (View T E O K)) → me.0.told ≡ Nothing → Allows (LockHolds journal origin kept) slots id me 1 (λ n. n) (Settles me)
+  pub settle_allows : (slots id : ℕ) (me : Me (Maybe T) (View T E O K)) → me.0.told ≡ Nothing → Allows (LockHolds journal origin kept start) slots id me 1 (λ n. n) (Settles me)
   settle_allows slots id me quiet s h homes at small =
       let v = me.0 in
       let w = settled v in
@@ -299,6 +306,7 @@ module _ {T E O K : Type 0} (journal : T → List E) (origin : T → O) (kept : 
           out = out_kept s h id v w at (λ t e. e);
           once = once_kept s h id v w at (λ t e. e);
           count = count_kept s h id v w at refl;
+          turns = turns_kept s h id v w at refl;
           actors = actors_kept s h id v w at refl;
           each = all_set (λ i u. one u.ticket ≤ length u.kept) s.views id w (h.each id v at) (λ j u ne. h.each j u);
           apart = apart_kept s h id v w at (λ a k x. (k, x));
@@ -315,7 +323,7 @@ module _ {T E O K : Type 0} (journal : T → List E) (origin : T → O) (kept : 
         (q, refl),
       )
 
-  pub split_allows : (n id : ℕ) (v : View T E O K) → v.ticket ≡ Nothing → v.told ≡ Nothing → 0 < length (below n v.kept) → Splits (LockHolds journal origin kept) id v (kept_below n v) (kept_from n v)
+  pub split_allows : (n id : ℕ) (v : View T E O K) → v.ticket ≡ Nothing → v.told ≡ Nothing → 0 < length (below n v.kept) → Splits (LockHolds journal origin kept start) id v (kept_below n v) (kept_from n v)
   split_allows n id v idle quiet lower' s h at =
       let w = kept_below n v in
       let r = kept_from n v in
@@ -333,6 +341,7 @@ module _ {T E O K : Type 0} (journal : T → List E) (origin : T → O) (kept : 
             (λ j u there. ((λ t e f. just_nothing t Nothing refl e), (λ t e f. just_nothing t Nothing refl f)))
             (λ i j u q ne a b t. once_kept s h id v w at (λ t e. e) i j u q t ne a b) i j u q ne a b t;
         count = let c = count_kept s h id v w at refl in let f : View T E O K → ℕ = λ v. one v.ticket in let e : total f (l ++ r ∷ []) ≡ total f l + 0 = total_snoc f l r in omega (arith, c, e);
+        turns = let c = turns_kept s h id v w at refl in let f : View T E O K → ℕ = λ v. v.turns in let e : total f (l ++ r ∷ []) ≡ total f l + 0 = total_snoc f l r in omega (arith, c, e);
         actors = let a = h.actors in let f : View T E O K → ℕ = λ v. length v.kept in let e : total f (l ++ r ∷ []) ≡ total f l + length r.kept = total_snoc f l r in
             let d : total f l + length v.kept ≡ total f s.views + length w.kept = total_set f s.views id v w at in let c : length w.kept + length r.kept ≡ length v.kept = cut_length n v.kept in omega (arith, a, e, d, c);
         each = all_snoc (λ u. one u.ticket ≤ length u.kept) l r (all_set (λ i u. one u.ticket ≤ length u.kept) s.views id w (let z : one v.ticket ≡ 0 = ap one idle in omega (arith, z)) (λ j u ne. h.each j u)) (omega arith);
@@ -359,7 +368,7 @@ module _ {T E O K : Type 0} (journal : T → List E) (origin : T → O) (kept : 
       }
 
   -- of two views that become one, the one has seen the whole journal if one of the two had
-  whole_joined : (s : State (Maybe T) (View T E O K)) → (h : LockHolds journal origin kept s) → (id other : ℕ) (v w : View T E O K) → get_elem? s.views id ≡ some v → get_elem? s.views other ≡ some w → ¬ (other ≡ id)
+  whole_joined : (s : State (Maybe T) (View T E O K)) → (h : LockHolds journal origin kept start s) → (id other : ℕ) (v w : View T E O K) → get_elem? s.views id ≡ some v → get_elem? s.views other ≡ some w → ¬ (other ≡ id)
       → (i : ℕ) × (u : View T E O K) × (get_elem? (slice_set (slice_set s.views id (joining v w)) other spent) i ≡ some u) × (0 < length u.kept) × (u.seen ≡ journal h.current)
   whole_joined s h id other v w at there ne =
       let b = joining v w in
@@ -390,7 +399,7 @@ module _ {T E O K : Type 0} (journal : T → List E) (origin : T → O) (kept : 
       ]
 
   pub join_allows : (id other : ℕ) (v w : View T E O K) → v.ticket ≡ Nothing → v.told ≡ Nothing → w.ticket ≡ Nothing → w.told ≡ Nothing
-      → Joins (LockHolds journal origin kept) id v other w (joining v w) (spent)
+      → Joins (LockHolds journal origin kept start) id v other w (joining v w) (spent)
   join_allows id other v w idle quiet idle' quiet' s h at ne there =
       let b = joining v w in
       let t : View T E O K = spent in
@@ -412,6 +421,8 @@ module _ {T E O K : Type 0} (journal : T → List E) (origin : T → O) (kept : 
             (λ i j u q ne x y n. h.once i j u q n ne x y) i j u q ni x y n;
         count = let c = h.count in let f : View T E O K → ℕ = λ v. one v.ticket in let e : total f (slice_set s.views id b) + one v.ticket ≡ total f s.views + one v.ticket = total_set f s.views id v b at in
             let d : total f (slice_set (slice_set s.views id b) other t) + one w.ticket ≡ total f (slice_set s.views id b) + 0 = total_set f (slice_set s.views id b) other w t there in let z : one w.ticket ≡ 0 = ap one idle' in omega (arith, c, e, d, z);
+        turns = let c = h.turns in let f : View T E O K → ℕ = λ v. v.turns in let e : total f (slice_set s.views id b) + v.turns ≡ total f s.views + (v.turns + w.turns) = total_set f s.views id v b at in
+            let d : total f (slice_set (slice_set s.views id b) other t) + w.turns ≡ total f (slice_set s.views id b) + 0 = total_set f (slice_set s.views id b) other w t there in omega (arith, c, e, d);
         actors = let c = h.actors in let f : View T E O K → ℕ = λ v. length v.kept in let e : total f (slice_set s.views id b) + length v.kept ≡ total f s.views + length b.kept = total_set f s.views id v b at in
             let d : total f (slice_set (slice_set s.views id b) other t) + length w.kept ≡ total f (slice_set s.views id b) + 0 = total_set f (slice_set s.views id b) other w t there in
             let z : length b.kept ≡ length v.kept + length w.kept = length-append v.kept w.kept in omega (arith, c, e, d, z);
@@ -454,17 +465,18 @@ module _ {T E O K : Type 0} (journal : T → List E) (origin : T → O) (kept : 
         ];
       }
 
-  pub opening_holds : (t n : ℕ) (x : T) → t < 2 ^ 64 → n ≡ length (journal x) → LockHolds journal origin kept (opening (t ∷ t ∷ n ∷ []) (Just x ∷ []) (first_view journal origin kept x))
-  opening_holds t n x small len =
+  pub opening_holds : (n : ℕ) (x : T) → start < 2 ^ 64 → n ≡ length (journal x) → LockHolds journal origin kept start (opening (start ∷ start ∷ n ∷ []) (Just x ∷ []) (first_view journal origin kept x))
+  opening_holds n x small len =
       let v = first_view journal origin kept x in
-      let m : t % 2 ^ 64 ≡ t = omega (arith, small) in record {
-        drawn = t;
-        served = t;
+      let m : start % 2 ^ 64 ≡ start = omega (arith, small) in record {
+        drawn = start;
+        served = start;
         current = x;
-        words = ap (λ k. t ∷ t ∷ k ∷ []) len ∙ ap (λ k. k ∷ k ∷ length (journal x) ∷ []) (sym m);
-        out = all_snoc (λ u. (k : ℕ) → u.ticket ≡ Just k → (t ≤ k) × (k < t)) [] v (λ j u e. absurd (some-ne-none u (sym e))) (λ k e. absurd (just_nothing k Nothing refl e));
+        words = ap (λ k. start ∷ start ∷ k ∷ []) len ∙ ap (λ k. k ∷ k ∷ length (journal x) ∷ []) (sym m);
+        out = all_snoc (λ u. (k : ℕ) → u.ticket ≡ Just k → (start ≤ k) × (k < start)) [] v (λ j u e. absurd (some-ne-none u (sym e))) (λ k e. absurd (just_nothing k Nothing refl e));
         once = λ i j u q k ne a b. pairs_snoc (λ u q. (k : ℕ) → u.ticket ≡ Just k → q.ticket ≡ Just k → ⊥) [] v (λ j u e. absurd (some-ne-none u (sym e))) (λ i j u q ne e. absurd (some-ne-none u (sym e))) i j u q ne a b k;
         count = omega arith;
+        turns = omega arith;
         actors = refl;
         each = all_snoc (λ u. one u.ticket ≤ length u.kept) [] v (λ j u e. absurd (some-ne-none u (sym e))) (omega arith);
         apart = λ i j u q a k l ne x y. pairs_snoc (λ u q. (a : ℕ) (k l : K) → Has u.kept a k → Has q.kept a l → ⊥) [] v (λ j u e. absurd (some-ne-none u (sym e))) (λ i j u q ne e. absurd (some-ne-none u (sym e))) i j u q ne x y a k l;
@@ -476,17 +488,17 @@ module _ {T E O K : Type 0} (journal : T → List E) (origin : T → O) (kept : 
         whole = (0, v, refl, omega arith, refl);
         sound = all_snoc (λ u. Sound u.own u.seen u.other) [] v (λ j u e. absurd (some-ne-none u (sym e))) (record { distinct = λ i j p x y. absurd (some-ne-none p (sym x)); within = λ p o. absurd (some-ne-none p (sym o.1)); grown = (journal x, refl) });
         separate = pairs_snoc (λ u q. Apart u.own q.own) [] v (λ j u e. absurd (some-ne-none u (sym e))) (λ i j u q ne e. absurd (some-ne-none u (sym e)));
-        told = all_snoc (λ u. (y : T) → u.told ≡ Just y → (y ≡ x) × (u.ticket ≡ Just t) × (map some (Just x ∷ []) ≡ none ∷ [])) [] v (λ j u e. absurd (some-ne-none u (sym e))) (λ y e. absurd (just_nothing y Nothing refl e));
+        told = all_snoc (λ u. (y : T) → u.told ≡ Just y → (y ≡ x) × (u.ticket ≡ Just start) × (map some (Just x ∷ []) ≡ none ∷ [])) [] v (λ j u e. absurd (some-ne-none u (sym e))) (λ y e. absurd (just_nothing y Nothing refl e));
         home = inl refl;
       }
 
   pub publish_allows : (slots id n : ℕ) (me : Me (Maybe T) (View T E O K)) (x y : T) → me.0.told ≡ Just x → Extends journal origin kept me.0 x y → n ≡ length (journal y)
-      → Allows (LockHolds journal origin kept) slots id me 2 (λ _. n) (λ _. Publishes journal origin kept (Just y) me)
+      → Allows (LockHolds journal origin kept start) slots id me 2 (λ _. n) (λ _. Publishes journal origin kept (Just y) me)
   publish_allows slots id n me x y tells ext len s h homes at small =
       (telling journal origin kept me.0 y, keeps, tt, publish_core id n me.0 x y me.1 tells ext len s h at, refl)
 
   -- where as many tickets were served as were drawn, the value is at home
-  pub served_home : (s : State (Maybe T) (View T E O K)) (a : ℕ) → (h : LockHolds journal origin kept s) → get_elem? s.words 0 ≡ some a → get_elem? s.words 1 ≡ some a → s.homes ≡ some (Just h.current) ∷ []
+  pub served_home : (s : State (Maybe T) (View T E O K)) (a : ℕ) → (h : LockHolds journal origin kept start s) → get_elem? s.words 0 ≡ some a → get_elem? s.words 1 ≡ some a → s.homes ≡ some (Just h.current) ∷ []
   served_home s a h zeroth first =
       let f : View T E O K → ℕ = λ v. one v.ticket in
       let d : a ≡ h.drawn % 2 ^ 64 = some-injective a (h.drawn % 2 ^ 64) (sym zeroth ∙ ap (λ ws. get_elem? ws 0) h.words) in
@@ -502,7 +514,7 @@ module _ {T E O K : Type 0} (journal : T → List E) (origin : T → O) (kept : 
       ]
 
   -- where one view speaks for all actors and has no ticket, as many were served as were drawn
-  pub all_served : (id : ℕ) (v : View T E O K) (s : State (Maybe T) (View T E O K)) (a b : ℕ) → LockHolds journal origin kept s → get_elem? s.views id ≡ some v → v.ticket ≡ Nothing → length v.kept ≡ ACTORS
+  pub all_served : (id : ℕ) (v : View T E O K) (s : State (Maybe T) (View T E O K)) (a b : ℕ) → LockHolds journal origin kept start s → get_elem? s.views id ≡ some v → v.ticket ≡ Nothing → length v.kept ≡ ACTORS
       → get_elem? s.words 0 ≡ some a → get_elem? s.words 1 ≡ some b → a ≡ b
   all_served id v s a b h at idle all zeroth first =
       let f : View T E O K → ℕ = λ v. one v.ticket in
@@ -521,7 +533,7 @@ module _ {T E O K : Type 0} (journal : T → List E) (origin : T → O) (kept : 
       d ∙ (ap (λ n. n % 2 ^ 64) same ∙ sym e)
 
   -- what lies in the slot of a lock that is closed, by the numbers that its words have
-  module _ (id : ℕ) (v : View T E O K) (s : State (Maybe T) (View T E O K)) (a b : ℕ) (h : LockHolds journal origin kept s) (at : get_elem? s.views id ≡ some v)
+  module _ (id : ℕ) (v : View T E O K) (s : State (Maybe T) (View T E O K)) (a b : ℕ) (h : LockHolds journal origin kept start s) (at : get_elem? s.views id ≡ some v)
       (zeroth : get_elem? s.words 0 ≡ some a) (first : get_elem? s.words 1 ≡ some b)
       (xs : List (Maybe T)) (known : (k : ℕ) (y : Maybe T) → get_elem? s.homes k ≡ some (some y) → get_elem? xs k ≡ some y) (m : Maybe T) (taken : get_elem? xs 0 ≡ some m) where
     pub lies_there : a ≡ b → m ≡ Just h.current

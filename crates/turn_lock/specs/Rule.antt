@@ -20,7 +20,8 @@ pub record Sound {E : Type 0} (own : List ℕ) (seen other : List E) : Type 0 wh
   pub grown : Begins other seen
 
 module _ {T E O K : Type 0} (journal : T → List E) (origin : T → O) (kept : T → ℕ → K) where
-  pub record LockHolds (s : State (Maybe T) (View T E O K)) : Type 0 where
+  -- start is the number of the first ticket
+  pub record LockHolds (start : ℕ) (s : State (Maybe T) (View T E O K)) : Type 0 where
     -- how many tickets were ever drawn and served, without an end, and the value as its last turn left it
     pub drawn : ℕ
     pub served : ℕ
@@ -30,6 +31,8 @@ module _ {T E O K : Type 0} (journal : T → List E) (origin : T → O) (kept : 
     pub out : (i : ℕ) (v : View T E O K) → get_elem? s.views i ≡ some v → (t : ℕ) → v.ticket ≡ Just t → (served ≤ t) × (t < drawn)
     pub once : (i j : ℕ) (v w : View T E O K) (t : ℕ) → i ≢ j → get_elem? s.views i ≡ some v → get_elem? s.views j ≡ some w → v.ticket ≡ Just t → w.ticket ≡ Just t → ⊥
     pub count : drawn ≡ served + total (λ v. one v.ticket) s.views
+    -- of the tickets from the first one on, those that were served are the turns that were taken
+    pub turns : served ≡ start + total (λ v. v.turns) s.views
     -- there are 17 actors, each in one view, and a view with a ticket has one: so at most 17 tickets are out
     pub actors : total (λ v. length v.kept) s.views ≡ ACTORS
     pub each : (i : ℕ) (v : View T E O K) → get_elem? s.views i ≡ some v → one v.ticket ≤ length v.kept

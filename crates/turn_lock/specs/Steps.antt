@@ -1,5 +1,5 @@
 -- What each kind of step of the lock tells its pass.
-use Rattle.std.specs.Prelude.{ℕ, List, [], ◌∷◌, ◌++◌, ◌≡◌, ◌≢◌, ◌%◌, ◌^◌, length, map, ◌⊎◌}
+use Rattle.std.specs.Prelude.{ℕ, List, [], ◌∷◌, ◌++◌, ◌+◌, ◌≡◌, ◌≢◌, ◌%◌, ◌^◌, length, map, ◌⊎◌}
 use Rattle.std.specs.Prelude.{Option as Maybe, Some as Just, None as Nothing}
 use Rattle.atomic_table.specs.Table.{Me, rest}
 use Rattle.turn_lock.specs.declared.view.View.{View}
@@ -19,7 +19,7 @@ module _ {T E O K : Type 0} where
   taking v x = record v { told = Just x }
 
   abbrev pub passed : View T E O K → View T E O K
-  passed v = record v { ticket = Nothing; told = Nothing }
+  passed v = record v { ticket = Nothing; told = Nothing; turns = v.turns + 1 }
 
   -- a ticket was drawn
   abbrev pub Draws : Me (Maybe T) (View T E O K) → ℕ → Me (Maybe T) (View T E O K) → Type 0

@@ -1,5 +1,5 @@
 -- What a pass knows: which prefix of the journal it has seen, which entries of it are its own, for which actors it speaks, and what the value keeps for them.
-use Rattle.std.specs.Prelude.{ℕ, List, [], ◌++◌, ◌≡◌, ◌<◌, ◌-◌, length, map}
+use Rattle.std.specs.Prelude.{ℕ, List, [], ◌++◌, ◌≡◌, ◌<◌, ◌+◌, ◌-◌, length, map}
 use Rattle.std.specs.Prelude.{Option as Maybe, Some as Just, None as Nothing}
 use Rattle.atomic_table.specs.Table.{Me}
 use Rattle.turn_lock.specs.declared.view.View.{View}
@@ -16,22 +16,22 @@ module _ {T E O K : Type 0} where
   kept_below n v = record v { kept = below n v.kept }
 
   abbrev pub kept_from : ℕ → View T E O K → View T E O K
-  kept_from n v = record { ticket = Nothing; told = Nothing; seen = v.seen; own = []; origin = v.origin; kept = above n v.kept; other = [] }
+  kept_from n v = record { ticket = Nothing; told = Nothing; seen = v.seen; own = []; turns = 0; origin = v.origin; kept = above n v.kept; other = [] }
 
-  -- of two passes that are joined: the longer prefix, both lists of positions, both sets of actors
+  -- of two passes that are joined: the longer prefix, both lists of positions, the turns of both, both sets of actors
   abbrev pub joined : View T E O K → View T E O K → View T E O K
-  joined v w = record v { seen = longer v.seen w.seen; own = v.own ++ w.own; kept = v.kept ++ w.kept }
+  joined v w = record v { seen = longer v.seen w.seen; own = v.own ++ w.own; turns = v.turns + w.turns; kept = v.kept ++ w.kept }
 
   -- the same while the shorter prefix is still told
   abbrev pub joining : View T E O K → View T E O K → View T E O K
-  joining v w = record v { seen = longer v.seen w.seen; own = v.own ++ w.own; kept = v.kept ++ w.kept; other = shorter v.seen w.seen }
+  joining v w = record v { seen = longer v.seen w.seen; own = v.own ++ w.own; turns = v.turns + w.turns; kept = v.kept ++ w.kept; other = shorter v.seen w.seen }
 
   abbrev pub settled : View T E O K → View T E O K
   settled v = record v { other = [] }
 
   -- what is left of a pass that was joined to another
   abbrev pub spent : View T E O K
-  spent = record { ticket = Nothing; told = Nothing; seen = []; own = []; origin = Nothing; kept = []; other = [] }
+  spent = record { ticket = Nothing; told = Nothing; seen = []; own = []; turns = 0; origin = Nothing; kept = []; other = [] }
 
   -- a pass between two turns: it has no ticket and no slot, and speaks for at least one actor
   abbrev pub IsIdle : Me (Maybe T) (View T E O K) → Type 0
@@ -53,9 +53,9 @@ module _ {T E O K : Type 0} (journal : T → List E) (origin : T → O) (kept : 
   abbrev pub kept_for : T → ℕ → ℕ × K
   kept_for x a = (a, kept x a)
 
-  -- the pass of a new lock has seen the whole journal, owns nothing of it and speaks for the actors 0 to 16
+  -- the pass of a new lock has seen the whole journal, owns nothing of it, took no turn and speaks for the actors 0 to 16
   abbrev pub first_view : T → View T E O K
-  first_view x = record { ticket = Nothing; told = Nothing; seen = journal x; own = []; origin = Just (origin x); kept = map (kept_for x) (from_up 0 ACTORS); other = [] }
+  first_view x = record { ticket = Nothing; told = Nothing; seen = journal x; own = []; turns = 0; origin = Just (origin x); kept = map (kept_for x) (from_up 0 ACTORS); other = [] }
 
   -- the positions of the entries that a turn appended
   abbrev pub appended : T → T → List ℕ
@@ -66,7 +66,7 @@ module _ {T E O K : Type 0} (journal : T → List E) (origin : T → O) (kept : 
 
   -- the pass after a turn that left y of x
   abbrev pub after_turn : View T E O K → T → T → View T E O K
-  after_turn v x y = record v { ticket = Nothing; told = Nothing; seen = journal y; own = v.own ++ appended x y; kept = map (kept_now y) v.kept }
+  after_turn v x y = record v { ticket = Nothing; told = Nothing; seen = journal y; own = v.own ++ appended x y; turns = v.turns + 1; kept = map (kept_now y) v.kept }
 
   -- a turn took x, left y of it, and the pass knows it. Where the pass speaks for all actors, x had what it has seen and no more
   pub record Turned (v : View T E O K) (x y : T) (w : View T E O K) : Type 0 where

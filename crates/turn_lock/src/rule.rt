@@ -16,22 +16,29 @@ pub(crate) const LENGTH: usize = 2;
 // The slot in which the value lies between two turns.
 pub(crate) const HOME: usize = 0;
 
+/// What the lock is made with: the value, and the number of the first ticket. It has no bytes.
+#[derive(Drop)]
+pub struct Start<T> {
+    pub value: Snapshot<T>,
+    pub ticket: Snapshot<u64>,
+}
+
 /// The rule of the lock's table.
 pub struct LockRule<T> {
     of: PhantomData<T>,
 }
 
-impl<T: Recorded> TableRule<Option<T>, View<T>, Snapshot<T>> for LockRule<T> {
+impl<T: Recorded> TableRule<Option<T>, View<T>, Start<T>> for LockRule<T> {
     ghost use Rattle.turn_lock.specs.Rule.{LockHolds};
     ghost use Rattle.turn_lock.specs.Views.{first_view};
 
-    ghost holds = { λ k s. LockHolds T.journal T.origin T.kept s };
+    ghost holds = { λ k s. LockHolds T.journal T.origin T.kept k.ticket.value s };
 
-    ghost first = { λ k. first_view T.journal T.origin T.kept k.value };
+    ghost first = { λ k. first_view T.journal T.origin T.kept k.value.value };
 }
 
 pub(crate) type LockSeat<T> = Seat<Option<T>, View<T>>;
 
-pub(crate) type LockShared<T> = Shared<Option<T>, View<T>, Snapshot<T>, LockRule<T>>;
+pub(crate) type LockShared<T> = Shared<Option<T>, View<T>, Start<T>, LockRule<T>>;
 
-pub(crate) type LockTable<T> = Table<Option<T>, View<T>, Snapshot<T>, LockRule<T>, Global>;
+pub(crate) type LockTable<T> = Table<Option<T>, View<T>, Start<T>, LockRule<T>, Global>;

@@ -3,14 +3,14 @@ ghost use Rattle.std.specs.Prelude.{ℕ, ◌≡◌, ◌<◌, ◌++◌, ◌∷◌
 ghost use Rattle.std.specs.Fn.{FnOnceReturnsAtMut, FnOnceTakesAtMut};
 ghost use Rattle.turn_lock.specs.declared.recorded.TheConstants.{ACTORS};
 ghost use Rattle.turn_lock.specs.Lists.{Begins, Apart, below, above};
-ghost use Rattle.turn_lock.specs.Passes.{known, Belongs};
+ghost use Rattle.turn_lock.specs.Passes.{known, first_ticket, Belongs};
 ghost use Rattle.turn_lock.specs.Views.{CanTake, GivesBack, KeepsRecord, TookTurn, first_view, joined};
 ghost use Rattle.turn_lock.specs.Views.{kept_below, kept_from, own_entries};
 
 use crate::lock::{LockFault, TurnLock};
 use crate::pass::Pass;
 use crate::recorded::Recorded;
-use crate::rule::{HOME, SERVING, TICKETS};
+use crate::rule::{HOME, SERVING, Start, TICKETS};
 use crate::step::{cut, draw, give, publish, serve, take, unite, wait};
 use atomic_table::Table;
 use std::alloc::{AllocError, Global};
@@ -43,6 +43,7 @@ impl<T: Recorded> TurnLock<T> {
         T: Drop,
         ensures belongs { IfOk result (λ r. Belongs r.1 r.0) }
         ensures pass { IfOk result (λ r. known r.1 ≡ first_view T.journal T.origin T.kept value) }
+        ensures ticket { IfOk result (λ r. first_ticket r.0 ≡ 0) }
     {
         TurnLock::from_ticket(alloc, value, 0)
     }
@@ -57,9 +58,13 @@ impl<T: Recorded> TurnLock<T> {
         T: Drop,
         ensures belongs { IfOk result (λ r. Belongs r.1 r.0) }
         ensures pass { IfOk result (λ r. known r.1 ≡ first_view T.journal T.origin T.kept value) }
+        ensures ticket { IfOk result (λ r. first_ticket r.0 ≡ ticket) }
     {
         let words = [ticket, ticket, value.entries()];
-        let about = Snapshot::of(&value);
+        let about = Start {
+            value: Snapshot::of(&value),
+            ticket: Snapshot::of(&ticket),
+        };
         let slots = home_of(alloc, value)?;
         match Table::new(alloc, &words, slots, &about) {
             Ok((table, seat)) => Ok((TurnLock { table }, Pass { seat })),

@@ -13,6 +13,8 @@ pub struct View<T: Recorded> {
     pub seen: LinkedList<T::Entry>,
     /// The positions in the journal of the entries that the pass's own turns appended.
     pub own: LinkedList<u64>,
+    /// How many turns the pass took, with those of the passes that were joined to it.
+    pub turns: u64,
     /// The origin of the value. Only what is left of a joined pass has none.
     pub origin: Option<T::Origin>,
     /// The actors for which the pass speaks, and what the value keeps for each.

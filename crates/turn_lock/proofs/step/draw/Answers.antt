@@ -6,5 +6,5 @@ pub fetch_add-requires : goal.fetch_add-requires
 fetch_add-requires g c = (
   c.requires.same,
   omega (arith, c.requires.words),
-  draw_allows g.T.Recorded.journal g.T.Recorded.origin g.T.Recorded.kept _ _ _ c.requires.idle.0 c.requires.idle.1 c.requires.speaks,
+  draw_allows g.T.Recorded.journal g.T.Recorded.origin g.T.Recorded.kept _ _ _ _ c.requires.idle.0 c.requires.idle.1 c.requires.speaks,
 )
