@@ -1,5 +1,5 @@
 -- What a fork depends on: its own parts of the core, and the blocks of its btree.
-use Rattle.std.specs.Prelude.{◌≡◌, ℕ, ◌⊎◌, false, List, [], ◌∷◌, Option, Some, None, Result, Ok, Err}
+use Rattle.std.specs.Prelude.{◌≡◌, ℕ, ◌⊎◌, false, List, [], ◌∷◌, Option, Some, None, Result, Ok, Err, is_ok}
 use Rattle.geom.specs.Layout.{Layout, device_block_of, split_of}
 use Rattle.dinode_core.specs.declared.inode.Core3.{Core3}
 use Rattle.dinode_core.specs.declared.mapping.Mapping.{Mapping}
@@ -51,3 +51,26 @@ pub record OwnParts (fork : Fork) (a b : Core3) : Type 0 where
   pub format : format_of b fork ≡ format_of a fork
   pub size : size_of b fork ≡ size_of a fork
   pub absent : is_absent b fork ≡ is_absent a fork
+
+-- a fork without a fault is the same in each image in which its own blocks stay
+abbrev pub GoodForkStays : Layout → Core3 → Fork → Type 0
+GoodForkStays at core fork =
+    (m n : Image) → (list : ForkList) → fork_in at m core fork ≡ Ok list → Stay at list.blocks m n →
+    fork_in at n core fork ≡ Ok list
+
+-- a fork whose met blocks stay is the same, its fault too, where no other block takes a magic number of forks
+abbrev pub MetForkStays : Layout → Core3 → Fork → Type 0
+MetForkStays at core fork =
+    (m n : Image) → AreAlike m n → Stay at (met_of at m core fork).blocks m n →
+    fork_in at n core fork ≡ fork_in at m core fork
+
+-- a fork with a fault has one still, where no other block takes a magic number of forks
+abbrev pub BadForkStaysBad : Layout → Core3 → Fork → Type 0
+BadForkStaysBad at core fork =
+    (m n : Image) → AreAlike m n → is_ok (fork_in at m core fork) ≡ false →
+    is_ok (fork_in at n core fork) ≡ false
+
+-- a core that has the fork's own parts in common has the same fork
+abbrev pub HasOwnParts : Layout → Core3 → Fork → Type 0
+HasOwnParts at core fork =
+    (m : Image) → (other : Core3) → OwnParts fork core other → fork_in at m other fork ≡ fork_in at m core fork

@@ -1,8 +1,6 @@
-//! Tests of block devices, their geometry, caches and transactions, over public calls alone.
+//! Tests of block devices, their geometry and caches, and of fields of bytes, over public calls alone.
 #![tactic(auto)]
 
-#[cfg(test)]
-mod batches;
 #[cfg(test)]
 mod cache;
 #[cfg(test)]
@@ -11,5 +9,3 @@ mod devices;
 mod fields;
 #[cfg(test)]
 mod geometry;
-#[cfg(test)]
-mod transactions;

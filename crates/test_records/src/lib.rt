@@ -1,5 +1,4 @@
-//! Tests of records, of the blocks that hold them, of a group's heads and of sets of blocks, over
-//! public calls alone.
+//! Tests of records, of the blocks that hold them and of sets of blocks, over public calls alone.
 #![tactic(auto)]
 
 #[cfg(test)]
@@ -8,8 +7,6 @@ mod blocks;
 mod counted;
 #[cfg(test)]
 mod edits;
-#[cfg(test)]
-mod heads;
 #[cfg(test)]
 mod kinds;
 #[cfg(test)]

@@ -55,13 +55,10 @@ fn claimed_from<K: RecKind, B: Blocks>(
     ensures each { (m : ℕ → List ℕ) → B.told blocks.old ≡ Some m → OnOk result (ReadsRows K.form site.now m root levels (B.count blocks.old) (B.count blocks.new)) }
 {
     let mut claimed = Vec::new(alloc);
-    let mut frontier = match one_block(alloc, root) {
-        Ok(set) => set,
-        Err(fault) => return Err(fault),
-    };
+    let mut frontier = one_block(alloc, root)?;
     let top = top_level(levels);
     for depth in 0..levels_below(top) {
-        let next = match look_level::<K, B>(
+        let next = look_level::<K, B>(
             alloc,
             blocks,
             site,
@@ -69,14 +66,8 @@ fn claimed_from<K: RecKind, B: Blocks>(
             depth == 0,
             &frontier,
             &mut claimed,
-        ) {
-            Ok(next) => next,
-            Err(fault) => return Err(fault),
-        };
-        frontier = match set_of(alloc, &next) {
-            Ok(set) => set,
-            Err(fault) => return Err(fault),
-        };
+        )?;
+        frontier = set_of(alloc, &next)?;
     }
     set_of(alloc, &claimed)
 }

@@ -39,10 +39,7 @@ fn put_children(kind: Kind, block: &Block, list: &mut Vec<u32>) -> Result<(), Wa
 {
     let area = data_area(block);
     for i in 0..count_of(block) {
-        match put_block(list, child_at(kind, area, i as usize)) {
-            Ok(()) => {}
-            Err(fault) => return Err(fault),
-        }
+        put_block(list, child_at(kind, area, i as usize))?;
     }
     Ok(())
 }
@@ -109,14 +106,8 @@ fn look_at<K: RecKind, B: Blocks>(
     ensures cause { HasCause (B.faults blocks.old) (B.faults blocks.new) result }
     ensures one { B.count blocks.new ≡ B.count blocks.old + 1 }
 {
-    let block = match blocks.load(p) {
-        Ok(block) => block,
-        Err(fault) => return Err(fault),
-    };
-    match claim::<K>(&block, site, p, claimed) {
-        Ok(()) => {}
-        Err(fault) => return Err(fault),
-    }
+    let block = blocks.load(p)?;
+    claim::<K>(&block, site, p, claimed)?;
     lead_on::<K>(&block, site, level, root, p, next)
 }
 
@@ -143,10 +134,7 @@ fn look_along<K: RecKind, B: Blocks>(
     ensures each { OnOk result (B.count blocks.new ≡ B.count blocks.old + run.now.count) }
 {
     for p in run.start..run.start + run.count {
-        match look_at::<K, B>(blocks, site, level, root, p, claimed, next) {
-            Ok(()) => {}
-            Err(fault) => return Err(fault),
-        }
+        look_at::<K, B>(blocks, site, level, root, p, claimed, next)?;
     }
     Ok(())
 }
@@ -179,10 +167,7 @@ pub fn look_level<K: RecKind, B: Blocks>(
     let mut next = Vec::new(alloc);
     let runs = reached.runs();
     for run in runs {
-        match look_along::<K, B>(blocks, site, level, root, run, claimed, &mut next) {
-            Ok(()) => {}
-            Err(fault) => return Err(fault),
-        }
+        look_along::<K, B>(blocks, site, level, root, run, claimed, &mut next)?;
     }
     Ok(next)
 }

@@ -53,10 +53,7 @@ pub fn one_block(alloc: Global, block: u32) -> Result<RunSet, WalkFault>
     ensures exact { IfOk result (λ set. (b : ℕ) → has set b ≡ (b == block)) }
     ensures memory { IfErr result IsMemory }
 {
-    let mut set = match empty_set(alloc) {
-        Ok(set) => set,
-        Err(fault) => return Err(fault),
-    };
+    let mut set = empty_set(alloc)?;
     match add_block(alloc, &mut set, block) {
         Ok(()) => Ok(set),
         Err(fault) => Err(fault),
@@ -89,13 +86,7 @@ pub fn set_of(alloc: Global, blocks: &[u32]) -> Result<RunSet, WalkFault>
         return one_block(alloc, blocks[0]);
     }
     let (front, rest) = blocks.split_at(blocks.len() / 2);
-    let front = match set_of(alloc, front) {
-        Ok(set) => set,
-        Err(fault) => return Err(fault),
-    };
-    let rest = match set_of(alloc, rest) {
-        Ok(set) => set,
-        Err(fault) => return Err(fault),
-    };
+    let front = set_of(alloc, front)?;
+    let rest = set_of(alloc, rest)?;
     joined(alloc, &front, &rest)
 }

@@ -4,7 +4,7 @@ use Rattle.blk_device.specs.declared.device.Region.{Region}
 use Rattle.blk_device.specs.declared.device.Region.TheVariants.{Image}
 use Rattle.meta_txn.specs.Joined.{with_block, AreBelow}
 use Rattle.meta_txn.proofs.JoinedLaws.{below_with}
-use Rattle.test_devices.proofs.transactions.change.Goals as goal
+use Rattle.test_commits.proofs.transactions.change.Goals as goal
 
 pub returns-clause-inside : goal.returns-clause-inside
 returns-clause-inside g c =

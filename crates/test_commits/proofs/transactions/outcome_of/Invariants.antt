@@ -1,4 +1,4 @@
-use Rattle.test_devices.proofs.transactions.outcome_of.Given as goal
+use Rattle.test_commits.proofs.transactions.outcome_of.Given as goal
 
 -- the ledger is the blank's
 abbrev pub ghosts-play : goal.ghosts-play

@@ -1,7 +1,7 @@
 use Rattle.std.proofs.Common.{◌≡◌, ◌∷◌, ◌∙◌, ap, sym}
 use Rattle.redo_area.specs.Table.{places}
 use Rattle.redo_area.proofs.TableLemmas.{rises_more, rises_no_more}
-use Rattle.test_devices.proofs.batches.does_rise.Goals as goal
+use Rattle.test_commits.proofs.batches.does_rise.Goals as goal
 
 pub returns-then-not-is_placed : goal.returns-then-not-is_placed
 returns-then-not-is_placed c =

@@ -1,0 +1,5 @@
+//! Tests of a group's heads, over public calls alone.
+#![tactic(auto)]
+
+#[cfg(test)]
+mod heads;
