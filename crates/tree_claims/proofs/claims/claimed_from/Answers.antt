@@ -13,15 +13,15 @@ use Rattle.tree_claims.proofs.RowLemmas.{none_read, one_row_read, all_rows_read}
 use Rattle.run_sets.proofs.SetLemmas.{maximal_of}
 use Rattle.tree_claims.proofs.claims.claimed_from.Goals as goal
 
-pub returns-in-Err-look_level-clause-few : goal.returns-in-Err-look_level-clause-few
-returns-in-Err-look_level-clause-few g c =
+pub returns-in_err-next-clause-few : goal.returns-in_err-next-clause-few
+returns-in_err-next-clause-few g c =
     let len = c.args.site.now.bounds.length in
     let most : c.levels_below-depth-end.result ≤ 9 = rw (c.levels_below-depth-end.ensures.exact, c.top_level-top.ensures) (deep_most (top_of c.args.levels) (top_most c.args.levels)) in
     let here = level_read (g.B.Blocks.count c.args.blocks.now) (g.B.Blocks.count c.loop-depth.blocks) (g.B.Blocks.count c.look_level.new.blocks) c.loop-depth.depth len c.loop-depth.invariant.few c.look_level.ensures.few in
     levels_read (g.B.Blocks.count c.args.blocks.now) (g.B.Blocks.count c.look_level.new.blocks) (c.loop-depth.depth + 1) len (omega (arith, c.loop-depth-test.true, most)) here
 
-pub returns-in-Err-set_of-clause-few : goal.returns-in-Err-set_of-clause-few
-returns-in-Err-set_of-clause-few g c =
+pub returns-in_err-set_of-clause-few : goal.returns-in_err-set_of-clause-few
+returns-in_err-set_of-clause-few g c =
     let len = c.args.site.now.bounds.length in
     let most : c.levels_below-depth-end.result ≤ 9 = rw (c.levels_below-depth-end.ensures.exact, c.top_level-top.ensures) (deep_most (top_of c.args.levels) (top_most c.args.levels)) in
     let here = level_read (g.B.Blocks.count c.args.blocks.now) (g.B.Blocks.count c.loop-depth.blocks) (g.B.Blocks.count c.look_level.new.blocks) c.loop-depth.depth len c.loop-depth.invariant.few c.look_level.ensures.few in
@@ -32,9 +32,9 @@ loop-depth-init g c =
     let form = g.K.RecKind.form in
     let len = c.args.site.now.bounds.length in
     record {
-      reached = λ m e. root_reached form c.args.site.now m c.args.root c.args.levels (has c.in-Ok.set) c.in-Ok.ensures.exact;
+      reached = λ m e. root_reached form c.args.site.now m c.args.root c.args.levels (has c.in_ok-frontier.frontier) c.in_ok-frontier.ensures.exact;
       named = λ m e. none_named form c.args.site.now m c.args.root c.args.levels (lists c.new-claimed.result.items) (lists_nothing c.new-claimed.result.items c.new-claimed.ensures.items);
-      frontier_lies = root_lies len c.args.root (has c.in-Ok.set) c.requires.inside c.in-Ok.ensures.exact;
+      frontier_lies = root_lies len c.args.root (has c.in_ok-frontier.frontier) c.requires.inside c.in_ok-frontier.ensures.exact;
       claims_lie = none_lies len (lists c.new-claimed.result.items) (lists_nothing c.new-claimed.result.items c.new-claimed.ensures.items);
       reading = reads_none g.B.Blocks g.met.B.Blocks.follows_refl c.args.blocks.now;
       calm = refl;
@@ -48,24 +48,24 @@ loop-depth-preserved g c =
     let depth = c.loop-depth.depth in
     let level = c.top_level-top.result - depth in
     let is_level : level ≡ top_of c.args.levels - depth = ap (λ (n : ℕ). n - depth) c.top_level-top.ensures in
-    let next = c.in-Ok-look_level.next.items in
-    let same = set_lists (has c.in-Ok-set_of.set) next c.deref.result.now c.deref.ensures.value c.in-Ok-set_of.ensures.exact in
+    let next = c.in_ok-next.next.items in
+    let same = set_lists (has c.in_ok-set_of.set_of) next c.deref.result.now c.deref.ensures.value c.in_ok-set_of.ensures.exact in
     record {
-      reached = λ m e. pass_as (lists next) (has c.in-Ok-set_of.set) (IsReached form c.args.site.now m c.args.root c.args.levels (depth + 1)) same
-          (next_reached form c.args.site.now m c.args.root c.args.levels depth level (depth == 0) is_level refl (has c.loop-depth.frontier) (lists c.loop-depth.claimed.items) (lists c.look_level.new.claimed.items) (lists c.in-Ok-look_level.next.items) (c.in-Ok-look_level.ensures.exact m (c.loop-depth.invariant.reading.same ∙ e)) (c.loop-depth.invariant.reached m e));
-      named = λ m e. next_named form c.args.site.now m c.args.root c.args.levels depth level (depth == 0) is_level refl (has c.loop-depth.frontier) (lists c.loop-depth.claimed.items) (lists c.look_level.new.claimed.items) (lists c.in-Ok-look_level.next.items) (c.in-Ok-look_level.ensures.exact m (c.loop-depth.invariant.reading.same ∙ e)) (c.loop-depth.invariant.reached m e) (c.loop-depth.invariant.named m e);
-      frontier_lies = lie_as c.args.site.now.bounds.length (lists next) (has c.in-Ok-set_of.set) same c.in-Ok-look_level.ensures.next_lies;
-      claims_lie = c.in-Ok-look_level.ensures.claims_lie c.loop-depth.invariant.claims_lie;
+      reached = λ m e. pass_as (lists next) (has c.in_ok-set_of.set_of) (IsReached form c.args.site.now m c.args.root c.args.levels (depth + 1)) same
+          (next_reached form c.args.site.now m c.args.root c.args.levels depth level (depth == 0) is_level refl (has c.loop-depth.frontier) (lists c.loop-depth.claimed.items) (lists c.look_level.new.claimed.items) (lists c.in_ok-next.next.items) (c.in_ok-next.ensures.exact m (c.loop-depth.invariant.reading.same ∙ e)) (c.loop-depth.invariant.reached m e));
+      named = λ m e. next_named form c.args.site.now m c.args.root c.args.levels depth level (depth == 0) is_level refl (has c.loop-depth.frontier) (lists c.loop-depth.claimed.items) (lists c.look_level.new.claimed.items) (lists c.in_ok-next.next.items) (c.in_ok-next.ensures.exact m (c.loop-depth.invariant.reading.same ∙ e)) (c.loop-depth.invariant.reached m e) (c.loop-depth.invariant.named m e);
+      frontier_lies = lie_as c.args.site.now.bounds.length (lists next) (has c.in_ok-set_of.set_of) same c.in_ok-next.ensures.next_lies;
+      claims_lie = c.in_ok-next.ensures.claims_lie c.loop-depth.invariant.claims_lie;
       reading = reads_on g.B.Blocks g.met.B.Blocks.follows_trans c.args.blocks.now c.loop-depth.blocks c.look_level.new.blocks c.loop-depth.invariant.reading c.look_level.ensures.reading;
-      calm = c.in-Ok-look_level.ensures.cause ∙ c.loop-depth.invariant.calm;
+      calm = c.in_ok-next.ensures.cause ∙ c.loop-depth.invariant.calm;
       each = λ m e. one_row_read form c.args.site.now m c.args.root c.args.levels depth (g.B.Blocks.count c.args.blocks.now) (g.B.Blocks.count c.loop-depth.blocks) (g.B.Blocks.count c.look_level.new.blocks) c.loop-depth.frontier.runs.items (c.loop-depth.invariant.each m e)
           (record { maximal = maximal_of 0 c.loop-depth.frontier.runs.items c.loop-depth.frontier.maximal; exact = c.loop-depth.invariant.reached m e })
-          c.in-Ok-look_level.ensures.each;
+          c.in_ok-next.ensures.each;
       few = level_read (g.B.Blocks.count c.args.blocks.now) (g.B.Blocks.count c.loop-depth.blocks) (g.B.Blocks.count c.look_level.new.blocks) depth c.args.site.now.bounds.length c.loop-depth.invariant.few c.look_level.ensures.few;
     }
 
 pub set_of-requires : goal.set_of-requires
-set_of-requires g c = record { low = lists_low c.in-Ok-look_level.next.items c.deref.result.now c.args.site.now.bounds.length most c.deref.ensures.value c.requires.short c.in-Ok-look_level.ensures.next_lies }
+set_of-requires g c = record { low = lists_low c.in_ok-next.next.items c.deref.result.now c.args.site.now.bounds.length most c.deref.ensures.value c.requires.short c.in_ok-next.ensures.next_lies }
 
 pub returns-clause-exact : goal.returns-clause-exact
 returns-clause-exact g c = λ m e.

@@ -9,12 +9,12 @@ use Rattle.tree_claims.proofs.frontier.look_along.Goals as goal
 
 pub loop-p-preserved : goal.loop-p-preserved
 loop-p-preserved g c = record {
-  exact = λ m e. looked_on g.K.RecKind.form c.args.site.now m c.args.level c.args.root (is_between c.args.run.now.start c.loop-p.p) (λ b. b == c.loop-p.p) (is_between c.args.run.now.start (c.loop-p.p + 1)) (lists c.args.claimed.now.items) (lists c.loop-p.claimed.items) (lists c.look_at.new.claimed.items) (lists c.args.next.now.items) (lists c.loop-p.next.items) (lists c.look_at.new.next.items) (c.loop-p.invariant.exact m e) (c.in-Ok.ensures.exact m (c.loop-p.invariant.reading.same ∙ e)) (λ b. one_between_more c.args.run.now.start c.loop-p.p b (omega (arith, c.loop-p.auto.p)));
-  claims_lie = λ h. c.in-Ok.ensures.claims_lie (c.loop-p.invariant.claims_lie h);
-  next_lies = λ h. c.in-Ok.ensures.next_lies (c.loop-p.invariant.next_lies h);
+  exact = λ m e. looked_on g.K.RecKind.form c.args.site.now m c.args.level c.args.root (is_between c.args.run.now.start c.loop-p.p) (λ b. b == c.loop-p.p) (is_between c.args.run.now.start (c.loop-p.p + 1)) (lists c.args.claimed.now.items) (lists c.loop-p.claimed.items) (lists c.look_at.new.claimed.items) (lists c.args.next.now.items) (lists c.loop-p.next.items) (lists c.look_at.new.next.items) (c.loop-p.invariant.exact m e) (c.in_ok-look_at.ensures.exact m (c.loop-p.invariant.reading.same ∙ e)) (λ b. one_between_more c.args.run.now.start c.loop-p.p b (omega (arith, c.loop-p.auto.p)));
+  claims_lie = λ h. c.in_ok-look_at.ensures.claims_lie (c.loop-p.invariant.claims_lie h);
+  next_lies = λ h. c.in_ok-look_at.ensures.next_lies (c.loop-p.invariant.next_lies h);
   reading = reads_on g.B.Blocks g.met.B.Blocks.follows_trans c.args.blocks.now c.loop-p.blocks c.look_at.new.blocks c.loop-p.invariant.reading c.look_at.ensures.reading;
-  calm = c.in-Ok.ensures.cause ∙ c.loop-p.invariant.calm;
-  each = omega (arith, c.loop-p.invariant.each, c.in-Ok.ensures.one);
+  calm = c.in_ok-look_at.ensures.cause ∙ c.loop-p.invariant.calm;
+  each = omega (arith, c.loop-p.invariant.each, c.in_ok-look_at.ensures.one);
 }
 
 pub returns-clause-exact : goal.returns-clause-exact

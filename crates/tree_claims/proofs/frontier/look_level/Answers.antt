@@ -31,8 +31,8 @@ look_along-requires-clause-inside g c =
     let below : LieBelow c.args.site.now.bounds.length (holds runs) = λ b held. c.requires.inside b (sym (c.runs-runs.ensures.exact.exact b) ∙ held) in
     run_ends runs c.args.site.now.bounds.length c.loop-run.run-index (get_or runs c.loop-run.run-index no_run) no_run c.runs-runs.ensures.exact.maximal below c.loop-run-test.true refl
 
-pub returns-in-Err-clause-few : goal.returns-in-Err-clause-few
-returns-in-Err-clause-few g c =
+pub returns-in_err-look_along-clause-few : goal.returns-in_err-look_along-clause-few
+returns-in_err-look_along-clause-few g c =
     let runs = c.runs-runs.result.now in
     let i = c.loop-run.run-index in
     let below : LieBelow c.args.site.now.bounds.length (holds runs) = λ b held. c.requires.inside b (sym (c.runs-runs.ensures.exact.exact b) ∙ held) in
@@ -47,12 +47,12 @@ loop-run-preserved g c =
     let i = c.loop-run.run-index in
     let r = get_or runs i no_run in
     record {
-      exact = λ m e. looked_on g.K.RecKind.form c.args.site.now m c.args.level c.args.root (holds (take i runs)) (λ b. is_within b r) (holds (take (i + 1) runs)) (lists c.args.claimed.now.items) (lists c.loop-run.claimed.items) (lists c.look_along.new.claimed.items) (λ b. false) (lists c.loop-run.next.items) (lists c.look_along.new.next.items) (c.loop-run.invariant.exact m e) (c.in-Ok.ensures.exact m (c.loop-run.invariant.reading.same ∙ e)) (λ b. one_run_more runs i r no_run b c.loop-run-test.true refl);
-      claims_lie = λ h. c.in-Ok.ensures.claims_lie (c.loop-run.invariant.claims_lie h);
-      next_lies = c.in-Ok.ensures.next_lies c.loop-run.invariant.next_lies;
+      exact = λ m e. looked_on g.K.RecKind.form c.args.site.now m c.args.level c.args.root (holds (take i runs)) (λ b. is_within b r) (holds (take (i + 1) runs)) (lists c.args.claimed.now.items) (lists c.loop-run.claimed.items) (lists c.look_along.new.claimed.items) (λ b. false) (lists c.loop-run.next.items) (lists c.look_along.new.next.items) (c.loop-run.invariant.exact m e) (c.in_ok-look_along.ensures.exact m (c.loop-run.invariant.reading.same ∙ e)) (λ b. one_run_more runs i r no_run b c.loop-run-test.true refl);
+      claims_lie = λ h. c.in_ok-look_along.ensures.claims_lie (c.loop-run.invariant.claims_lie h);
+      next_lies = c.in_ok-look_along.ensures.next_lies c.loop-run.invariant.next_lies;
       reading = reads_on g.B.Blocks g.met.B.Blocks.follows_trans c.args.blocks.now c.loop-run.blocks c.look_along.new.blocks c.loop-run.invariant.reading c.look_along.ensures.reading;
-      calm = c.in-Ok.ensures.cause ∙ c.loop-run.invariant.calm;
-      each = let more = blocks_more runs i r no_run c.loop-run-test.true refl in omega (arith, c.loop-run.invariant.each, c.in-Ok.ensures.each, more);
+      calm = c.in_ok-look_along.ensures.cause ∙ c.loop-run.invariant.calm;
+      each = let more = blocks_more runs i r no_run c.loop-run-test.true refl in omega (arith, c.loop-run.invariant.each, c.in_ok-look_along.ensures.each, more);
     }
 
 pub returns-clause-exact : goal.returns-clause-exact

@@ -9,7 +9,7 @@ pub loop-i-init : goal.loop-i-init
 loop-i-init c = no_item (lists c.args.list.now.items) (child_of c.args.kind c.data_area-area.result.now)
 
 pub loop-i-preserved : goal.loop-i-preserved
-loop-i-preserved c = one_item_more (lists c.args.list.now.items) (lists c.loop-i.list.items) (lists c.put_block.new.list.items) (child_of c.args.kind c.data_area-area.result.now) c.loop-i.i c.child_at.result c.child_at.ensures c.loop-i.invariant c.in-Ok.ensures.exact
+loop-i-preserved c = one_item_more (lists c.args.list.now.items) (lists c.loop-i.list.items) (lists c.put_block.new.list.items) (child_of c.args.kind c.data_area-area.result.now) c.loop-i.i c.child_at.result c.child_at.ensures c.loop-i.invariant c.in_ok-put_block.ensures.exact
 
 pub returns-clause-exact : goal.returns-clause-exact
 returns-clause-exact c =

@@ -35,5 +35,5 @@ set_of-requires-2 t c =
 pub returns-clause-exact : goal.returns-clause-exact
 returns-clause-exact t c =
     IfOk-weaker c.joined.result _ _
-    (λ set both. parts_joined c.args.blocks.now c.split_at.result.0.now c.split_at.result.1.now (has c.in-Ok.set) (has c.in-Ok-set_of.set) (has set) c.split_at.ensures.by_index.0 c.in-Ok.ensures.exact c.in-Ok-set_of.ensures.exact both)
+    (λ set both. parts_joined c.args.blocks.now c.split_at.result.0.now c.split_at.result.1.now (has c.in_ok-front.front) (has c.in_ok-rest.rest) (has set) c.split_at.ensures.by_index.0 c.in_ok-front.ensures.exact c.in_ok-rest.ensures.exact both)
     c.joined.ensures.exact
