@@ -36,7 +36,10 @@ fn search_spare<K: RecKind, B: Blocks>(
     ensures cause { HasCause (B.faults blocks.old) (B.faults blocks.new) result }
     ensures few { B.count blocks.new ≤ B.count blocks.old + (level + 1) }
 {
-    let block = open_block::<K, B>(blocks, site, level, false, p)?;
+    let block = match open_block::<K, B>(blocks, site, level, false, p) {
+        Ok(block) => block,
+        Err(fault) => return Err(fault),
+    };
     let area = data_area(&block);
     let n = count_of(&block);
     if level == 0 {
@@ -101,7 +104,10 @@ pub fn search<K: RecKind, B: Blocks>(
     ensures cause { HasCause (B.faults blocks.old) (B.faults blocks.new) result }
     ensures few { B.count blocks.new ≤ B.count blocks.old + (level + 1 + most_behind level spare) }
 {
-    let block = open_block::<K, B>(blocks, site, level, root, p)?;
+    let block = match open_block::<K, B>(blocks, site, level, root, p) {
+        Ok(block) => block,
+        Err(fault) => return Err(fault),
+    };
     let area = data_area(&block);
     let n = count_of(&block);
     if level == 0 {

@@ -57,8 +57,14 @@ fn first_piece<K: RecKind, B: Blocks>(
     ensures cause { HasCause (B.faults blocks.old) (B.faults blocks.new) result }
     ensures few { B.count blocks.new ≤ B.count blocks.old + level + 1 }
 {
-    let block = open_block::<K, B>(blocks, site, level, false, p)?;
-    meet(met, p)?;
+    let block = match open_block::<K, B>(blocks, site, level, false, p) {
+        Ok(block) => block,
+        Err(fault) => return Err(fault),
+    };
+    match meet(met, p) {
+        Ok(()) => {}
+        Err(fault) => return Err(fault),
+    }
     if level == 0 {
         return records_after::<K>(alloc, &block, after);
     }
@@ -114,8 +120,14 @@ fn leaf_records<K: RecKind>(
     ensures memory { IfErr result IsMemory }
 {
     let place = place_after::<K>(data_area(block), true, count_of(block), after);
-    meet_if(met, p, place)?;
-    let recs = records_after::<K>(alloc, block, after)?;
+    match meet_if(met, p, place) {
+        Ok(()) => {}
+        Err(fault) => return Err(fault),
+    }
+    let recs = match records_after::<K>(alloc, block, after) {
+        Ok(recs) => recs,
+        Err(fault) => return Err(fault),
+    };
     if place > 0 && recs.is_empty() {
         return Ok(None);
     }
@@ -143,15 +155,24 @@ pub fn piece_node<K: RecKind, B: Blocks>(
     ensures few { B.count blocks.new ≤ B.count blocks.old + (if nat_le level 8 then 2 * level + 1 else 1) }
     ensures none { IfOk result (λ found. IfNone found (B.count blocks.new ≤ B.count blocks.old + level + 1)) }
 {
-    let block = open_block::<K, B>(blocks, site, level, root, p)?;
+    let block = match open_block::<K, B>(blocks, site, level, root, p) {
+        Ok(block) => block,
+        Err(fault) => return Err(fault),
+    };
     if level == 0 {
         return leaf_records::<K>(alloc, &block, p, after, met);
     }
     let place = place_after::<K>(data_area(&block), false, count_of(&block), after);
-    meet_if(met, p, place)?;
+    match meet_if(met, p, place) {
+        Ok(()) => {}
+        Err(fault) => return Err(fault),
+    }
     let start = start_for::<K>(&block, after);
     let child = child_in::<K>(&block, start);
-    let found = piece_node::<K, B>(alloc, blocks, site, level - 1, false, child, after, met)?;
+    let found = match piece_node::<K, B>(alloc, blocks, site, level - 1, false, child, after, met) {
+        Ok(found) => found,
+        Err(fault) => return Err(fault),
+    };
     match found {
         Some(recs) => Ok(Some(recs)),
         None => piece_behind::<K, B>(

@@ -67,7 +67,10 @@ fn walk_node<K: RecKind, B: Blocks>(
     ensures cause { HasCause (B.faults blocks.old) (B.faults blocks.new) result }
     ensures each { OnOk result (B.count blocks.new + length seen.old.blocks.items ≡ B.count blocks.old + length seen.new.blocks.items) }
 {
-    let block = enter::<K, B>(blocks, site, level, root, p, seen)?;
+    let block = match enter::<K, B>(blocks, site, level, root, p, seen) {
+        Ok(block) => block,
+        Err(fault) => return Err(fault),
+    };
     if level == 0 {
         return take_leaf::<K>(&block, &site.bounds, seen);
     }
@@ -139,7 +142,10 @@ fn walk_levels<K: RecKind, B: Blocks>(
 {
     let mut seen = fresh_seen::<K::Rec>(alloc);
     let level = (levels - 1) as u8;
-    walk_node::<K, B>(blocks, site, level, true, root, &mut seen)?;
+    match walk_node::<K, B>(blocks, site, level, true, root, &mut seen) {
+        Ok(_) => {}
+        Err(fault) => return Err(fault),
+    }
     if let Some(block) = open_end_of(&seen, levels) {
         return Err(WalkFault::Bad {
             block,

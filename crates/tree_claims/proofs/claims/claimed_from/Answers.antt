@@ -20,8 +20,8 @@ returns-in_err-next-clause-few g c =
     let here = level_read (g.B.Blocks.count c.args.blocks.now) (g.B.Blocks.count c.loop-depth.blocks) (g.B.Blocks.count c.look_level.new.blocks) c.loop-depth.depth len c.loop-depth.invariant.few c.look_level.ensures.few in
     levels_read (g.B.Blocks.count c.args.blocks.now) (g.B.Blocks.count c.look_level.new.blocks) (c.loop-depth.depth + 1) len (omega (arith, c.loop-depth-test.true, most)) here
 
-pub returns-in_err-set_of-clause-few : goal.returns-in_err-set_of-clause-few
-returns-in_err-set_of-clause-few g c =
+pub returns-in_err-frontier-2-clause-few : goal.returns-in_err-frontier-2-clause-few
+returns-in_err-frontier-2-clause-few g c =
     let len = c.args.site.now.bounds.length in
     let most : c.levels_below-depth-end.result ≤ 9 = rw (c.levels_below-depth-end.ensures.exact, c.top_level-top.ensures) (deep_most (top_of c.args.levels) (top_most c.args.levels)) in
     let here = level_read (g.B.Blocks.count c.args.blocks.now) (g.B.Blocks.count c.loop-depth.blocks) (g.B.Blocks.count c.look_level.new.blocks) c.loop-depth.depth len c.loop-depth.invariant.few c.look_level.ensures.few in
@@ -49,12 +49,12 @@ loop-depth-preserved g c =
     let level = c.top_level-top.result - depth in
     let is_level : level ≡ top_of c.args.levels - depth = ap (λ (n : ℕ). n - depth) c.top_level-top.ensures in
     let next = c.in_ok-next.next.items in
-    let same = set_lists (has c.in_ok-set_of.set_of) next c.deref.result.now c.deref.ensures.value c.in_ok-set_of.ensures.exact in
+    let same = set_lists (has c.in_ok-frontier-2.frontier) next c.deref.result.now c.deref.ensures.value c.in_ok-frontier-2.ensures.exact in
     record {
-      reached = λ m e. pass_as (lists next) (has c.in_ok-set_of.set_of) (IsReached form c.args.site.now m c.args.root c.args.levels (depth + 1)) same
+      reached = λ m e. pass_as (lists next) (has c.in_ok-frontier-2.frontier) (IsReached form c.args.site.now m c.args.root c.args.levels (depth + 1)) same
           (next_reached form c.args.site.now m c.args.root c.args.levels depth level (depth == 0) is_level refl (has c.loop-depth.frontier) (lists c.loop-depth.claimed.items) (lists c.look_level.new.claimed.items) (lists c.in_ok-next.next.items) (c.in_ok-next.ensures.exact m (c.loop-depth.invariant.reading.same ∙ e)) (c.loop-depth.invariant.reached m e));
       named = λ m e. next_named form c.args.site.now m c.args.root c.args.levels depth level (depth == 0) is_level refl (has c.loop-depth.frontier) (lists c.loop-depth.claimed.items) (lists c.look_level.new.claimed.items) (lists c.in_ok-next.next.items) (c.in_ok-next.ensures.exact m (c.loop-depth.invariant.reading.same ∙ e)) (c.loop-depth.invariant.reached m e) (c.loop-depth.invariant.named m e);
-      frontier_lies = lie_as c.args.site.now.bounds.length (lists next) (has c.in_ok-set_of.set_of) same c.in_ok-next.ensures.next_lies;
+      frontier_lies = lie_as c.args.site.now.bounds.length (lists next) (has c.in_ok-frontier-2.frontier) same c.in_ok-next.ensures.next_lies;
       claims_lie = c.in_ok-next.ensures.claims_lie c.loop-depth.invariant.claims_lie;
       reading = reads_on g.B.Blocks g.met.B.Blocks.follows_trans c.args.blocks.now c.loop-depth.blocks c.look_level.new.blocks c.loop-depth.invariant.reading c.look_level.ensures.reading;
       calm = c.in_ok-next.ensures.cause ∙ c.loop-depth.invariant.calm;
