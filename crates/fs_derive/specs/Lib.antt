@@ -8,3 +8,4 @@ pub mod Laws
 pub mod Lists
 pub mod Own
 pub mod Session
+pub mod Worked

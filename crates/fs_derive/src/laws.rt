@@ -1,4 +1,5 @@
 ghost use Rattle.fs_derive.specs.Laws.{InodesFromListing, NoFaultsExactly, NoOverlapExactly, OwnersFromParts, SpaceFromMappings};
+ghost use Rattle.fs_derive.specs.Worked.{Worked};
 
 /// A law: what free space and reference counts should be depends on the group's reverse mappings alone,
 /// and not on the trees that are judged by it.
@@ -28,4 +29,10 @@ pub fn no_faults_exactly()
 /// file data.
 pub fn no_overlap_exactly()
     ensures { NoOverlapExactly }
+{}
+
+/// One small image, worked: who claims its blocks, which of its units is a chunk, and which of several
+/// reasons is shown.
+pub fn worked_image()
+    ensures { Worked }
 {}

@@ -7,6 +7,6 @@ mod plan;
 
 pub use laws::{
     inodes_from_listing, no_faults_exactly, no_overlap_exactly, owners_from_parts,
-    space_from_mappings,
+    space_from_mappings, worked_image,
 };
 pub use plan::Plan;

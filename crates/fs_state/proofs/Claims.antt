@@ -54,12 +54,12 @@ module _ (at : Layout) (image image' : Image) (kept kept' : Kept) (touches : Par
       record { same = has.same; group = has.group; unit = has.unit; nth = has.nth; one_of = has.one_of; chunk = sym (rest.chunks has.group has.unit (units has.group has.unit old)) ∙ has.chunk; place = has.place }
   claim_before (ForkTreeOf ino f) plain d has =
       let h : is_inode (state_of at image kept) ino ≡ true = sym (inode_stays ino plain.2) ∙ has.inode in
-      record { inode = h; block = fork_before ((state_of at image kept).fork ino f) ((state_of at image' kept').fork ino f) at d (rest.forks ino f h plain.0 plain.1) has.block }
+      record { inode = h; block = fork_before ((state_of at image kept).fork ino f) ((state_of at image' kept').fork ino f) at d (rest.forks ino f h has.inode plain.0 plain.1) has.block }
 
   pub mapped_before : (ino : ℕ) (f : Fork) → edits ino ≡ false → touches (ForkTreeOf ino f) ≡ false → fresh_at fresh (split_of at (ino / 8)) ≡ false → (d : ℕ) → InMapped (state_of at image' kept') ino f d → InMapped (state_of at image kept) ino f d
   mapped_before ino f kept_as off old d has =
       let h : is_inode (state_of at image kept) ino ≡ true = sym (inode_stays ino old) ∙ has.inode in
-      record { inode = h; block = data_before ((state_of at image kept).fork ino f) ((state_of at image' kept').fork ino f) at d (rest.forks ino f h kept_as off) has.block }
+      record { inode = h; block = data_before ((state_of at image kept).fork ino f) ((state_of at image' kept').fork ino f) at d (rest.forks ino f h has.inode kept_as off) has.block }
 
 -- Claims stay apart where blocks move among some parts only, and to those from no part.
 pub apart_again : (a b : State) (pooled : Part → Bool) → Apart a → ((c : Part) → pooled c ≡ false → (d : ℕ) → Has b c d → Has a c d) → ((c : Part) → pooled c ≡ true → (d : ℕ) → Has b c d → ((e : Part) × (pooled e ≡ true) × Has a e d) ⊎ ((e : Part) → Has a e d → ⊥)) → ((c e : Part) → pooled c ≡ true → pooled e ≡ true → (d : ℕ) → Has b c d → Has b e d → c ≡ e) → Apart b

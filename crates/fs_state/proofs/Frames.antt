@@ -13,11 +13,12 @@ use Rattle.fs_state.specs.Apart.{ListOf, Part, HeadsOf, TreeOf, ForkTreeOf, Has,
 use Rattle.fs_state.specs.Frame.{Frame, FrameLaw, Rest, SameFork, Firm}
 use Rattle.fs_state.specs.Inodes.{slot_in, fork_by, no_fork}
 use Rattle.fs_state.specs.Kinds.{Image, heads_of, heads_in}
-use Rattle.fs_state.specs.Read.{reserved, state_of, group_of, reading_of, counter_in, core_of_ino, fork_of_ino, inode_bytes}
+use Rattle.fs_state.specs.Read.{reserved, state_of, group_of, reading_of, counter_in, core_of_ino, fork_of_ino, fork_in_chunk, inode_bytes}
 use Rattle.fs_state.specs.State.{Kept, CoreState, Broken, Whole, Inode, ForkList}
 use Rattle.fs_state.proofs.Chunks.{chunks_stay, bare_stays, chunk_slot, not_reserved, inode_stands}
 use Rattle.fs_state.proofs.Cores.{core_stays, core_raw, raw_stays, bytes_same}
 use Rattle.dinode_core.proofs.ForkFrame.{fork_stays, fork_fails}
+use Rattle.fs_state.proofs.Spoken.{spoken}
 use Rattle.fs_state.proofs.Trees.{reading_stays}
 use Rattle.fs_state.proofs.Untouched.{untouched}
 
@@ -71,12 +72,16 @@ module _ (at : Layout) (image image' : Image) (kept kept' : Kept) (touches : Par
   unfolding fork_of_ino
   fork_is ino f inode b list core bytes mode h = rw (core, bytes, mode) h
 
-  fork_same : (ino : ℕ) (f : Fork) → is_inode (state_of at image kept) ino ≡ true → edits ino ≡ false → touches (ForkTreeOf ino f) ≡ false → SameFork (fork_of_ino at image kept ino f) (fork_of_ino at image' kept' ino f)
+  leads_same : (ino : ℕ) (f : Fork) → is_inode (state_of at image kept) ino ≡ true → edits ino ≡ false → touches (ForkTreeOf ino f) ≡ false → SameFork (fork_of_ino at image kept ino f) (fork_of_ino at image' kept' ino f)
   unfolding fork_of_ino
-  fork_same ino f h kept_as off =
+  leads_same ino f h kept_as off =
       let same = inode_same ino h kept_as in
       rw (same.0, same.1) (by_same at image image' ino f (core_of_ino at image kept ino) (inode_bytes at image ino) (λ inode b core bytes mode.
-      same_by (fork_in at image (core_of b) f) (fork_in at image' (core_of b) f) (λ list ok. fork_stays at (core_of b) image image' f list ok (λ d l. stay (ForkTreeOf ino f) off d (record { inode = h; block = rw (fork_is ino f inode b list core bytes mode ok) l }))) (λ e err. fork_fails at (core_of b) image image' fork_alike f e err)))
+      same_by (fork_in at image (core_of b) f) (fork_in at image' (core_of b) f) (λ list ok. fork_stays at (core_of b) image image' f list ok (λ d l. stay (ForkTreeOf ino f) off d (record { inode = h; block = rw (spoken at image kept ino f h ∙ fork_is ino f inode b list core bytes mode ok) l }))) (λ e err. fork_fails at (core_of b) image image' fork_alike f e err)))
+
+  fork_same : (ino : ℕ) (f : Fork) → is_inode (state_of at image kept) ino ≡ true → is_inode (state_of at image' kept') ino ≡ true → edits ino ≡ false → touches (ForkTreeOf ino f) ≡ false
+      → SameFork (fork_in_chunk at image kept ino f) (fork_in_chunk at image' kept' ino f)
+  fork_same ino f h still kept_as off = rw (spoken at image kept ino f h, spoken at image' kept' ino f still) (leads_same ino f h kept_as off)
 
   lists_stay : (g : ℕ) → g < at.agcount → touches (ListOf g) ≡ false → (group_of at image' kept' g).free_list ≡ (group_of at image kept g).free_list
   unfolding group_of

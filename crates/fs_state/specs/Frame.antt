@@ -1,5 +1,5 @@
 -- What an event that writes the blocks of some parts leaves as it is.
-use Rattle.std.specs.Prelude.{◌≡◌, ℕ, ◌+◌, ◌*◌, ◌/◌, ◌%◌, ◌<◌, ◌==◌, ◌⊎◌, Bool, true, false, List, Option, Some, None, Result, Ok, Err, is_ok}
+use Rattle.std.specs.Prelude.{◌≡◌, ℕ, ◌+◌, ◌*◌, ◌/◌, ◌%◌, ◌<◌, ◌==◌, ◌⊎◌, ◌↔◌, Contains, Bool, true, false, List, [], Option, Some, None, Result, Ok, Err, is_ok}
 use Rattle.byte_fields.specs.Fields.{field}
 use Rattle.geom.specs.Apart.{Splits}
 use Rattle.geom.specs.Layout.{Layout, split_of, device_block_of}
@@ -9,10 +9,10 @@ use Rattle.dinode_core.specs.declared.mapping.ForkFault.{ForkFault}
 use Rattle.dinode_core.specs.ForkTree.{is_fork_block}
 use Rattle.dinode_core.specs.Frame.{device_at}
 use Rattle.fs_state.specs.Apart.{Part, HeadsOf, LogPart, ListOf, TreeOf, ReserveOf, LimboOf, ChunkAt, ForkTreeOf, Has, Apart, InOwned, verifies, unit_verifies, has_unit, is_inode, is_listed, is_chunk}
-use Rattle.fs_state.specs.Inodes.{slot_in, core_in}
+use Rattle.fs_state.specs.Inodes.{slot_in, core_in, no_fork}
 use Rattle.fs_state.specs.Kinds.{Image, heads_of, root_of, level_of}
 use Rattle.fs_state.specs.Read.{state_of, raw_of, reserved, KeepsBad, opened}
-use Rattle.fs_state.specs.State.{State, Kept, ForkList}
+use Rattle.fs_state.specs.State.{State, Kept, Bad, ForkList, Owned, pairs_of, is_readable, recs_of, blocks_of}
 
 -- What always holds of an image and what is kept: a tree that can't be read is kept as such, each
 -- metadata block has one claim, and no chunk is hidden by a reserve.
@@ -47,7 +47,7 @@ pub record KeptStays (at : Layout) (a : State) (touches : Part → Bool) (kept k
   pub trust : (g : ℕ) (k : Kind) → touches (TreeOf g k) ≡ false → kept'.trust g k ≡ kept.trust g k
   pub bad : (g : ℕ) (k : Kind) → touches (TreeOf g k) ≡ false → kept'.bad g k ≡ kept.bad g k
   pub reserve : (g : ℕ) → touches (ReserveOf g) ≡ false → kept'.reserve g ≡ kept.reserve g
-  pub limbo : (g : ℕ) → touches (LimboOf g) ≡ false → kept'.limbo g ≡ kept.limbo g
+  pub limbo : (g : ℕ) → touches (LimboOf g) ≡ false → pairs_of (kept'.limbo g) ≡ pairs_of (kept.limbo g)
   pub came : (g p : ℕ) → g < at.agcount → InOwned p (kept'.reserve g) → ((c : Part) × (is_chunk_part c ≡ false) × Has a c (device_block_of at g p)) ⊎ ((c : Part) → Has a c (device_block_of at g p) → ⊥)
 
 -- An event that writes only blocks of touched parts and of none. In a touched block of inodes,
@@ -82,7 +82,7 @@ pub record Rest (at : Layout) (a b : State) (image image' : Image) (kept kept' :
   pub limbos : (g : ℕ) → touches (LimboOf g) ≡ false → (b.group g).limbo ≡ (a.group g).limbo
   pub cores : (ino d : ℕ) → device_at at (split_of at (ino / 8)) ≡ Some d → image' d ≡ image d → reserved kept' (split_of at (ino / 8)) ≡ reserved kept (split_of at (ino / 8)) → b.core ino ≡ a.core ino
   pub inodes : (ino : ℕ) → is_inode a ino ≡ true → edits ino ≡ false → b.core ino ≡ a.core ino
-  pub forks : (ino : ℕ) (f : Fork) → is_inode a ino ≡ true → edits ino ≡ false → touches (ForkTreeOf ino f) ≡ false → SameFork (a.fork ino f) (b.fork ino f)
+  pub forks : (ino : ℕ) (f : Fork) → is_inode a ino ≡ true → is_inode b ino ≡ true → edits ino ≡ false → touches (ForkTreeOf ino f) ≡ false → SameFork (a.fork ino f) (b.fork ino f)
   pub chunks : (g u : ℕ) → UnitStays a b touches g u → is_chunk b g u ≡ is_chunk a g u
   pub bare : (g u : ℕ) → UnitStays a b touches g u → is_listed b g u ≡ true → unit_verifies at (raw_of at image') g u ≡ true → is_chunk b g u ≡ true
 
@@ -105,6 +105,24 @@ Plain at touches edits fresh (ForkTreeOf ino f) = (edits ino ≡ false) × (touc
 -- the composed law
 abbrev pub FrameLaw : Type 0
 FrameLaw = (at : Layout) (image image' : Image) (kept kept' : Kept) (touches : Part → Bool) (edits : ℕ → Bool) → Splits at → Firm at image kept → Frame at image image' kept kept' touches edits → Rest at (state_of at image kept) (state_of at image' kept') image image' kept kept' touches edits
+
+-- a tree that couldn't be read at opening stands with the fault and the claims of that moment, whatever is written later
+pub record StandsBad (a : State) (g : ℕ) (k : Kind) (bad : Bad) : Type 0 where
+  pub unread : is_readable ((a.group g).tree k).reading ≡ false
+  pub none : recs_of ((a.group g).tree k).reading ≡ []
+  pub claims : blocks_of ((a.group g).tree k).reading ≡ bad.claims
+
+abbrev pub BadTreesStand : Type 0
+BadTreesStand = (at : Layout) (image : Image) (kept : Kept) (g : ℕ) (k : Kind) (bad : Bad) → kept.bad g k ≡ Some bad → StandsBad (state_of at image kept) g k bad
+
+-- one set of pairs is one limbo, in whatever order they are kept and how often, and it has each of them
+pub record PairsAreASet : Type 0 where
+  pub one : (os ps : List Owned) → ((o : Owned) → Contains os o → Contains ps o) → ((o : Owned) → Contains ps o → Contains os o) → pairs_of os ≡ pairs_of ps
+  pub has : (os : List Owned) (o : Owned) → Contains (pairs_of os) o ↔ Contains os o
+
+-- a core outside of chunks has no forks
+abbrev pub ForksOfInodes : Type 0
+ForksOfInodes = (at : Layout) (image : Image) (kept : Kept) (ino : ℕ) (f : Fork) → is_inode (state_of at image kept) ino ≡ false → (state_of at image kept).fork ino f ≡ Ok no_fork
 
 -- what is found at opening
 abbrev pub OpeningLaw : Type 0

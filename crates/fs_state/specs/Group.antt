@@ -15,7 +15,7 @@ use Rattle.fs_state.specs.Inodes.{slot_in, core_in}
 use Rattle.fs_state.specs.Kinds.{RecOf, Image, heads_of, root_of, level_of}
 use Rattle.fs_state.specs.Pool.{Share, ShareOf, total}
 use Rattle.fs_state.specs.Read.{state_of, walked}
-use Rattle.fs_state.specs.State.{State, Kept, blocks_of, blocks_in}
+use Rattle.fs_state.specs.State.{State, Kept, blocks_of, blocks_in, pairs_of}
 
 abbrev pub is_among : Kind → List Kind → Bool
 is_among k [] = false
@@ -83,7 +83,7 @@ module _ (at : Layout) (image image' : Image) (kept kept' : Kept) (g : ℕ) (ks 
     pub trust : (h : ℕ) (k : Kind) → ((h == g) && is_among k ks) ≡ false → kept'.trust h k ≡ kept.trust h k
     pub bad : (h : ℕ) (k : Kind) → ((h == g) && is_among k ks) ≡ false → kept'.bad h k ≡ kept.bad h k
     pub reserve : (h : ℕ) → (h == g) ≡ false → kept'.reserve h ≡ kept.reserve h
-    pub limbo : (h : ℕ) → (h == g) ≡ false → kept'.limbo h ≡ kept.limbo h
+    pub limbo : (h : ℕ) → (h == g) ≡ false → pairs_of (kept'.limbo h) ≡ pairs_of (kept.limbo h)
 
   -- What does an event of one group do? It edits these trees, each of which can be read afterwards, moves blocks
   -- between parts of the group, edits inodes, and leaves the rest.

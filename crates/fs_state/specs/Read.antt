@@ -1,5 +1,5 @@
 -- The state that an image stands for, with what is kept in memory.
-use Rattle.std.specs.Prelude.{◌≡◌, ℕ, ◌/◌, ◌<◌, ◌==◌, Bool, true, false, List, [], Option, None, Some, Result, Ok, Err, is_ok}
+use Rattle.std.specs.Prelude.{◌≡◌, ℕ, ◌/◌, ◌<◌, ◌==◌, Bool, true, false, List, [], Option, None, Some, Result, Ok, Err, is_ok, if◌then◌else◌}
 use Rattle.std.specs.List.{list_any}
 use Rattle.geom.specs.Layout.{Layout, split_of}
 use Rattle.sblock.specs.declared.block.BlockFault.{BlockFault}
@@ -13,9 +13,10 @@ use Rattle.tree_defs.specs.Sites.{site_of, group_blocks}
 use Rattle.tree_defs.specs.Tree.{read_tree}
 use Rattle.dinode_core.specs.declared.mapping.Fork.{Fork}
 use Rattle.dinode_core.specs.declared.mapping.ForkFault.{ForkFault}
-use Rattle.fs_state.specs.Inodes.{bytes_at, core_in, fork_by}
+use Rattle.fs_state.specs.Apart.{is_inode}
+use Rattle.fs_state.specs.Inodes.{bytes_at, core_in, fork_by, no_fork}
 use Rattle.fs_state.specs.Kinds.{RecOf, form_of, Image, Heads, heads_of, root_of, level_of}
-use Rattle.fs_state.specs.State.{Reading, Readable, Unreadable, Group, CoreState, ForkList, State, Bad, Kept}
+use Rattle.fs_state.specs.State.{Reading, Readable, Unreadable, Group, CoreState, ForkList, State, Bad, Kept, pairs_of}
 
 abbrev pub Read : Type 0 → Type 0
 Read R = Result (List R × List ℕ) (ℕ × BlockFault)
@@ -55,7 +56,7 @@ group_of at image kept g = record {
   counters = counter_in (heads_of at image g);
   tree = λ k. record { reading = reading_of at image kept g k; trust = kept.trust g k };
   reserve = kept.reserve g;
-  limbo = kept.limbo g;
+  limbo = pairs_of (kept.limbo g);
 }
 
 abbrev pub reserved : Kept → Option (ℕ × ℕ) → Bool
@@ -77,17 +78,26 @@ core_of_ino at image kept ino = core_or at ino (reserved kept (split_of at (ino 
 unfoldable pub raw_of : Layout → Image → ℕ → Option CoreState
 raw_of at image ino = core_or at ino false (inode_bytes at image ino)
 
+-- the fork that a core's bytes lead to, wherever the core stands
 unfoldable pub fork_of_ino : Layout → Image → Kept → ℕ → Fork → Result ForkList ForkFault
 fork_of_ino at image kept ino f = fork_by at image ino f (core_of_ino at image kept ino) (inode_bytes at image ino)
 
-abbrev pub state_of : Layout → Image → Kept → State
-state_of at image kept = record {
+-- all but the forks
+abbrev pub without_forks : Layout → Image → Kept → State
+without_forks at image kept = record {
   geometry = at;
   group = group_of at image kept;
   core = core_of_ino at image kept;
-  fork = fork_of_ino at image kept;
+  fork = λ ino f. Ok no_fork;
   chains = kept.chains;
 }
+
+-- Which forks are there? Those of inodes, which stand in chunks: a core anywhere else has none.
+unfoldable pub fork_in_chunk : Layout → Image → Kept → ℕ → Fork → Result ForkList ForkFault
+fork_in_chunk at image kept ino f = if is_inode (without_forks at image kept) ino then fork_of_ino at image kept ino f else Ok no_fork
+
+abbrev pub state_of : Layout → Image → Kept → State
+state_of at image kept = record (without_forks at image kept) { fork = fork_in_chunk at image kept }
 
 -- of a tree that can't be read, what is to be kept
 abbrev pub bad_in : {R : Type 0} → Read R → List ℕ → Option Bad

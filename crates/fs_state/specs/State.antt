@@ -1,11 +1,12 @@
 -- The plain state: what an image, with what is kept in memory beside it, says of the metadata of each
 -- group and of each inode ("Allocation Groups", "Inode Allocation", "On-disk Inode").
-use Rattle.std.specs.Prelude.{ℕ, Bool, true, false, List, [], ◌∷◌, Option, Result}
+use Rattle.std.specs.Prelude.{ℕ, Bool, true, false, List, [], ◌∷◌, Option, Result, nat_lt, if◌then◌else◌}
 use Rattle.geom.specs.Layout.{Layout}
 use Rattle.sblock.specs.declared.kind.Kind.{Kind}
 use Rattle.sblock.specs.declared.block.BlockFault.{BlockFault}
 use Rattle.fs_model.specs.declared.unit.Trust.{Trust}
 use Rattle.fs_model.specs.declared.fault.Counter.{Counter}
+use Rattle.rmap_recs.specs.Rmap.{is_first}
 use Rattle.dinode_core.specs.declared.inode.CoreFault.{CoreFault}
 use Rattle.dinode_core.specs.declared.mapping.Fork.{Fork}
 use Rattle.dinode_core.specs.declared.mapping.ForkFault.{ForkFault}
@@ -29,8 +30,22 @@ pub record Owned : Type 0 where
   pub block : ℕ
   pub owner : ℕ
 
+-- by block, and those of one block by owner
+abbrev pub comes_first : Owned → Owned → Bool
+comes_first o p = is_first o.block p.block (nat_lt o.owner p.owner)
+
+-- a pair in its place, unless it is there
+abbrev pub put_pair : Owned → List Owned → List Owned
+put_pair o [] = o ∷ []
+put_pair o (p ∷ ps) = if comes_first o p then o ∷ p ∷ ps else if comes_first p o then p ∷ put_pair o ps else p ∷ ps
+
+-- a set of pairs, as the one list of them that rises
+abbrev pub pairs_of : List Owned → List Owned
+pairs_of [] = []
+pairs_of (o ∷ os) = put_pair o (pairs_of os)
+
 -- What does a group hold? Its free list in ring order, the counters of its heads, its six btrees, the blocks that
--- a rebuild has taken and not used, in the order in which they were taken, and those that wait to be freed.
+-- a rebuild has taken and not used, in the order in which they were taken, and the set of those that wait to be freed.
 pub record Group : Type 0 where
   pub free_list : List ℕ
   pub counters : Counter → ℕ
@@ -55,7 +70,7 @@ pub record State : Type 0 where
   pub group : ℕ → Group
   -- None: no place, or in a reserve
   pub core : ℕ → Option CoreState
-  -- of those with a whole core of a mode other than 0; other forks are empty
+  -- of inodes in chunks, with a whole core of a mode other than 0; other forks are empty
   pub fork : ℕ → Fork → Result ForkList ForkFault
   -- what each chain still owes, the next first
   pub chains : ℕ → List Intent

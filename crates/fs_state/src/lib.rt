@@ -6,4 +6,6 @@ mod intent;
 mod laws;
 
 pub use intent::{Intent, IntentKind};
-pub use laws::{edit_law, frame_law, group_law, opening_law};
+pub use laws::{
+    bad_trees_stand, edit_law, forks_of_inodes, frame_law, group_law, limbo_is_a_set, opening_law,
+};

@@ -1,12 +1,13 @@
 -- What each row must give: of each unit of the group its faults, or the evidence by which it is given up.
-use Rattle.std.specs.Prelude.{ℕ, Bool, true, false, List, [], ◌∷◌, ◌++◌, Some, None, Result, Ok, Err, ◌≡◌, ◌^◌, ◌-◌, ◌==◌, ◌&&◌, ◌||◌, if◌then◌else◌}
+use Rattle.std.specs.Prelude.{ℕ, Bool, true, false, List, [], ◌∷◌, ◌++◌, length, map, Some, None, Result, Ok, Err, ◌≡◌, ◌^◌, ◌-◌, ◌==◌, ◌&&◌, ◌||◌, if◌then◌else◌, ⊤}
 use Rattle.dinode_core.specs.declared.inode.CoreFault.TheVariants.{Checksum as CoreSum}
 use Rattle.dinode_core.specs.declared.mapping.Fork.{Fork}
 use Rattle.dinode_core.specs.declared.mapping.ForkFault.{ForkFault}
 use Rattle.dinode_core.specs.declared.mapping.ForkFault.TheVariants.{Range as ForkRange}
-use Rattle.fs_model.specs.declared.claim.Claim.TheVariants.{Heads, List as FreeList, Chunk, Data}
+use Rattle.fs_model.specs.declared.claim.Claim.TheVariants.{Heads, List as FreeList, Tree, Chunk, Data}
 use Rattle.fs_model.specs.declared.claim.Evidence.{Evidence}
 use Rattle.fs_model.specs.declared.claim.Evidence.TheVariants.{BadFork, BadChunk, BadTree, Overlap, Later}
+use Rattle.fs_model.specs.declared.entry.Entry.{Entry}
 use Rattle.fs_model.specs.declared.entry.Entry.TheVariants as entries
 use Rattle.fs_model.specs.declared.fault.Counter.{Counter as HeadCounter}
 use Rattle.fs_model.specs.declared.fault.Counter.TheVariants.{Count, Freecount, Longest}
@@ -15,7 +16,8 @@ use Rattle.fs_model.specs.declared.fault.Fault.TheVariants.{Block, Missing, Extr
 use Rattle.fs_model.specs.declared.«record».AnyRec.TheVariants as recs
 use Rattle.fs_model.specs.declared.unit.Unit.{Unit as ScrubUnit}
 use Rattle.fs_model.specs.declared.unit.Unit.TheVariants as units
-use Rattle.fs_model.specs.declared.verdict.Reason.TheVariants.{Contradiction}
+use Rattle.fs_model.specs.declared.verdict.Reason.TheVariants.{Contradiction, TurnLimit}
+use Rattle.fs_model.specs.declared.verdict.Verdict.{Verdict}
 use Rattle.fs_model.specs.declared.verdict.Verdict.TheVariants.{Good, Faulty, Skipped, GaveUp}
 use Rattle.ino_recs.specs.declared.chunk.InoRec.{InoRec}
 use Rattle.rmap_recs.specs.declared.records.RmapRec.{RmapRec}
@@ -26,7 +28,8 @@ use Rattle.fs_derive.specs.Contradiction.{evidence}
 use Rattle.fs_derive.specs.Faults.{faults}
 use Rattle.fs_derive.specs.Lists.{numbers}
 use Rattle.fs_derive.specs.Session.{Session, unit_order}
-use Rattle.fs_derive.specs.declared.plan.Plan.TheVariants.{Check, Repair}
+use Rattle.fs_derive.specs.declared.plan.Plan.{Plan}
+use Rattle.fs_derive.specs.declared.plan.Plan.TheVariants.{Check, Repair, Rebuild}
 use Rattle.test_states.specs.Images.{Trees, image, image_a, group_with, fresh_with, file_with, fork_with, forks_of, of_fork, no_forks, trees_a, trees_with_file, tree_of, bad, counters_with, span, shared, mapped, chunk, mapping, fs, log, ag, inobt, inodes, refc, mask, free_a, mappings_a, cores_to}
 
 -- a unit with these faults, and nothing that contradicts its derivation
@@ -44,10 +47,10 @@ abbrev pub six_mappings : List RmapRec
 six_mappings =
     mapped 0 1 fs 0 ∷ mapped 1 2 ag 0 ∷ mapped 3 2 inobt 0 ∷ mapped 5 1 ag 0 ∷ mapped 6 1 refc 0 ∷ mapped 7 12 ag 0 ∷ []
 
--- the free list has a block of the chunk, and a core of the chunk doesn't verify
+-- the free list has a block of the chunk and the root of a btree, and a core of the chunk doesn't verify
 abbrev pub first_image : Index InoRec → Index RmapRec → State
 first_image ino rmap =
-    image (group_with (24 ∷ []) (counters_with 61 229 224) (record trees_a { ino = ino; rmap = rmap }))
+    image (group_with (24 ∷ 1 ∷ []) (counters_with 61 229 224) (record trees_a { ino = ino; rmap = rmap }))
     (λ i. if i == 193 then Some (Broken CoreSum) else cores_to 194 i) no_forks
 
 -- the inode btrees list three files more
@@ -400,7 +403,7 @@ LaterForms =
     GivenUp with_holes 0 units.Inode (Later Ino 3)
     × Judged with_holes 0 units.Rmap []
 
--- ---- which evidence comes first: each of these images has that of the next one too
+-- ---- which evidence comes first: the first three have an overlap too, and the first what the second shows
 
 abbrev pub four_reasons : State
 four_reasons = first_image (bad 3 LaterForm (3 ∷ [])) (bad 5 Checksum (5 ∷ []))
@@ -458,3 +461,83 @@ TwoGroups =
     ∷ entries.Verdict 0 units.Refc Good
     ∷ entries.Verdict 1 units.Free Good
     ∷ entries.Verdict 1 units.Refc Good ∷ [])
+
+-- ---- what is refused: other entries of a unit than its faults with their count, another evidence, another session
+
+abbrev pub verdict_on : List Fault → Verdict
+verdict_on [] = Good
+verdict_on (f ∷ fs) = Faulty (length (f ∷ fs))
+
+-- the entries of a unit with these faults, where nothing contradicts its derivation
+abbrev pub entries_on : ScrubUnit → List Fault → List Entry
+entries_on unit fs = map (entries.Fault 0 unit) fs ++ entries.Verdict 0 unit (verdict_on fs) ∷ []
+
+abbrev pub NoneAreOf : State → ScrubUnit → List (List Entry) → Type 0
+NoneAreOf a unit [] = ⊤
+NoneAreOf a unit (es ∷ ess) = (entries_on unit (faults a 0 unit) ≡ es → ⊥) × NoneAreOf a unit ess
+
+abbrev pub missing_free : Entry
+missing_free = entries.Fault 0 units.Free (Missing (recs.Bno (span 32 224)))
+
+abbrev pub extra_free : Entry
+extra_free = entries.Fault 0 units.Free (Extra (recs.Bno (span 32 223)))
+
+-- of the image whose free space record is one block too short: good, counts that are wrong, one fault alone, and both
+-- in another order
+abbrev pub not_of_short_free : List (List Entry)
+not_of_short_free =
+    (entries.Verdict 0 units.Free Good ∷ [])
+    ∷ (missing_free ∷ extra_free ∷ entries.Verdict 0 units.Free (Faulty 1) ∷ [])
+    ∷ (missing_free ∷ extra_free ∷ entries.Verdict 0 units.Free (Faulty 3) ∷ [])
+    ∷ (missing_free ∷ entries.Verdict 0 units.Free (Faulty 1) ∷ [])
+    ∷ (extra_free ∷ missing_free ∷ entries.Verdict 0 units.Free (Faulty 2) ∷ [])
+    ∷ []
+
+-- of the image whose counter is too small: the two numbers swapped, another counter, good
+abbrev pub not_of_short_longest : List (List Entry)
+not_of_short_longest =
+    (entries.Fault 0 units.Free (Counter Longest 224 223) ∷ entries.Verdict 0 units.Free (Faulty 1) ∷ [])
+    ∷ (entries.Fault 0 units.Free (Counter Freecount 223 224) ∷ entries.Verdict 0 units.Free (Faulty 1) ∷ [])
+    ∷ (entries.Verdict 0 units.Free Good ∷ [])
+    ∷ []
+
+abbrev pub RefusedVerdicts : Type 0
+RefusedVerdicts =
+    NoneAreOf short_free units.Free not_of_short_free
+    × NoneAreOf short_longest units.Free not_of_short_longest
+    × (evidence two_reasons 0 units.Inode ≡ Some (Overlap 1 FreeList (Tree Bno)) → ⊥)
+    × (evidence thrice 0 units.Rmap ≡ None → ⊥)
+
+-- a plan and a status with the verdicts of one group
+abbrev pub Judging : Type 0
+Judging = Plan × ℕ × List Entry
+
+abbrev pub AreNone : List Judging → Type 0
+AreNone [] = ⊤
+AreNone (row ∷ rows) = (Session (unit_order 1) row.0 1 1 row.1 row.2 → ⊥) × AreNone rows
+
+abbrev pub on : ScrubUnit → Verdict → Entry
+on unit verdict = entries.Verdict 0 unit verdict
+
+abbrev pub refused_sessions : List Judging
+refused_sessions =
+    -- units in another order
+    (Check, 0, on units.Rmap Good ∷ on units.Inode Good ∷ on units.Free Good ∷ on units.Refc Good ∷ [])
+    -- a unit left out
+    ∷ (Check, 0, on units.Inode Good ∷ on units.Rmap Good ∷ on units.Free Good ∷ [])
+    -- a unit judged twice
+    ∷ (Check, 0, on units.Inode Good ∷ on units.Rmap Good ∷ on units.Free Good ∷ on units.Refc Good ∷ on units.Refc Good ∷ [])
+    -- a verdict on an image that is refused
+    ∷ (Check, 4, on units.Inode Good ∷ [])
+    -- faults that stay under a repair, and a unit that stays under a rebuild of all
+    ∷ (Repair, 1, on units.Inode (Faulty 1) ∷ on units.Rmap Good ∷ on units.Free Good ∷ on units.Refc Good ∷ [])
+    ∷ (Rebuild, 0, on units.Inode Good ∷ on units.Rmap Good ∷ on units.Free Good ∷ on units.Refc Good ∷ [])
+    -- skipped for a unit that stands, and for another than the first that fell
+    ∷ (Check, 1, on units.Inode Good ∷ on units.Rmap (Skipped 0 units.Inode) ∷ on units.Free Good ∷ on units.Refc Good ∷ [])
+    ∷ (Check, 1, on units.Inode (Faulty 1) ∷ on units.Rmap (Skipped 0 units.Free) ∷ on units.Free Good ∷ on units.Refc Good ∷ [])
+    -- another number of turns
+    ∷ (Check, 6, on units.Inode (GaveUp (TurnLimit 7)) ∷ on units.Rmap Good ∷ on units.Free Good ∷ on units.Refc Good ∷ [])
+    ∷ []
+
+abbrev pub RefusedSessions : Type 0
+RefusedSessions = AreNone refused_sessions

@@ -1,4 +1,4 @@
-ghost use Rattle.test_states.specs.Rows.{BadCore, CutUnmapping, FileOnHeads, FirstEvidence, FreshImage, FullImage, LaterForms, LostInodes, LostMapping, MovedPiece, RebuiltFreeSpace, RebuiltInodes, RebuiltMappings, RootOutside, SharedBlock, ShortFreeSpace, ThreeClaims, TooManyLevels, TwoGroups, UnreadFork, UnreadFreeSpace, UnreadMappings, WrongLevel, WrongLongest, WrongSibling};
+ghost use Rattle.test_states.specs.Rows.{BadCore, CutUnmapping, FileOnHeads, FirstEvidence, FreshImage, FullImage, LaterForms, LostInodes, LostMapping, MovedPiece, RebuiltFreeSpace, RebuiltInodes, RebuiltMappings, RefusedSessions, RefusedVerdicts, RootOutside, SharedBlock, ShortFreeSpace, ThreeClaims, TooManyLevels, TwoGroups, UnreadFork, UnreadFreeSpace, UnreadMappings, WrongLevel, WrongLongest, WrongSibling};
 
 /// A freshly made image is good.
 pub fn fresh_image()
@@ -123,4 +123,16 @@ pub fn three_claims()
 /// Two groups with a log, a fork's own btree that reaches both groups, a shared piece and an attribute fork.
 pub fn two_groups()
     ensures { TwoGroups }
+{}
+
+/// What isn't the verdict of an image: good where there are faults, another count, another order, another
+/// reason.
+pub fn refused_verdicts()
+    ensures { RefusedVerdicts }
+{}
+
+/// What isn't a session: units out of order, left out or judged twice, verdicts that the plan rules out,
+/// and units that are skipped for another one.
+pub fn refused_sessions()
+    ensures { RefusedSessions }
 {}
