@@ -1,14 +1,15 @@
 -- One small image, worked: who claims its blocks, and which evidence is shown first. It pins what the definitions mean
 -- where no law does.
-use Rattle.std.specs.Prelude.{◌≡◌, ℕ, ◌^◌, ◌+◌, ◌==◌, ◌&&◌, nat_le, nat_lt, true, false, List, [], ◌∷◌, ◌++◌, map, Option, Some, None, Result, Ok, if◌then◌else◌}
+use Rattle.std.specs.Prelude.{◌≡◌, ℕ, ◌^◌, ◌+◌, ◌==◌, ◌&&◌, ◌||◌, nat_le, nat_lt, Bool, true, false, List, [], ◌∷◌, ◌++◌, map, Option, Some, None, Result, Ok, Err, if◌then◌else◌}
 use Rattle.dinode_core.specs.declared.inode.CoreFault.TheVariants.{Checksum as BadSum}
 use Rattle.dinode_core.specs.declared.mapping.Fork.{Fork}
 use Rattle.dinode_core.specs.declared.mapping.Fork.TheVariants as forks
 use Rattle.dinode_core.specs.declared.mapping.ForkFault.{ForkFault}
+use Rattle.dinode_core.specs.declared.mapping.ForkFault.TheVariants.{Order as ForkOrder, Range as ForkRange}
 use Rattle.dinode_core.specs.declared.mapping.Mapping.{Mapping}
 use Rattle.fs_model.specs.declared.claim.Claim.{Claim}
-use Rattle.fs_model.specs.declared.claim.Claim.TheVariants.{Heads, Log, List as FreeList, Tree, Chunk, Data, Attr, ForkTree}
-use Rattle.fs_model.specs.declared.claim.Evidence.TheVariants.{BadChunk, BadTree, Overlap, Later}
+use Rattle.fs_model.specs.declared.claim.Claim.TheVariants.{Heads, Log, List as FreeList, Tree, Reserve, Limbo, Chunk, Data, Attr, ForkTree}
+use Rattle.fs_model.specs.declared.claim.Evidence.TheVariants.{BadFork, BadChunk, BadTree, Overlap, Later}
 use Rattle.fs_model.specs.declared.unit.Trust.TheVariants.{Unknown}
 use Rattle.fs_model.specs.declared.unit.Unit.TheVariants as units
 use Rattle.geom.specs.Layout.{Layout}
@@ -25,8 +26,9 @@ use Rattle.fs_state.specs.State.{State, Group, Reading, Readable, Unreadable, Co
 use Rattle.fs_derive.specs.Chunks.{chunks}
 use Rattle.fs_derive.specs.Claims.{Claimed, claims, metadata_claims}
 use Rattle.fs_derive.specs.Contradiction.{evidence, first_overlap}
+use Rattle.fs_derive.specs.Derive.{ino_of, fino_of}
 
--- ---- a group of 32 blocks with the log in blocks 28 and 29, and inodes 64 to 127 in blocks 8 to 15
+-- ---- a group of 32 blocks with the log in blocks 28 and 29, and inodes 64 to 127 in blocks 8 to 15, all allocated
 
 abbrev pub layout : Layout
 layout = record { agblocks = 32; agcount = 1; dblocks = 32; agblklog = 5; uuid = []; log = Some (record { group = 0; start = 28; count = 2 }); kept = []; inobtcount = true }
@@ -64,7 +66,13 @@ fork ino forks.Attr =
 
 abbrev pub group_with : List ℕ → Reading InoRec → Reading RmapRec → Group
 group_with list ino rmap =
-    record { free_list = list; counters = λ name. 0; tree = λ k. record { reading = tree_with ino rmap k; trust = Unknown }; reserve = []; limbo = [] }
+    record {
+      free_list = list;
+      counters = λ name. 0;
+      tree = λ k. record { reading = tree_with ino rmap k; trust = Unknown };
+      reserve = record { block = 24; owner = number_of Inobt } ∷ [];
+      limbo = record { block = 25; owner = number_of Ag } ∷ [];
+    }
 
 abbrev pub state_with : List ℕ → Reading InoRec → Reading RmapRec → CoreState → State
 state_with list ino rmap odd = record { geometry = layout; group = λ g. group_with list ino rmap; core = core_with odd; fork = fork; chains = λ c. [] }
@@ -90,15 +98,38 @@ abbrev pub all_claims : List Claimed
 all_claims =
     by Heads Fs 0 ∷ by Log OfLog 28 ∷ by Log OfLog 29 ∷ by FreeList Ag 16 ∷ by FreeList Ag 17
     ∷ by (Tree Bno) Ag 1 ∷ by (Tree Bno) Ag 7 ∷ by (Tree Cnt) Ag 2 ∷ by (Tree Rmap) Ag 5 ∷ by (Tree Refc) OfRefc 6 ∷ by (Tree Ino) Inobt 3 ∷ by (Tree Fino) Inobt 4
+    ∷ by Reserve Inobt 24 ∷ by Limbo Ag 25
     ∷ map (by Chunk Inodes) (8 ∷ 9 ∷ 10 ∷ 11 ∷ 12 ∷ 13 ∷ 14 ∷ 15 ∷ [])
     ++ of_file (Data 64) 64 20 0 ∷ of_file (Data 64) 64 22 (1 + 2 ^ 61) ∷ of_file (Data 65) 65 20 0
     ∷ of_file (Attr 64) 64 21 (2 ^ 63) ∷ of_file (ForkTree 64) 64 18 (2 ^ 62) ∷ of_file (ForkTree 64) 64 19 (2 ^ 62 + 2 ^ 63) ∷ []
+
+-- ---- what is derived
+
+-- inode 70 is free
+abbrev pub one_free : State
+one_free = state_with (16 ∷ 17 ∷ []) listing (Readable mappings (5 ∷ [])) (Whole (record { mode = 0; uid = 0; reflink = false }))
+
+-- so the chunk has one free inode, the seventh
+abbrev pub chunk_with_one : InoRec
+chunk_with_one = record chunk { freecount = 1; free = 2 ^ 6 }
 
 -- ---- what contradicts it
 
 -- block 8 of the chunk stands in the free list too
 abbrev pub one_reason : State
 one_reason = state_with (8 ∷ []) listing (Readable mappings (5 ∷ [])) whole
+
+-- and a block that a btree has, a lower one
+abbrev pub two_blocks : State
+two_blocks = state_with (8 ∷ 1 ∷ []) listing (Readable mappings (5 ∷ [])) whole
+
+-- both forks of file 67 can't be read, and where it is said neither can the attribute fork of file 66
+abbrev pub bad_fork : Bool → ℕ → Fork → Result ForkList ForkFault
+bad_fork both ino forks.Data = if ino == 67 then Err ForkOrder else fork ino forks.Data
+bad_fork both ino forks.Attr = if (ino == 67) || (both && (ino == 66)) then Err ForkRange else fork ino forks.Attr
+
+abbrev pub bad_forks : Bool → State
+bad_forks both = record one_reason { fork = bad_fork both }
 
 -- a core of the chunk doesn't verify, and the free list has a block of a btree
 abbrev pub two_reasons : State
@@ -117,11 +148,21 @@ pub record Worked : Type 0 where
   -- two files may share a block of written data
   pub shared : evidence image 0 units.Rmap ≡ None
   -- a core that doesn't verify makes of the unit no chunk
-  pub chunk : chunks image 0 ≡ 1 ∷ []
+  pub is_chunk : chunks image 0 ≡ 1 ∷ []
   pub no_chunk : chunks two_reasons 0 ≡ []
+  -- full chunks aren't among those with free inodes
+  pub full : ino_of image 0 ≡ chunk ∷ []
+  pub none_free : fino_of image 0 ≡ []
+  pub frees_one : ino_of one_free 0 ≡ chunk_with_one ∷ []
+  pub has_free : fino_of one_free 0 ≡ chunk_with_one ∷ []
   pub overlap : evidence one_reason 0 units.Inode ≡ Some (Overlap 8 FreeList Chunk)
+  -- the lowest block
+  pub lowest : evidence two_blocks 0 units.Inode ≡ Some (Overlap 1 FreeList (Tree Bno))
+  -- a bad fork before any overlap: that of the lowest inode, and its data fork first
+  pub lowest_fork : evidence (bad_forks true) 0 units.Rmap ≡ Some (BadFork 66 ForkRange)
+  pub data_first : evidence (bad_forks false) 0 units.Rmap ≡ Some (BadFork 67 ForkOrder)
   -- each of these has an overlap besides, and the last one what the one above it shows
   pub besides : first_overlap two_reasons 0 (metadata_claims two_reasons 0) ≡ Some (Overlap 1 FreeList (Tree Bno))
   pub core : evidence two_reasons 0 units.Inode ≡ Some (BadChunk 8 BadSum)
-  pub listing : evidence no_listing 0 units.Inode ≡ Some (BadTree Rmap 5)
+  pub unlisted : evidence no_listing 0 units.Inode ≡ Some (BadTree Rmap 5)
   pub later : evidence later_form 0 units.Inode ≡ Some (Later Ino 3)

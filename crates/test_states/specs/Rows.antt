@@ -9,6 +9,7 @@ use Rattle.fs_model.specs.declared.claim.Evidence.{Evidence}
 use Rattle.fs_model.specs.declared.claim.Evidence.TheVariants.{BadFork, BadChunk, BadTree, Overlap, Later}
 use Rattle.fs_model.specs.declared.entry.Entry.{Entry}
 use Rattle.fs_model.specs.declared.entry.Entry.TheVariants as entries
+use Rattle.fs_model.specs.declared.fault.Cause.TheVariants.{Missing as CauseMissing}
 use Rattle.fs_model.specs.declared.fault.Counter.{Counter as HeadCounter}
 use Rattle.fs_model.specs.declared.fault.Counter.TheVariants.{Count, Freecount, Longest}
 use Rattle.fs_model.specs.declared.fault.Fault.{Fault}
@@ -18,11 +19,11 @@ use Rattle.fs_model.specs.declared.unit.Unit.{Unit as ScrubUnit}
 use Rattle.fs_model.specs.declared.unit.Unit.TheVariants as units
 use Rattle.fs_model.specs.declared.verdict.Reason.TheVariants.{Contradiction, TurnLimit}
 use Rattle.fs_model.specs.declared.verdict.Verdict.{Verdict}
-use Rattle.fs_model.specs.declared.verdict.Verdict.TheVariants.{Good, Faulty, Skipped, GaveUp}
+use Rattle.fs_model.specs.declared.verdict.Verdict.TheVariants.{Good, Faulty, Rebuilt, Skipped, GaveUp}
 use Rattle.ino_recs.specs.declared.chunk.InoRec.{InoRec}
 use Rattle.rmap_recs.specs.declared.records.RmapRec.{RmapRec}
 use Rattle.sblock.specs.declared.block.BlockFault.TheVariants.{Checksum, Level, Sibling, Range, Later as LaterForm}
-use Rattle.sblock.specs.declared.kind.Kind.TheVariants.{Bno, Rmap, Refc, Ino}
+use Rattle.sblock.specs.declared.kind.Kind.TheVariants.{Bno, Rmap, Refc, Ino, Fino}
 use Rattle.fs_state.specs.State.{State, Group, Index, Broken, ForkList}
 use Rattle.fs_derive.specs.Contradiction.{evidence}
 use Rattle.fs_derive.specs.Faults.{faults}
@@ -535,9 +536,53 @@ refused_sessions =
     -- skipped for a unit that stands, and for another than the first that fell
     ∷ (Check, 1, on units.Inode Good ∷ on units.Rmap (Skipped 0 units.Inode) ∷ on units.Free Good ∷ on units.Refc Good ∷ [])
     ∷ (Check, 1, on units.Inode (Faulty 1) ∷ on units.Rmap (Skipped 0 units.Free) ∷ on units.Free Good ∷ on units.Refc Good ∷ [])
+    -- skipped for a unit that was rebuilt
+    ∷ (Repair, 6, on units.Inode Rebuilt ∷ on units.Rmap (Skipped 0 units.Inode) ∷ on units.Free Good ∷ on units.Refc Good ∷ [])
+    -- cut short, and out of order
+    ∷ (Check, 5, on units.Rmap Good ∷ [])
     -- another number of turns
     ∷ (Check, 6, on units.Inode (GaveUp (TurnLimit 7)) ∷ on units.Rmap Good ∷ on units.Free Good ∷ on units.Refc Good ∷ [])
     ∷ []
 
 abbrev pub RefusedSessions : Type 0
 RefusedSessions = AreNone refused_sessions
+
+-- ---- sessions that stand
+
+abbrev pub AreSessions : List Judging → Type 0
+AreSessions [] = ⊤
+AreSessions (row ∷ rows) = Session (unit_order 1) row.0 1 1 row.1 row.2 × AreSessions rows
+
+abbrev pub standing_sessions : List Judging
+standing_sessions =
+    -- all is rebuilt
+    (Rebuild, 0, on units.Inode Rebuilt ∷ on units.Rmap Rebuilt ∷ on units.Free Rebuilt ∷ on units.Refc Rebuilt ∷ [])
+    -- a unit in which a fault or a mark came after its verdict doesn't stand any more
+    ∷ (
+      Check,
+      1,
+      on units.Inode Good ∷ entries.Marked 0 Fino CauseMissing ∷ on units.Rmap (Skipped 0 units.Inode)
+          ∷ on units.Free (Skipped 0 units.Rmap) ∷ on units.Refc (Skipped 0 units.Rmap) ∷ [],
+    )
+    ∷ (
+      Check,
+      1,
+      on units.Inode Good ∷ on units.Rmap Good ∷ entries.Fault 0 units.Rmap (Block Rmap 5 Checksum)
+          ∷ on units.Free (Skipped 0 units.Rmap) ∷ on units.Refc (Skipped 0 units.Rmap) ∷ [],
+    )
+    -- those of other units don't matter
+    ∷ (Repair, 0, on units.Inode Good ∷ on units.Rmap Good ∷ entries.Marked 0 Bno CauseMissing ∷ on units.Free Rebuilt ∷ on units.Refc Good ∷ [])
+    -- as many turns as were given
+    ∷ (
+      Repair,
+      6,
+      on units.Inode Good ∷ on units.Rmap (GaveUp (TurnLimit 1))
+          ∷ on units.Free (Skipped 0 units.Rmap) ∷ on units.Refc (Skipped 0 units.Rmap) ∷ [],
+    )
+    -- cut short, and never begun
+    ∷ (Check, 5, on units.Inode Good ∷ on units.Rmap Good ∷ [])
+    ∷ (Check, 4, [])
+    ∷ []
+
+abbrev pub StandingSessions : Type 0
+StandingSessions = AreSessions standing_sessions

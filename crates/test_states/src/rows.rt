@@ -1,4 +1,4 @@
-ghost use Rattle.test_states.specs.Rows.{BadCore, CutUnmapping, FileOnHeads, FirstEvidence, FreshImage, FullImage, LaterForms, LostInodes, LostMapping, MovedPiece, RebuiltFreeSpace, RebuiltInodes, RebuiltMappings, RefusedSessions, RefusedVerdicts, RootOutside, SharedBlock, ShortFreeSpace, ThreeClaims, TooManyLevels, TwoGroups, UnreadFork, UnreadFreeSpace, UnreadMappings, WrongLevel, WrongLongest, WrongSibling};
+ghost use Rattle.test_states.specs.Rows.{BadCore, CutUnmapping, FileOnHeads, FirstEvidence, FreshImage, FullImage, LaterForms, LostInodes, LostMapping, MovedPiece, RebuiltFreeSpace, RebuiltInodes, RebuiltMappings, RefusedSessions, RefusedVerdicts, RootOutside, SharedBlock, ShortFreeSpace, StandingSessions, ThreeClaims, TooManyLevels, TwoGroups, UnreadFork, UnreadFreeSpace, UnreadMappings, WrongLevel, WrongLongest, WrongSibling};
 
 /// A freshly made image is good.
 pub fn fresh_image()
@@ -135,4 +135,10 @@ pub fn refused_verdicts()
 /// and units that are skipped for another one.
 pub fn refused_sessions()
     ensures { RefusedSessions }
+{}
+
+/// Sessions that stand: all rebuilt, units that fell after their verdict, as many turns as were given, cut
+/// short, never begun.
+pub fn standing_sessions()
+    ensures { StandingSessions }
 {}

@@ -29,8 +29,14 @@ returns c = (
               (
                 λ s. cc (ap unit_in s.verdicts.1.0),
                 (
-                  λ s. omega (arith, s.verdicts.0),
-                  tt,
+                  λ s. cc s.verdicts.1.0,
+                  (
+                    λ s. cc (ap units s.order_kept.1),
+                    (
+                      λ s. omega (arith, s.verdicts.0),
+                      tt,
+                    ),
+                  ),
                 ),
               ),
             ),
