@@ -1,7 +1,8 @@
 -- Free space in the order of its btree by count.
 use Rattle.std.specs.Prelude.{◌≡◌, ◌↔◌, ℕ, List, [], ◌∷◌, max, if◌then◌else◌}
 use Rattle.std.specs.List.Sorted.{IsPermutation}
-use Rattle.sblock.specs.Blocks.{IsRising}
+use Rattle.sblock.specs.Blocks.{IsRising, AllInside}
+use Rattle.sblock.specs.declared.block.Bounds.{Bounds}
 use Rattle.span_recs.specs.Spans.{bno_form, cnt_form, is_before_by_count}
 use Rattle.span_recs.specs.declared.span.SpanRec.{SpanRec}
 
@@ -28,3 +29,7 @@ OnlyByCount = (free recs : List SpanRec) → IsRising bno_form free → AreByCou
 abbrev pub greatest : List SpanRec → ℕ
 greatest [] = 0
 greatest (r ∷ rs) = max r.count (greatest rs)
+
+-- records in the range of the btree by start are in that of the one by count
+abbrev pub KeepInside : List SpanRec → List SpanRec → Type 0
+KeepInside free recs = (bounds : Bounds) → AllInside bno_form bounds free → AllInside cnt_form bounds recs

@@ -1,9 +1,12 @@
 -- The free space that reverse mappings leave.
-use Rattle.std.specs.Prelude.{◌≡◌, ◌↔◌, ℕ, Bool, not, List, map, sum_by}
+use Rattle.std.specs.Prelude.{◌≡◌, ◌↔◌, ℕ, Bool, false, not, List, map, sum_by}
 use Rattle.std.specs.List.{list_any}
 use Rattle.rmap_recs.specs.declared.records.RmapRec.{RmapRec}
 use Rattle.run_sets.specs.Runs.{runs_below, AreRunsBelow}
 use Rattle.run_sets.specs.declared.run.Run.{Run}
+use Rattle.sblock.specs.Blocks.{AllInside}
+use Rattle.sblock.specs.declared.block.Bounds.{Bounds}
+use Rattle.span_recs.specs.Spans.{bno_form}
 use Rattle.span_recs.specs.declared.span.SpanRec.{SpanRec}
 use Rattle.derive_defs.specs.Mappings.{covers}
 
@@ -30,6 +33,10 @@ AreFree length mappings free = AreRunsBelow (is_free mappings) length (map run_o
 -- only one list is that
 abbrev pub OnlyFree : Type 0
 OnlyFree = (length : ℕ) (mappings : List RmapRec) (free : List SpanRec) → AreFree length mappings free ↔ (free ≡ free_space length mappings)
+
+-- where block 0 lies in a mapping, the records are in the range of their btree: they begin behind that block
+abbrev pub LieInside : ℕ → List RmapRec → List SpanRec → Type 0
+LieInside length mappings free = is_free mappings 0 ≡ false → (bounds : Bounds) → bounds.length ≡ length → AllInside bno_form bounds free
 
 -- how many blocks the records have together
 abbrev pub block_count : List SpanRec → ℕ

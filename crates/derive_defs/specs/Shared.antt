@@ -1,5 +1,5 @@
 -- The blocks that several files share.
-use Rattle.std.specs.Prelude.{◌≡◌, ◌↔◌, ℕ, Bool, ◌&&◌, List, map, min}
+use Rattle.std.specs.Prelude.{◌≡◌, ◌↔◌, ℕ, ◌<◌, Bool, ◌&&◌, List, map, min}
 use Rattle.std.specs.List.{count_by}
 use Rattle.rmap_recs.specs.Rmap.{is_shareable}
 use Rattle.rmap_recs.specs.declared.records.RmapRec.{RmapRec}
@@ -7,7 +7,10 @@ use Rattle.run_sets.specs.Runs.{most}
 use Rattle.run_sets.specs.Stretches.{AreStretchesBelow, at_least, stretches}
 use Rattle.run_sets.specs.declared.run.Run.{Run}
 use Rattle.span_recs.specs.declared.refcount.RefcRec.{RefcRec}
-use Rattle.derive_defs.specs.Mappings.{covers}
+use Rattle.sblock.specs.Blocks.{AllInside}
+use Rattle.sblock.specs.declared.block.Bounds.{Bounds}
+use Rattle.span_recs.specs.Refcounts.{refc_form}
+use Rattle.derive_defs.specs.Mappings.{EndWithin, covers}
 
 -- the record gives the block to a file, and others may have it too
 abbrev pub shares : ℕ → RmapRec → Bool
@@ -36,3 +39,7 @@ AreShared mappings recs = AreStretchesBelow (at_least 2 (sharers mappings)) most
 -- only one list is that
 abbrev pub OnlyShared : Type 0
 OnlyShared = (mappings : List RmapRec) (recs : List RefcRec) → AreShared mappings recs ↔ (recs ≡ shared_space mappings)
+
+-- where block 0 isn't shared, the records are in the range of their btree: they begin behind that block
+abbrev pub ShareInside : List RmapRec → List RefcRec → Type 0
+ShareInside mappings recs = sharers mappings 0 < 2 → (bounds : Bounds) → EndWithin bounds.length mappings → AllInside refc_form bounds recs

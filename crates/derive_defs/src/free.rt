@@ -1,9 +1,8 @@
-ghost use Rattle.std.specs.Prelude.{◌≡◌, ◌≤◌, false, IfOk};
-ghost use Rattle.sblock.specs.Blocks.{IsRising, AllInside};
-ghost use Rattle.sblock.specs.declared.block.Bounds.{Bounds as GhostBounds};
+ghost use Rattle.std.specs.Prelude.{◌≡◌, ◌≤◌, IfOk};
+ghost use Rattle.sblock.specs.Blocks.{IsRising};
 ghost use Rattle.span_recs.specs.Spans.{bno_form};
 ghost use Rattle.derive_defs.specs.Mappings.{StartsRise, EndWithin};
-ghost use Rattle.derive_defs.specs.Free.{AreFree, block_count, free_space, is_free};
+ghost use Rattle.derive_defs.specs.Free.{AreFree, LieInside, block_count, free_space};
 
 use rmap_recs::RmapRec;
 use span_recs::SpanRec;
@@ -19,8 +18,7 @@ pub fn free_of(alloc: Global, length: u32, mappings: &[RmapRec]) -> Result<Vec<S
     ensures value { IfOk result (λ free. free.items ≡ free_space length mappings.now) }
     ensures exact { IfOk result (λ free. AreFree length mappings.now free.items) }
     ensures rising { IfOk result (λ free. IsRising bno_form free.items) }
-    // A record in range begins behind block 0, so that one has to lie in a mapping.
-    ensures inside { IfOk result (λ free. is_free mappings.now 0 ≡ false → (bounds : GhostBounds) → bounds.length ≡ length → AllInside bno_form bounds free.items) }
+    ensures inside { IfOk result (λ free. LieInside length mappings.now free.items) }
     ensures fits { IfOk result (λ free. block_count free.items ≤ length) }
 {
     let mut free = Vec::new(alloc);

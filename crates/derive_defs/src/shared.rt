@@ -1,11 +1,10 @@
-ghost use Rattle.std.specs.Prelude.{◌≡◌, ◌<◌, ◌&&◌, IfOk, map, filter, nat_lt};
+ghost use Rattle.std.specs.Prelude.{◌≡◌, ◌&&◌, IfOk, map, filter, nat_lt};
 ghost use Rattle.rmap_recs.specs.Rmap.{is_shareable};
 ghost use Rattle.run_sets.specs.Runs.{most};
-ghost use Rattle.sblock.specs.Blocks.{IsRising, AllInside};
-ghost use Rattle.sblock.specs.declared.block.Bounds.{Bounds as GhostBounds};
+ghost use Rattle.sblock.specs.Blocks.{IsRising};
 ghost use Rattle.span_recs.specs.Refcounts.{refc_form};
 ghost use Rattle.derive_defs.specs.Mappings.{EndWithin, blocks_of};
-ghost use Rattle.derive_defs.specs.Shared.{AreShared, refc_of, shared_space, sharers};
+ghost use Rattle.derive_defs.specs.Shared.{AreShared, ShareInside, refc_of, shared_space};
 
 use rmap_recs::RmapRec;
 use run_sets::{Run, overlaps};
@@ -49,8 +48,7 @@ pub fn shared_of(alloc: Global, mappings: &[RmapRec]) -> Result<Vec<RefcRec>, Al
     ensures value { IfOk result (λ recs. recs.items ≡ shared_space mappings.now) }
     ensures exact { IfOk result (λ recs. AreShared mappings.now recs.items) }
     ensures rising { IfOk result (λ recs. IsRising refc_form recs.items) }
-    // A record in range begins behind block 0, so that one may not be shared.
-    ensures inside { IfOk result (λ recs. sharers mappings.now 0 < 2 → (bounds : GhostBounds) → EndWithin bounds.length mappings.now → AllInside refc_form bounds recs.items) }
+    ensures inside { IfOk result (λ recs. ShareInside mappings.now recs.items) }
 {
     let runs = shareable_runs(alloc, mappings)?;
     match overlaps(alloc, runs.as_slice(), 2) {

@@ -1,8 +1,7 @@
 ghost use Rattle.std.specs.Prelude.{◌≡◌, IfOk};
-ghost use Rattle.sblock.specs.Blocks.{IsRising, AllInside};
-ghost use Rattle.sblock.specs.declared.block.Bounds.{Bounds as GhostBounds};
-ghost use Rattle.span_recs.specs.Spans.{bno_form, cnt_form};
-ghost use Rattle.derive_defs.specs.ByCount.{AreByCount, ordered_by_count};
+ghost use Rattle.sblock.specs.Blocks.{IsRising};
+ghost use Rattle.span_recs.specs.Spans.{bno_form};
+ghost use Rattle.derive_defs.specs.ByCount.{AreByCount, KeepInside, ordered_by_count};
 
 use span_recs::SpanRec;
 use std::alloc::{AllocError, Global};
@@ -14,7 +13,7 @@ pub fn by_count(alloc: Global, free: &[SpanRec]) -> Result<Vec<SpanRec>, AllocEr
     requires rising { IsRising bno_form free.now }
     ensures value { IfOk result (λ recs. recs.items ≡ ordered_by_count free.now) }
     ensures exact { IfOk result (λ recs. AreByCount free.now recs.items) }
-    ensures inside { IfOk result (λ recs. (bounds : GhostBounds) → AllInside bno_form bounds free.now → AllInside cnt_form bounds recs.items) }
+    ensures inside { IfOk result (λ recs. KeepInside free.now recs.items) }
 {
     let mut sorted = Vec::from_slice(alloc, free)?;
     sorted.sort_by_key(|span| (span.count, span.start))?;

@@ -60,10 +60,10 @@ same_place run p q h k =
     let word : p.word ≡ q.word = after_is run.owner run.word run.count p.word a.word ∙ sym (after_is run.owner run.word run.count q.word b.word) in
     λ i. record { start = (a.start ∙ sym b.start) i; owner = (a.owner ∙ sym b.owner) i; word = key_word (word i) }
 
-never : (p q : RmapRec) → key_of p ≡ key_of q → is_before p q ≡ true → ⊥
+pub never : (p q : RmapRec) → key_of p ≡ key_of q → is_before p q ≡ true → ⊥
 never p q same h = false≢true (sym (lawful_rmap.strict (key_of q)) ∙ subst (λ (k : Key). is_key_before k (key_of q) ≡ true) same h)
 
-along : (a b c : RmapRec) → is_before a b ≡ true → is_before b c ≡ true → is_before a c ≡ true
+pub along : (a b c : RmapRec) → is_before a b ≡ true → is_before b c ≡ true → is_before a c ≡ true
 along a b c = lawful_rmap.along (key_of a) (key_of b) (key_of c)
 
 pub one_place : (pieces : List RmapRec) → Rises is_before pieces → (i j : ℕ) (d : RmapRec) → i < length pieces → j < length pieces → key_of (get_or pieces i d) ≡ key_of (get_or pieces j d) → i ≡ j

@@ -35,6 +35,10 @@ tuples_of (p ∷ ps) = with_tuples p p.count (tuples_of ps)
 abbrev pub is_followed : List RmapRec → RmapRec → Bool
 is_followed pieces q = list_any (λ p. can_join p q) pieces
 
+-- no piece goes on from this one
+abbrev pub is_last : List RmapRec → RmapRec → Bool
+is_last pieces p = not (list_any (can_join p) pieces)
+
 -- a run with the pieces that go on from it, one after the other, at most n
 unfoldable pub chain : ℕ → List RmapRec → RmapRec → RmapRec
 chain zero pieces r = r

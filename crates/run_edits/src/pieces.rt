@@ -39,7 +39,7 @@ fn place_of(pieces: &[RmapRec], next: &RmapRec) -> usize
 }
 
 // The place of the piece that goes on behind the run.
-fn place_behind(pieces: &[RmapRec], run: &RmapRec) -> Option<usize>
+pub fn place_behind(pieces: &[RmapRec], run: &RmapRec) -> Option<usize>
     requires sorted { Rises is_before_of pieces.now }
     requires room { run.now.start + run.now.count < 2 ^ 32 }
     ensures found { IfSome result (λ i. (i < length pieces.now) × ((d : GhostRec) → can_join_of run.now (get_or pieces.now i d) ≡ true)) }

@@ -2,4 +2,14 @@
 #![tactic(auto)]
 
 #[cfg(test)]
+mod needs;
+#[cfg(test)]
 mod overlaps;
+#[cfg(test)]
+mod pairs;
+#[cfg(test)]
+mod pieces;
+#[cfg(test)]
+mod random;
+#[cfg(test)]
+mod spare;

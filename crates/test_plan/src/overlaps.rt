@@ -1,25 +1,9 @@
+use crate::pieces::{piece, unwritten};
 use fs_model::{Claim, Evidence};
-use run_sets::Run;
 use sblock::Kind;
 use std::alloc::Global;
 use std::test::Fail;
 use unit_plan::{Among, ClaimSet, Memory, Piece};
-
-fn piece(claim: Claim, start: u32, count: u32) -> Piece {
-    Piece {
-        claim,
-        run: Run { start, count },
-        unwritten: false,
-    }
-}
-
-fn unwritten(ino: u64, start: u32, count: u32) -> Piece {
-    Piece {
-        claim: Claim::Data(ino),
-        run: Run { start, count },
-        unwritten: true,
-    }
-}
 
 fn overlap(block: u32, first: Claim, second: Claim) -> Option<Evidence> {
     Some(Evidence::Overlap {

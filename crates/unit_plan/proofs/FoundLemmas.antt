@@ -1,18 +1,17 @@
 -- What the sweep meets and the walk behind it shows is the first overlap of the claimed blocks.
 use Rattle.std.proofs.Common.{◌≡◌, ℕ, zero, suc, ◌+◌, ◌<◌, ◌≤◌, ◌⊎◌, Bool, true, false, cond, not, List, [], ◌∷◌, ◌++◌, length, map, take, Option, Some, None, refl, ap, sym, subst, ◌∙◌, inl, inr, arith}
-use Rattle.std.specs.Prelude.{◌==◌, ◌&&◌, ◌||◌, nat_lt, nat_le, flat_map, if◌then◌else◌}
-use Rattle.std.specs.List.{filter, list_any}
+use Rattle.std.specs.Prelude.{◌==◌, ◌&&◌, nat_lt, nat_le, if◌then◌else◌}
+use Rattle.std.specs.List.{filter}
 use Rattle.std.specs.List.Sorted.{IsPermutation, IsNonDecreasingBy}
-use Rattle.std.proofs.lemmas.Bool.{and_left, and_right, and_from, cond-false, eqb-true, eqb-false, ne_eqb, cases_lt, cases_Bool, le-leb, lt-leb, lt-ltb, le-ltb, false≢true}
+use Rattle.std.proofs.lemmas.Bool.{and_left, and_right, and_from, cond-false, eqb-true, eqb-false, cases_lt, le-leb, lt-leb, lt-ltb, le-ltb}
 use Rattle.std.proofs.lemmas.List.Elements.{filter-append}
 use Rattle.fs_model.specs.declared.claim.Claim.{Claim}
-use Rattle.fs_model.specs.declared.claim.Claim.TheVariants as claims
 use Rattle.fs_model.specs.declared.claim.Evidence.{Evidence}
 use Rattle.fs_model.specs.declared.claim.Evidence.TheVariants.{Overlap}
 use Rattle.run_sets.specs.Runs.{is_within}
 use Rattle.rmap_recs.specs.Words.{is_unwritten}
 use Rattle.fs_derive.specs.Claims.{Claimed, unwritten}
-use Rattle.fs_derive.specs.Contradiction.{is_data, is_written_data, overlap_in, overlap_among}
+use Rattle.fs_derive.specs.Contradiction.{is_data, is_written_data, overlap_in}
 use Rattle.fs_derive.specs.Lists.{numbers, first_of_all}
 use Rattle.unit_plan.specs.declared.order.Firsts.{Firsts}
 use Rattle.unit_plan.specs.declared.order.Firsts.TheVariants.{Nothing, One, Two}
@@ -24,8 +23,8 @@ use Rattle.unit_plan.specs.Pieces.{has_block, is_hard, is_looked_at, claimed, pu
 use Rattle.unit_plan.specs.Sets.{LieBelow, IsFirstOverlap}
 use Rattle.unit_plan.specs.Sweep.{swept}
 use Rattle.unit_plan.proofs.Counting.{many, Same, permuted, many_filter, many_map, many_same, many_all, any_none, any_some}
-use Rattle.unit_plan.proofs.SortedLemmas.{Least, Ascends, one_order, ascends_put, many_put, put_all, all_ascend, all_there, firsts_are}
-use Rattle.unit_plan.proofs.SweepLemmas.{there, hard_there, fewer, ClearAt, HitAt, Found, rising, swept_is}
+use Rattle.unit_plan.proofs.SortedLemmas.{Least, Ascends, one_order, ascends_put, put_all, all_ascend, all_there, firsts_are}
+use Rattle.unit_plan.proofs.SweepLemmas.{there, hard_there, ClearAt, HitAt, Found, rising, swept_is}
 
 -- ---- pieces in the claims' order
 
@@ -115,7 +114,7 @@ on_block b (p ∷ ps) =
 
 hard_is : (b : ℕ) (p : Piece) → not (is_written_data (claimed p b)) ≡ is_hard p
 unfolding is_written_data
-hard_is b p = elim p.unwritten as (λ t. not (is_data p.claim && not (is_unwritten (if t then unwritten else 0))) ≡ not (is_data p.claim && not t)) [
+hard_is b p = elim (is_unwritten p.word) as (λ t. not (is_data p.claim && not (is_unwritten (if t then unwritten else 0))) ≡ not (is_data p.claim && not t)) [
   | true ↦ refl
   | false ↦ refl
 ]

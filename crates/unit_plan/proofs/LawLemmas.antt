@@ -1,9 +1,9 @@
 -- The first overlap doesn't depend on the order of the pieces, and only on the claims that they stand for.
-use Rattle.std.proofs.Common.{◌≡◌, ℕ, zero, suc, ◌+◌, ◌<◌, ◌≤◌, ◌⊎◌, Bool, true, false, cond, not, List, [], ◌∷◌, length, map, Option, Some, None, refl, ap, sym, ◌∙◌, inl, inr, arith}
-use Rattle.std.specs.Prelude.{◌==◌, ◌||◌, nat_lt, if◌then◌else◌}
+use Rattle.std.proofs.Common.{◌≡◌, ℕ, ◌+◌, Bool, not, List, [], ◌∷◌, length, map, Option, Some, None, refl, ap, sym, ◌∙◌, inl, inr, arith}
+use Rattle.std.specs.Prelude.{◌==◌, ◌&&◌, ◌||◌, nat_lt, if◌then◌else◌}
 use Rattle.std.specs.List.{filter, list_any}
 use Rattle.std.specs.List.Sorted.{IsPermutation}
-use Rattle.std.proofs.lemmas.Bool.{cases_lt, cond-false, le-ltb, ltb-false, lt-ltb, cond-true}
+use Rattle.std.proofs.lemmas.Bool.{cases_lt, cond-false, le-ltb, lt-ltb, cond-true}
 use Rattle.std.proofs.lemmas.List.Sorted.{IsPermutation-refl}
 use Rattle.fs_model.specs.declared.claim.Claim.{Claim}
 use Rattle.fs_model.specs.declared.claim.Evidence.{Evidence}
@@ -14,7 +14,10 @@ use Rattle.fs_derive.specs.Contradiction.{is_written_data, overlap_in, overlap_a
 use Rattle.fs_derive.specs.Lists.{numbers, first_of_all}
 use Rattle.unit_plan.specs.declared.piece.Among.{Among}
 use Rattle.unit_plan.specs.declared.piece.Piece.{Piece}
-use Rattle.unit_plan.specs.Laws.{AnyOrder, InGroup, seen}
+use Rattle.derive_defs.specs.Mappings.{covers}
+use Rattle.fs_model.specs.declared.unit.Unit.TheVariants as units
+use Rattle.unit_plan.specs.Laws.{AnyOrder, InGroup, SpareInGroup, is_spare_in, seen}
+use Rattle.unit_plan.specs.Spare.{is_listed, is_sick, is_spare}
 use Rattle.unit_plan.specs.Pieces.{claimed, claimed_blocks}
 use Rattle.unit_plan.specs.Sets.{LieBelow, IsFirstOverlap}
 use Rattle.unit_plan.proofs.Counting.{many, permuted, any_none, any_some}
@@ -126,3 +129,14 @@ unfolding IsFirstOverlap first_overlap
 in_group_lem among ps e a g cs below stand first =
     first (group_len_of a.geometry g) below
     ∙ same_among (claimed_blocks among ps) cs (numbers 0 (group_len_of a.geometry g)) (λ b. same_seen (filter (λ c. c.block == b) (claimed_blocks among ps)) (filter (λ c. c.block == b) cs) (sym (stand b)))
+
+-- ---- spare blocks
+
+pub spare_in_group_lem : SpareInGroup
+unfolding is_spare is_spare_in
+spare_in_group_lem a g units.Free t free recs ps b s = λ i. not (is_sick (s.rmap i)) && is_listed (s.free_is i) b
+spare_in_group_lem a g units.Rmap t free recs ps b s = λ i. not (is_sick (s.bno i)) && (is_listed (s.free_is i) b && not (s.all b i))
+spare_in_group_lem a g units.Inode t free recs ps b s =
+    λ i. not (is_sick (s.bno i) || (is_sick (s.cnt i) || is_sick (s.rmap i))) && (is_listed (s.free_is i) b && not (list_any (covers b) (s.mappings_are i) || s.own b i))
+spare_in_group_lem a g units.Refc t free recs ps b s =
+    λ i. not (is_sick (s.bno i) || (is_sick (s.cnt i) || is_sick (s.rmap i))) && (is_listed (s.free_is i) b && not (list_any (covers b) (s.mappings_are i) || s.own b i))

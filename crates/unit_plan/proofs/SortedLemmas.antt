@@ -1,7 +1,6 @@
 -- Lists of claims in order: two with the same elements are one.
-use Rattle.std.proofs.Common.{◌≡◌, ℕ, zero, suc, ◌+◌, ◌<◌, ◌≤◌, Bool, true, false, cond, not, List, [], ◌∷◌, map, take, refl, ap, sym, subst, ◌∙◌, arith}
+use Rattle.std.proofs.Common.{◌≡◌, ℕ, ◌+◌, Bool, true, false, cond, not, List, [], ◌∷◌, take, refl, ap, sym, subst, ◌∙◌, arith}
 use Rattle.std.specs.Prelude.{if◌then◌else◌}
-use Rattle.std.specs.List.{filter}
 use Rattle.std.proofs.lemmas.Bool.{false_from_ne_true}
 use Rattle.fs_model.specs.declared.claim.Claim.{Claim}
 use Rattle.unit_plan.specs.Order.{comes_before, put}

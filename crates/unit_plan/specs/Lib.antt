@@ -1,6 +1,9 @@
 pub mod Firsts
 pub mod Laws
+pub mod Need
 pub mod Order
 pub mod Pieces
 pub mod Sets
+pub mod Spare
+pub mod Spans
 pub mod Sweep

@@ -1,10 +1,10 @@
 -- What pieces of claims stand for: a list of claimed blocks, in the claims' order.
-use Rattle.std.specs.Prelude.{ℕ, ◌+◌, ◌^◌, Bool, true, false, not, ◌&&◌, ◌||◌, List, [], ◌∷◌, map, flat_map, if◌then◌else◌}
+use Rattle.std.specs.Prelude.{ℕ, Bool, true, false, not, ◌&&◌, List, [], ◌∷◌, map, flat_map, if◌then◌else◌}
 use Rattle.std.specs.List.{filter}
 use Rattle.fs_model.specs.declared.claim.Claim.{Claim}
 use Rattle.fs_model.specs.declared.claim.Claim.TheVariants.{Heads, Log, List as FreeList, Tree, Reserve, Limbo, Chunk, Data, Attr, ForkTree, Staging}
-use Rattle.run_sets.specs.declared.run.Run.{Run}
 use Rattle.run_sets.specs.Runs.{is_within}
+use Rattle.rmap_recs.specs.Words.{is_unwritten}
 use Rattle.fs_derive.specs.Claims.{Claimed, unwritten}
 use Rattle.fs_derive.specs.Contradiction.{is_data}
 use Rattle.fs_derive.specs.Lists.{numbers}
@@ -33,7 +33,7 @@ is_looked_at Metadata c = is_metadata c
 
 -- it isn't written file data
 abbrev pub is_hard : Piece → Bool
-is_hard p = not (is_data p.claim && not p.unwritten)
+is_hard p = not (is_data p.claim && not (is_unwritten p.word))
 
 -- the piece is looked at and has the block
 abbrev pub has_block : Among → ℕ → Piece → Bool
@@ -41,7 +41,7 @@ has_block among b p = is_looked_at among p.claim && is_within b p.run
 
 -- a block of a piece, as it is claimed; who its owner is no overlap asks
 abbrev pub claimed : Piece → ℕ → Claimed
-claimed p b = record { block = b; claim = p.claim; owner = 0; word = if p.unwritten then unwritten else 0 }
+claimed p b = record { block = b; claim = p.claim; owner = 0; word = if is_unwritten p.word then unwritten else 0 }
 
 -- a piece put in front of the first that doesn't come before it
 abbrev pub put_piece : Piece → List Piece → List Piece

@@ -1,7 +1,10 @@
 use crate::order::shown;
 use crate::piece::{Among, Memory, Piece};
+use crate::spare::{SpaceTrust, lowest_for, may_spare};
 use crate::sweep::{first_met, firsts_on};
-use fs_model::Evidence;
+use fs_model::{Evidence, Unit};
+use rmap_recs::RmapRec;
+use span_recs::SpanRec;
 use std::alloc::Global;
 
 /// The claims on the blocks of a group, as pieces that are handed in in any order. A piece takes
@@ -16,6 +19,8 @@ impl ClaimSet {
     ghost use Rattle.std.specs.Prelude.{◌≡◌, ℕ, [], ◌∷◌, ◌++◌, OnOk, OnErr};
     ghost use Rattle.std.specs.List.Sorted.{IsPermutation};
     ghost use Rattle.unit_plan.specs.Sets.{pieces_of, IsFirstOverlap};
+    ghost use Rattle.unit_plan.specs.Spans.{MappingsRise, SpansFit};
+    ghost use Rattle.unit_plan.specs.Spare.{IsLowest, is_spare};
 
     /// No claims. It takes no memory.
     pub fn new(alloc: Global) -> Self
@@ -48,5 +53,30 @@ impl ClaimSet {
             None => None,
             Some(block) => shown(firsts_on(pieces, among, block), block),
         }
+    }
+
+    /// The lowest spare block for the unit: of free space, a block of the derived free space, where
+    /// the reverse mappings aren't sick; of reverse mappings, one that the btree by start lists and
+    /// nothing claims, where that btree isn't sick; of the others, one that it lists, no reverse
+    /// mapping covers and none of the group's own metadata claims, where none of the three is sick.
+    /// `free` are the records of the first list named. It takes no memory
+    /// (XFS Online Fsck Design, "Metadata Repair").
+    pub fn lowest_spare(
+        &mut self,
+        unit: Unit,
+        trust: SpaceTrust,
+        free: &[SpanRec],
+        mappings: &[RmapRec],
+    ) -> Option<u32>
+        requires free { SpansFit free.now }
+        requires mappings { MappingsRise mappings.now }
+        ensures exact { IsLowest (is_spare unit trust free.now mappings.now (pieces_of self.old)) result }
+        ensures kept { IsPermutation (pieces_of self.old) (pieces_of self.new) }
+    {
+        self.pieces.sort_unstable_by_key(|piece| piece.run.start);
+        if !may_spare(unit, trust) {
+            return None;
+        }
+        lowest_for(unit, free, mappings, self.pieces.as_slice())
     }
 }

@@ -8,20 +8,25 @@ use std::alloc::AllocFailed;
 use std::mem::size_of;
 use thiserror::Error;
 
-/// Blocks of a group that one structure claims: a run of them, group-relative. `unwritten` tells of
-/// a mapping of file data that its blocks hold no data yet
+/// Blocks of a group that one structure claims: a run of them, group-relative, and the owner and the
+/// offset word that a reverse mapping of the run has. The word's unwritten flag tells of a mapping
+/// of file data that its blocks hold no data yet
 /// (XFS Online Fsck Design, "Cross-Referencing Space Metadata").
 #[derive(Clone, Copy, Debug, PartialEq, Eq)]
 pub struct Piece {
     pub claim: Claim,
     pub run: Run,
-    pub unwritten: bool,
+    pub owner: u64,
+    pub word: u64,
 }
 
 /// At most so many bytes does a piece take.
 pub const PIECE_BYTES: usize = 40;
 
 const _: () = prove!(size_of::<Piece>() <= PIECE_BYTES);
+
+// The flag of an offset word for blocks that aren't written.
+const UNWRITTEN: u64 = 1 << 61;
 
 /// Which claims are looked at: all, or those of the group's own metadata, which are all but file
 /// data, attributes and blocks of a fork's btree.
@@ -60,7 +65,7 @@ pub fn is_looked_at(among: Among, claim: &Claim) -> bool
 pub fn is_hard(piece: &Piece) -> bool
     ensures { result ≡ is_hard_of piece.now }
 {
-    piece.unwritten || !matches!(piece.claim, Claim::Data(_))
+    piece.word & UNWRITTEN > 0 || !matches!(piece.claim, Claim::Data(_))
 }
 
 /// Whether the piece is looked at and has the block.

@@ -1,0 +1,30 @@
+//! Measures a set of claims: `bench_plan pieces` prints the time that each of 10,000, 100,000 and
+//! 1,000,000 pieces takes to be put, to be asked for the first overlap, and to be asked for the
+//! lowest spare block. With no word it measures nothing and prints nothing.
+#![tactic(auto)]
+
+mod measure;
+
+use measure::measured;
+use std::io;
+
+fn main(rt: HostRuntime) -> io::Result<()> {
+    for word in std::env::args(&rt)?.skip(1) {
+        if word.as_str() != "pieces" {
+            return Err(io::Error::new(
+                io::ErrorKind::InvalidInput,
+                "bench_plan knows no such word",
+            ));
+        }
+        for pieces in [10_000, 100_000, 1_000_000] {
+            let spent = measured(&rt, rt.alloc(), pieces)?;
+            let put = spent.put;
+            let overlap = spent.overlap;
+            let spare = spent.spare;
+            println!(&rt;
+                "{pieces} pieces: {put} ns a piece put, {overlap} ns first overlap, {spare} ns lowest spare block"
+            )?;
+        }
+    }
+    Ok(())
+}

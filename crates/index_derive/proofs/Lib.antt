@@ -1,0 +1,5 @@
+pub mod InodeLemmas
+pub mod LawLemmas
+pub mod OwnerLemmas
+pub mod RunLemmas
+pub mod UnitLemmas
