@@ -1,11 +1,14 @@
 -- What stands behind a block's header, item by item.
-use Rattle.std.proofs.Common.{◌≡◌, ◌≢◌, ℕ, zero, suc, ◌+◌, ◌-◌, ◌<◌, ◌≤◌, true, List, [], ◌∷◌, ◌++◌, length, take, get_or, refl, sym, ap, subst, ◌∙◌, arith, add-one}
+use Rattle.std.proofs.Common.{◌≡◌, ◌≢◌, ℕ, zero, suc, ◌+◌, ◌-◌, ◌<◌, ◌≤◌, true, List, [], ◌∷◌, ◌++◌, length, take, drop, get_or, refl, sym, ap, subst, ◌∙◌, arith, add-one}
 use Rattle.std.specs.Prelude.{All}
+use Rattle.std.proofs.Math.ListN.{drop_of_length-le}
+use Rattle.std.proofs.Math.Seq.{drop-cons}
 use Rattle.std.proofs.lemmas.List.{take_more, take_all}
 use Rattle.std.proofs.lemmas.List.Elements.{All-get_or}
 use Rattle.sblock.proofs.ListLemmas.{one_more_item}
 use Rattle.sblock.specs.Form.{Form}
 use Rattle.sblock.specs.Lists.{items_from}
+use Rattle.bulk_load.specs.Leaf.{with_records}
 use Rattle.bulk_load.specs.Loaded.{AreEntries, HasRecords, Has}
 use Rattle.bulk_load.specs.Shapes.{begin, count}
 
@@ -36,3 +39,16 @@ module _ {R K : Type 0} (form : Form R K) (list : List R) (claimed : List ℕ) w
 
   pub has_at : (j level i : ℕ) (area : List ℕ) → j ≡ level → Has form list claimed j i area → Has form list claimed level i area
   has_at j level i area e has = subst (λ (k : ℕ). Has form list claimed k i area) e has
+
+-- the first record of the rest was put in
+pub one_more_put : {R K : Type 0} (form : Form R K) (recs : List R) (i : ℕ) (rec : R) (area newer : List ℕ) → i < length recs → rec ≡ get_or recs i rec → newer ≡ form.with_record area i rec
+    → with_records form (drop (i + 1) recs) (i + 1) newer ≡ with_records form (drop i recs) i area
+one_more_put {R} form recs i rec area newer lt is put =
+    let s : suc i ≡ i + 1 = omega arith in
+    let d : drop i recs ≡ rec ∷ drop (suc i) recs = drop-cons recs i rec lt ∙ ap (λ (r : R). r ∷ drop (suc i) recs) (sym is) in
+    let e : drop i recs ≡ rec ∷ drop (i + 1) recs = d ∙ ap (λ (k : ℕ). rec ∷ drop k recs) s in
+    ap (with_records form (drop (i + 1) recs) (i + 1)) put ∙ sym (ap (λ (rs : List R). with_records form rs i area) e)
+
+-- nothing is left to put in
+pub all_put : {R K : Type 0} (form : Form R K) (recs : List R) (i : ℕ) (area : List ℕ) → length recs ≤ i → with_records form (drop i recs) i area ≡ area
+all_put {R} form recs i area le = ap (λ (rs : List R). with_records form rs i area) (drop_of_length-le recs {i = i} le)

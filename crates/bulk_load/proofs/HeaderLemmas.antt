@@ -8,6 +8,7 @@ use Rattle.byteorder.specs.Endian.{big_bytes, little_bytes}
 use Rattle.byteorder.specs.Numbers.{length-bytes_high_first, length-bytes_low_first}
 use Rattle.byte_fields.specs.Checksum.{checksum, blanked, has_sum}
 use Rattle.byte_fields.specs.Fields.{field, with_field, with_low_field, has_uuid}
+use Rattle.byte_fields.specs.Zeros.{zeros}
 use Rattle.ag_headers.proofs.SpliceLemmas.{Written, splice_length, back_stays, part_there, part_stays, field_stays, field_there}
 use Rattle.ag_headers.proofs.StampLemmas.{sum_holds}
 use Rattle.sblock.specs.Area.{area_of}
@@ -16,6 +17,7 @@ use Rattle.sblock.specs.declared.block.Frame.{Frame}
 use Rattle.sblock.specs.declared.block.Header.{Header}
 use Rattle.sblock.specs.declared.kind.Kind.{Kind}
 use Rattle.bulk_load.specs.Header.{with_numbers, with_numbers_from, AllFit, numbers_of, with_ids, with_seal, with_area}
+use Rattle.bulk_load.specs.Leaf.{block_bytes}
 use Rattle.bulk_load.specs.Loaded.{IsHeaded}
 
 -- the bytes of all of these
@@ -198,3 +200,13 @@ module _ (kind : Kind) (header : Header) (frame : Frame) (at place : ℕ) (zero 
       let e : b2 ≡ with_numbers (with_area zero area) (numbers_of kind header place) = e2 ∙ ap (λ (b : List ℕ). with_numbers b (numbers_of kind header place)) e1 in
       let s : checksum (blanked (with_ids (with_numbers (with_area zero area) (numbers_of kind header place)) frame.uuid frame.group) 52) < 2 ^ 32 = subst (λ (b : List ℕ). checksum (blanked (with_ids b frame.uuid frame.group) 52) < 2 ^ 32) e sum in
       subst (λ (b : List ℕ). IsHeaded kind header frame at b) (sym is_result) (block_head kind header frame at place zero area frame.uuid whole size sixteen fits is group s)
+
+-- and every byte of the result is told
+pub made_exact : (kind : Kind) (header : Header) (frame : Frame) (at place : ℕ) (zero area b1 b2 b3 : List ℕ) → place ≡ 8 * (frame.first + at) → zero ≡ zeros → b1 ≡ with_area zero area → b2 ≡ with_numbers b1 (numbers_of kind header place) → b3 ≡ with_seal b2 frame.uuid frame.group
+    → b3 ≡ block_bytes kind header frame at area
+unfolding block_bytes
+made_exact kind header frame at place zero area b1 b2 b3 is blank e1 e2 e3 =
+    e3
+    ∙ (ap (λ (b : List ℕ). with_seal b frame.uuid frame.group) (e2
+    ∙ (ap (λ (b : List ℕ). with_numbers b (numbers_of kind header place)) (e1 ∙ ap (λ (b : List ℕ). with_area b area) blank)
+    ∙ ap (λ (p : ℕ). with_numbers (with_area zeros area) (numbers_of kind header p)) is)))

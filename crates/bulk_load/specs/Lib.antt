@@ -1,4 +1,5 @@
 pub mod Header
+pub mod Leaf
 pub mod Loaded
 pub mod Shapes
 pub mod Trees

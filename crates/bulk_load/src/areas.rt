@@ -1,6 +1,7 @@
 ghost use Rattle.std.specs.Prelude.{◌≡◌, ◌≢◌, ◌+◌, ◌<◌, ◌≤◌, ℕ, List, suc, length, true, All};
 ghost use Rattle.sblock.specs.Area.{child_of};
 ghost use Rattle.sblock.specs.Kinds.{leaf_most_of, node_most_of};
+ghost use Rattle.bulk_load.specs.Leaf.{with_records};
 ghost use Rattle.bulk_load.specs.Loaded.{AreKeys, AreEntries, HasRecords, Has};
 ghost use Rattle.bulk_load.specs.Shapes.{width, start, begin, count, HasLevel};
 
@@ -9,13 +10,14 @@ use crate::rows::Row;
 use sblock::{RecKind, Span, put_child};
 
 // The bytes of a block behind its header.
-const AREA: usize = 4040;
+pub(crate) const AREA: usize = 4040;
 
 // Writes the records of a leaf.
-fn put_records<K: RecKind>(area: &mut [u8], recs: &[K::Rec])
+pub(crate) fn put_records<K: RecKind>(area: &mut [u8], recs: &[K::Rec])
     requires whole { length area.old ≡ 4040 }
     requires room { length recs.now ≤ leaf_most_of K.form.kind }
-    ensures { HasRecords K.form recs.now area.new }
+    ensures has { HasRecords K.form recs.now area.new }
+    ensures exact { area.new ≡ with_records K.form recs.now 0 area.old }
 {
     for (i, rec) in recs.iter().enumerate() {
         K::put_record(area, i, rec);

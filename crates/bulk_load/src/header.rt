@@ -5,6 +5,7 @@ ghost use Rattle.byte_fields.specs.Fields.{with_low_field};
 ghost use Rattle.sblock.specs.Area.{area_of};
 ghost use Rattle.sblock.specs.Kinds.{magic_of};
 ghost use Rattle.bulk_load.specs.Header.{with_numbers, AllFit, numbers_of, with_ids, with_seal, with_area};
+ghost use Rattle.bulk_load.specs.Leaf.{block_bytes};
 ghost use Rattle.bulk_load.specs.Loaded.{IsHeaded};
 
 use byte_fields::{Block, put_sum, put_u16, put_u32, put_u64, sum_at};
@@ -82,6 +83,7 @@ pub(crate) fn block_of(area: &[u8], kind: Kind, header: &Header, frame: &Frame, 
     requires place { 8 * (frame.now.first + at) < 2 ^ 64 }
     ensures area { area_of result.bytes ≡ area.now }
     ensures head { IsHeaded kind header.now frame.now at result.bytes }
+    ensures exact { result.bytes ≡ block_bytes kind header.now frame.now at area.now }
 {
     let place = SECTORS * (frame.first + u64::from(at));
     let mut block = Block::zeroed();

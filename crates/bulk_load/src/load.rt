@@ -20,7 +20,7 @@ use std::sync::ledger::Ledger;
 pub const PIECE: u64 = 64;
 
 // A sibling that isn't there.
-const NO_BLOCK: u32 = 0xffff_ffff;
+pub(crate) const NO_BLOCK: u32 = 0xffff_ffff;
 
 // The block to the left of block `i` of this level.
 fn left_of(row: &Row, claimed: &[u32], i: u64) -> u32
@@ -129,7 +129,8 @@ pub fn load_piece<K: RecKind, L: Ledger>(
     requires places { (k : ℕ) → k < length claimed.now → 8 * (frame.now.first + slice_index claimed.now k) < 2 ^ 64 }
     requires begins { from < shape.now.blocks }
     ensures next { IfOk result (λ next. next ≡ from + min (shape.now.blocks - from) 64) }
-    ensures loaded { IfOk result (λ next. IsLoaded K.form list.now claimed.now frame.now from next into.old.items into.new.items) }
+    ensures loaded { IfOk result (λ next.
+        IsLoaded K.form list.now claimed.now frame.now from next into.old.items into.new.items) }
     ensures written { IfOk result (λ next. steps.new ≡ record steps.old { writes = steps.old.writes + (next - from) }) }
     ensures kept { OnErr result (into.new.items ≡ into.old.items) }
     ensures unwritten { OnErr result (steps.new ≡ steps.old) }

@@ -2,3 +2,5 @@ pub mod BlockLemmas
 pub mod RowLemmas
 pub mod SoundLemmas
 pub mod TreeLemmas
+pub mod GivenLemmas
+pub mod WrittenLemmas

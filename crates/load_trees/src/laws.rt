@@ -1,4 +1,5 @@
 ghost use Rattle.load_trees.specs.Given.{AreTrees};
+ghost use Rattle.load_trees.specs.Written.{PiecesStand, PiecesJoin, AllStand};
 
 use sblock::RecKind;
 
@@ -7,4 +8,13 @@ use sblock::RecKind;
 /// (XFS Algorithms and Data Structures, "Short Format B+trees").
 pub fn loaded_blocks_are_trees<K: RecKind>()
     ensures { AreTrees K.form }
+{}
+
+/// Where each block of a piece is written to its number, the piece's blocks stand in the blocks that
+/// are claimed for them. Pieces join, wherever they are cut, and those from the first block to the
+/// last are all of the tree's blocks.
+pub fn written_pieces_stand<K: RecKind>()
+    ensures piece { PiecesStand K.form }
+    ensures join { PiecesJoin K.form }
+    ensures all { AllStand K.form }
 {}

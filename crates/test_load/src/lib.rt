@@ -2,4 +2,14 @@
 #![tactic(auto)]
 
 #[cfg(test)]
+mod blocks;
+#[cfg(test)]
+mod lists;
+#[cfg(test)]
+mod read_back;
+#[cfg(test)]
+mod refused;
+#[cfg(test)]
 mod shapes;
+#[cfg(test)]
+mod trees;
