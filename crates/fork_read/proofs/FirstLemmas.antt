@@ -1,5 +1,5 @@
 -- Where a piece from 0 on is refused, this is the fork's first fault, or the piece ended before the fork did.
-use Rattle.std.proofs.Common.{◌≡◌, Bool, true, false, List, [], ◌∷◌, Option, Some, None, Ok, Err, refl, ap, sym, ◌∙◌, inl, inr}
+use Rattle.std.proofs.Common.{◌≡◌, ◌+◌, Bool, true, false, List, [], ◌∷◌, Option, Some, None, Ok, Err, refl, ap, sym, ◌∙◌, inl, inr}
 use Rattle.std.specs.Prelude.{◌⊎◌}
 use Rattle.geom.specs.Layout.{Layout}
 use Rattle.dinode_core.specs.declared.inode.Core3.{Core3}
@@ -11,13 +11,15 @@ use Rattle.dinode_core.specs.Shape.{area_of, format_of, is_absent}
 use Rattle.dinode_core.specs.ForkTree.{Image, Trail, block_fault, ends, is_tree, met_of, start, walk_fault, walk_tree}
 use Rattle.fork_read.specs.declared.tasks.Task.{Task}
 use Rattle.fork_read.specs.declared.walk.Stop.{Stop}
-use Rattle.fork_read.specs.declared.walk.Stop.TheVariants.{Bad, Whole, Left, Long}
-use Rattle.fork_read.specs.Answers.{IsReached, IsStopped, judged}
+use Rattle.fork_read.specs.declared.walk.Stop.TheVariants.{Bad, Whole, Left, Long, Fallen}
+use Rattle.fork_read.specs.Answers.{IsStopped, judged}
+use Rattle.fork_read.specs.Stuck.{HasCome}
 use Rattle.fork_read.specs.Pieces.{IsForkFault}
 use Rattle.fork_read.specs.Whole.{IsCut}
 use Rattle.fork_read.specs.Walk.{Reaches, first_tasks, walk_all, walk_tasks}
 use Rattle.fork_read.proofs.PieceLemmas.{form_none}
 use Rattle.fork_read.proofs.RootLemmas.{is_there}
+use Rattle.fork_read.proofs.WalkLemmas.{border_leaves, leaves_join}
 use Rattle.fork_read.proofs.WholeLemmas.{tree_same}
 
 none_some : (f : ForkFault) → ◌≡◌ {A = Option ForkFault} None (Some f) → ⊥
@@ -43,11 +45,14 @@ module _ (at : Layout) (image : Image) (core : Core3) (fork : Fork) where
   cut : (tasks : List Task) (t : Trail) (fault : ForkFault) → Reaches at image core 0 (first_tasks core fork 0) start tasks t → or_else (first_bad at fork t.mappings) (Some faults.Order) ≡ Some fault → IsCut at image core fork fault
   cut tasks t fault reached found = record { tasks = tasks; trail = t; reached = reached; found = found }
 
-  by_stop : (stop : Stop) (rest : List Task) (t : Trail) (fault : ForkFault) → form_fault core fork ≡ None → is_tree core fork ≡ true → IsReached (Reaches at image core 0 (first_tasks core fork 0) start) stop rest t → IsStopped (walk_all at image core fork 0) (walk_tasks at image core 0) 0 stop rest t → judged at fork (root_level (area_of core fork)) stop t ≡ Some fault → (walk_fault at image core fork ≡ Some fault) ⊎ IsCut at image core fork fault
+  by_stop : (stop : Stop) (rest : List Task) (t : Trail) (fault : ForkFault) → form_fault core fork ≡ None → is_tree core fork ≡ true → HasCome at image core 0 (first_tasks core fork 0) start stop rest t → IsStopped (walk_all at image core fork 0) (walk_tasks at image core 0) 0 stop rest t → judged at fork (root_level (area_of core fork)) stop t ≡ Some fault → (walk_fault at image core fork ≡ Some fault) ⊎ IsCut at image core fork fault
   by_stop Bad rest t fault form tree r h found = inl (bad_fault t fault form tree (sym (tree_same at image core fork) ∙ h) found)
   by_stop Whole rest t fault form tree r h found = inl (whole_fault t fault form tree (sym (tree_same at image core fork) ∙ h) found)
-  by_stop (Left task) rest t fault form tree r h found = inr (cut (task ∷ rest) t fault r (found_first (first_bad at fork t.mappings) fault faults.Order found))
-  by_stop (Long task) rest t fault form tree r h found = inr (cut (task ∷ rest) t fault r found)
+  by_stop (Left task) rest t fault form tree r h found = inr (cut (task ∷ rest) t fault (record { count = r.count; leaves = border_leaves at image core 0 (first_tasks core fork 0) (task ∷ rest) start t r.count r.border }) (found_first (first_bad at fork t.mappings) fault faults.Order found))
+  by_stop (Long task) rest t fault form tree r h found =
+      inr (cut (task ∷ rest) t fault (record { count = r.stuck.count + 28; leaves = leaves_join at image core 0 (first_tasks core fork 0) r.rest (task ∷ rest) start r.met t r.stuck.count 28 (border_leaves at image core 0 (first_tasks core fork 0) r.rest start r.met r.stuck.count r.stuck.border) r.read }) found)
+  by_stop Fallen rest t fault form tree r h found =
+      inr (cut [] t fault (record { count = r.stuck.count + r.read.count; leaves = leaves_join at image core 0 (first_tasks core fork 0) r.rest [] start r.met t r.stuck.count r.read.count (border_leaves at image core 0 (first_tasks core fork 0) r.rest start r.met r.stuck.count r.stuck.border) r.read.leaves }) found)
 
   -- a fork in btree format has no mapping in its inode
   none_shown : is_tree core fork ≡ true → inline_mappings core fork ≡ []

@@ -1,6 +1,6 @@
 -- A piece of a fork without a fault has nothing but the fork's mappings and blocks.
 use Rattle.std.proofs.Common.{◌≡◌, ℕ, zero, suc, ◌-◌, Bool, true, false, List, [], ◌∷◌, ◌++◌, map, filter, length, Option, Some, None, Result, Ok, Err, refl, ap, sym, subst, ◌∙◌, inl, inr, append-nil}
-use Rattle.std.specs.Prelude.{◌⊎◌, if◌then◌else◌, nat_lt, nat_le}
+use Rattle.std.specs.Prelude.{◌⊎◌, if◌then◌else◌, nat_le}
 use Rattle.std.proofs.lemmas.Bool.{cases_Bool}
 use Rattle.geom.specs.Layout.{Layout, device_block_of, split_of}
 use Rattle.dinode_core.specs.declared.inode.Core3.{Core3}
@@ -14,11 +14,11 @@ use Rattle.dinode_core.specs.ForkTree.{Image, Trail, TreeBlock, Last, Entry, ◌
 use Rattle.fork_read.specs.declared.fault.ForkPiece.{ForkPiece}
 use Rattle.fork_read.specs.declared.tasks.Task.{Task}
 use Rattle.fork_read.specs.declared.walk.Stop.{Stop}
-use Rattle.fork_read.specs.declared.walk.Stop.TheVariants.{Bad, Whole, Left, Long}
+use Rattle.fork_read.specs.declared.walk.Stop.TheVariants.{Bad, Whole, Left, Long, Fallen}
 use Rattle.fork_read.specs.Answers.{IsStopped}
 use Rattle.fork_read.specs.Parts.{Each, Has, IsPart}
 use Rattle.fork_read.specs.Pieces.{IsForkPiece}
-use Rattle.fork_read.specs.Walk.{is_passed, is_sound_from, pruned, read_at, passed_from, walk_from, entry_of, first_tasks, tasks_of, walk_tasks, walk_all}
+use Rattle.fork_read.specs.Walk.{is_passed, is_resumed, skipped_to, is_sound_from, pruned, read_at, passed_from, walk_from, entry_of, first_tasks, tasks_of, walk_tasks, walk_all}
 use Rattle.fork_read.proofs.WalkLemmas.{each_then}
 use Rattle.fork_read.proofs.WholeLemmas.{else_parts, some_none, walk_same}
 
@@ -85,7 +85,7 @@ module _ (P : Mapping → Type 0) (Q : ℕ → Type 0) where
 
   passed_back : (from level : ℕ) (e : Entry) (bytes : List ℕ) (t : Trail) → Own (passed_from from level e bytes t) → Own t
   unfolding passed_from
-  passed_back from level e bytes t own = (own.0, by_key (nat_lt e.key from) own.1)
+  passed_back from level e bytes t own = (own.0, by_key (is_resumed from (t.last level) e.key) own.1)
     where
       by_key : (b : Bool) → Each (λ (x : TreeBlock). Q x.block) (if b then t.blocks else t.blocks ++ record { block = e.block; before = length t.mappings } ∷ []) → Each (λ (x : TreeBlock). Q x.block) t.blocks
       by_key true h = h
@@ -93,7 +93,7 @@ module _ (P : Mapping → Type 0) (Q : ℕ → Type 0) where
 
   passed_own : (from level : ℕ) (e : Entry) (bytes : List ℕ) (t : Trail) → Q e.block → Own t → Own (passed_from from level e bytes t)
   unfolding passed_from
-  passed_own from level e bytes t q own = (own.0, by_key (nat_lt e.key from))
+  passed_own from level e bytes t q own = (own.0, by_key (is_resumed from (t.last level) e.key))
     where
       by_key : (b : Bool) → Each (λ (x : TreeBlock). Q x.block) (if b then t.blocks else t.blocks ++ record { block = e.block; before = length t.mappings } ∷ [])
       by_key true = own.1
@@ -108,7 +108,7 @@ module _ (P : Mapping → Type 0) (Q : ℕ → Type 0) where
     from_back from zero t e own =
         in_back (read_at at image core from zero (t.last zero) e (split_of at e.block)) t (λ bytes. Ok (with_mappings (leaf_mappings bytes) (passed_from from zero e bytes t))) (λ bytes h. passed_back from zero e bytes t (mappings_back (leaf_mappings bytes) (passed_from from zero e bytes t) h)) own
     from_back from (suc level) t e own =
-        in_back (read_at at image core from (suc level) (t.last (suc level)) e (split_of at e.block)) t (λ bytes. walk_each (walk_from at image core from level) (pruned from (node_entries bytes)) (passed_from from (suc level) e bytes t)) (λ bytes h. passed_back from (suc level) e bytes t (each_back (walk_from at image core from level) (from_back from level) (pruned from (node_entries bytes)) (passed_from from (suc level) e bytes t) h)) own
+        in_back (read_at at image core from (suc level) (t.last (suc level)) e (split_of at e.block)) t (λ bytes. walk_each (walk_from at image core from level) (pruned (skipped_to from (t.last (suc level)) e.key) (node_entries bytes)) (passed_from from (suc level) e bytes t)) (λ bytes h. passed_back from (suc level) e bytes t (each_back (walk_from at image core from level) (from_back from level) (pruned (skipped_to from (t.last (suc level)) e.key) (node_entries bytes)) (passed_from from (suc level) e bytes t) h)) own
 
     tasks_back : (from : ℕ) (xs : List Task) (t : Trail) → Own (trail_in (walk_tasks at image core from xs t)) → Own t
     unfolding walk_tasks
@@ -156,14 +156,14 @@ module _ (P : Mapping → Type 0) (Q : ℕ → Type 0) where
           let one = then_ok (walk_block at image core level t e) (walk_each (walk_block at image core level) es) u h in
           then_own (walk_from at image core from level s e) (walk_each (walk_from at image core from level) es) (below t one.0 s e one.1 (blocks_back level es one.0 u one.2 own) given) (λ v k. any_own level below es one.0 u v one.2 own k)
 
-      pruned_own : (level : ℕ) → ((t u s : Trail) (e : Entry) → walk_block at image core level t e ≡ Ok u → Own u → Own s → Own (trail_in (walk_from at image core from level s e))) → (es : List Entry) (t u s : Trail) → walk_each (walk_block at image core level) es t ≡ Ok u → Own u → Own s → Own (trail_in (walk_each (walk_from at image core from level) (pruned from es) s))
+      pruned_own : (skipped level : ℕ) → ((t u s : Trail) (e : Entry) → walk_block at image core level t e ≡ Ok u → Own u → Own s → Own (trail_in (walk_from at image core from level s e))) → (es : List Entry) (t u s : Trail) → walk_each (walk_block at image core level) es t ≡ Ok u → Own u → Own s → Own (trail_in (walk_each (walk_from at image core from level) (pruned skipped es) s))
       unfolding pruned walk_each
-      pruned_own level below [] t u s h own given = any_own level below [] t u s h own given
-      pruned_own level below (e ∷ es) t u s h own given =
-          elim (cases_Bool (is_passed from es)) [
+      pruned_own skipped level below [] t u s h own given = any_own level below [] t u s h own given
+      pruned_own skipped level below (e ∷ es) t u s h own given =
+          elim (cases_Bool (is_passed skipped es)) [
             | inl before ↦
                 let one = then_ok (walk_block at image core level t e) (walk_each (walk_block at image core level) es) u h in
-                rw before (pruned_own level below es one.0 u s one.2 own given)
+                rw before (pruned_own skipped level below es one.0 u s one.2 own given)
             | inr stays ↦ rw stays (any_own level below (e ∷ es) t u s h own given)
           ]
 
@@ -179,7 +179,7 @@ module _ (P : Mapping → Type 0) (Q : ℕ → Type 0) where
           let one = in_ok (sound_at at image core (suc level) (t.last (suc level)) e (split_of at e.block)) t u (λ bytes. walk_each (walk_block at image core level) (node_entries bytes) (passed (suc level) e bytes t)) h in
           let all = blocks_back level (node_entries one.0) (passed (suc level) e one.0 t) u one.2 own in
           let q = (each_right (λ (x : TreeBlock). Q x.block) t.blocks (record { block = e.block; before = length t.mappings } ∷ []) all.1).0 in
-          in_own (read_at at image core from (suc level) (s.last (suc level)) e (split_of at e.block)) one.0 s (λ bytes. walk_each (walk_from at image core from level) (pruned from (node_entries bytes)) (passed_from from (suc level) e bytes s)) (read_or_none from (suc level) (t.last (suc level)) (s.last (suc level)) e (split_of at e.block) one.0 one.1) given (pruned_own level (from_own level) (node_entries one.0) (passed (suc level) e one.0 t) u (passed_from from (suc level) e one.0 s) one.2 own (passed_own from (suc level) e one.0 s q given))
+          in_own (read_at at image core from (suc level) (s.last (suc level)) e (split_of at e.block)) one.0 s (λ bytes. walk_each (walk_from at image core from level) (pruned (skipped_to from (s.last (suc level)) e.key) (node_entries bytes)) (passed_from from (suc level) e bytes s)) (read_or_none from (suc level) (t.last (suc level)) (s.last (suc level)) e (split_of at e.block) one.0 one.1) given (pruned_own (skipped_to from (s.last (suc level)) e.key) level (from_own level) (node_entries one.0) (passed (suc level) e one.0 t) u (passed_from from (suc level) e one.0 s) one.2 own (passed_own from (suc level) e one.0 s q given))
 
       ends_same : (r : Result Trail Trail) → (r >>= walk_tasks at image core from []) ≡ r
       unfolding walk_tasks
@@ -192,11 +192,12 @@ module _ (P : Mapping → Type 0) (Q : ℕ → Type 0) where
           let level = root_level (area_of core fork) - 1 in
           let es = pruned from (root_entries core fork) in
           let same = ap (λ xs. walk_tasks at image core from xs start) (sym (append-nil (tasks_of level es))) ∙ each_then at image core from level es [] start ∙ ends_same (walk_each (walk_from at image core from level) es start) in
-          subst (λ r. Own (trail_in r)) (sym same) (pruned_own level (from_own level) (root_entries core fork) start u start h own (tt, tt))
+          subst (λ r. Own (trail_in r)) (sym same) (pruned_own from level (from_own level) (root_entries core fork) start u start h own (tt, tt))
 
       stop_own : (fork : Fork) (stop : Stop) (rest : List Task) (t u : Trail) → walk_tree at image core fork ≡ Ok u → Own u → IsStopped (walk_all at image core fork from) (walk_tasks at image core from) from stop rest t → Own t
       stop_own fork Bad rest t u h own k = subst (λ r. Own (trail_in r)) k (all_own fork u h own)
       stop_own fork Whole rest t u h own k = subst (λ r. Own (trail_in r)) k (all_own fork u h own)
+      stop_own fork Fallen rest t u h own k = subst (λ r. Own (trail_in r)) k (all_own fork u h own)
       stop_own fork (Left task) rest t u h own k = tasks_back from (task ∷ rest) t (subst (λ r. Own (trail_in r)) k.0 (all_own fork u h own))
       stop_own fork (Long task) rest t u h own k = tasks_back from (task ∷ rest) t (subst (λ r. Own (trail_in r)) k (all_own fork u h own))
 

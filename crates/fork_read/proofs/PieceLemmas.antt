@@ -18,9 +18,10 @@ use Rattle.fork_read.specs.declared.fault.ReadFault.TheVariants.{Fork as IsFork,
 use Rattle.fork_read.specs.declared.seen.BlockRead.{BlockRead}
 use Rattle.fork_read.specs.declared.tasks.Task.{Task}
 use Rattle.fork_read.specs.declared.walk.Stop.{Stop}
-use Rattle.fork_read.specs.Answers.{IsJudgedFault, IsOutside, IsPiece, IsReached, IsStopped, judged, next_of}
+use Rattle.fork_read.specs.Answers.{IsJudgedFault, IsOutside, IsPiece, IsStopped, judged, next_of}
 use Rattle.fork_read.specs.Pieces.{Ends, IsAnswer, IsCore, IsForkAnswer, IsRefused, IsTreeAnswer, inode_bytes}
-use Rattle.fork_read.specs.Walk.{Reaches, block_of, first_tasks, walk_all, walk_tasks}
+use Rattle.fork_read.specs.Stuck.{HasCome}
+use Rattle.fork_read.specs.Walk.{block_of, first_tasks, walk_all, walk_tasks}
 
 pub numbers_same : (bs : List BlockRead) → map (λ b. b.block) (map block_of bs) ≡ map (λ b. b.block) bs
 numbers_same [] = refl
@@ -35,11 +36,11 @@ form_none at core fork h = first_none (form_fault core fork) (first_bad at fork 
     first_none (Some f) x h = cc
 
 module _ (at : Layout) (image : Image) (core : Core3) (fork : Fork) (from : ℕ) where
-  pub ends_of : (xs rest : List Task) (t u : Trail) (stop : Stop) → xs ≡ first_tasks core fork from ++ [] → t ≡ start → IsReached (Reaches at image core from xs t) stop rest u → IsStopped (walk_tasks at image core from xs t) (walk_tasks at image core from) from stop rest u → Ends at image core fork from stop u
+  pub ends_of : (xs rest : List Task) (t u : Trail) (stop : Stop) → xs ≡ first_tasks core fork from ++ [] → t ≡ start → HasCome at image core from xs t stop rest u → IsStopped (walk_tasks at image core from xs t) (walk_tasks at image core from) from stop rest u → Ends at image core fork from stop u
   unfolding walk_all
   ends_of xs rest t u stop e s r h = record {
     rest = rest;
-    reached = subst (λ ys. IsReached (Reaches at image core from ys start) stop rest u) (e ∙ append-nil (first_tasks core fork from)) (subst (λ v. IsReached (Reaches at image core from xs v) stop rest u) s r);
+    reached = subst (λ ys. HasCome at image core from ys start stop rest u) (e ∙ append-nil (first_tasks core fork from)) (subst (λ v. HasCome at image core from xs v stop rest u) s r);
     stopped = subst (λ ys. IsStopped (walk_tasks at image core from ys start) (walk_tasks at image core from) from stop rest u) (e ∙ append-nil (first_tasks core fork from)) (subst (λ v. IsStopped (walk_tasks at image core from xs v) (walk_tasks at image core from) from stop rest u) s h);
   }
 

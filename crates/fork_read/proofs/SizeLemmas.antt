@@ -10,17 +10,21 @@ use Rattle.dinode_core.specs.declared.inode.Core3.{Core3}
 use Rattle.dinode_core.specs.declared.mapping.Fork.{Fork}
 use Rattle.dinode_core.specs.declared.mapping.Fork.TheVariants.{Data, Attr}
 use Rattle.dinode_core.specs.declared.mapping.Mapping.{Mapping}
-use Rattle.dinode_core.specs.Inline.{inline_fault, inline_mappings, is_extents, mappings_in}
+use Rattle.dinode_core.specs.declared.mapping.ForkFault.{ForkFault}
+use Rattle.dinode_core.specs.declared.mapping.ForkFault.TheVariants as faults
+use Rattle.dinode_core.specs.ForkTree.{Trail}
+use Rattle.dinode_core.specs.Inline.{first_bad, or_else, inline_fault, inline_mappings, is_extents, mappings_in}
 use Rattle.dinode_core.specs.Shape.{area_of, count_of, format_of, is_absent, size_of}
 use Rattle.dinode_core.proofs.InlineLemmas.{room_enough}
 use Rattle.fork_read.specs.declared.fault.ForkPiece.{ForkPiece}
 use Rattle.fork_read.specs.declared.fault.ReadFault.{ReadFault}
 use Rattle.fork_read.specs.declared.tasks.Task.{Task}
 use Rattle.fork_read.specs.declared.walk.Stop.{Stop}
-use Rattle.fork_read.specs.declared.walk.Stop.TheVariants.{Bad, Whole, Left, Long}
-use Rattle.fork_read.specs.Answers.{IsPiece, MayLeave, last_clears, may_stop, next_of}
+use Rattle.fork_read.specs.declared.walk.Stop.TheVariants.{Bad, Whole, Left, Long, Fallen}
+use Rattle.fork_read.specs.Answers.{IsPiece, MayLeave, judged, last_clears, may_stop, next_of}
 use Rattle.fork_read.specs.Pieces.{IsSized}
 use Rattle.fork_read.proofs.PieceLemmas.{form_none}
+use Rattle.fork_read.proofs.WholeLemmas.{else_parts, some_none}
 
 filter_few : (p : Mapping → Bool) (ms : List Mapping) → length (filter p ms) ≤ length ms
 filter_few p [] = omega arith
@@ -44,22 +48,50 @@ last_from from key k ms (Some m) e h =
     let front = (and_parts (nat_le from m.offset && nat_lt m.offset key) (nat_le (m.offset + m.count) key) h).0 in
     filter_some (λ x. nat_le from x.offset) ms k m e (and_parts (nat_le from m.offset) (nat_lt m.offset key) front).0
 
-left_some : (from : ℕ) (ms : List Mapping) (tasks : List Task) (stop : Stop) (offset : ℕ) → MayLeave from ms tasks stop → next_of stop ≡ Some offset → 0 < length (filter (λ m. nat_le from m.offset) ms)
-unfolding may_stop
-left_some from ms tasks Bad offset h e = cc
-left_some from ms tasks Whole offset h e = cc
-left_some from ms tasks (Left task) offset h e =
-    last_from from task.key (length ms - 1) ms (slice_get ms (length ms - 1)) refl (and_parts (last_clears from task.key (slice_get ms (length ms - 1))) (list_all (λ t. nat_le task.key t.key) tasks) h).0
-left_some from ms tasks (Long task) offset h e = cc
+-- the last mapping is one of the piece, so that what comes next is behind the offset
+last_behind : (from key : ℕ) (o : Option Mapping) → last_clears from key o ≡ true → from < key
+last_behind from key None h = absurd (false≢true h)
+last_behind from key (Some m) h =
+    let front = (and_parts (nat_le from m.offset && nat_lt m.offset key) (nat_le (m.offset + m.count) key) h).0 in
+    let two = and_parts (nat_le from m.offset) (nat_lt m.offset key) front in
+    grind (arith, nat_tests, two.0, two.1)
 
-pub sized : (from : ℕ) (ms : List Mapping) (blocks : List ℕ) (tasks : List Task) (stop : Stop) (result : Result ForkPiece ReadFault) → length ms ≤ 512 → MayLeave from ms tasks stop → IfOk result (λ piece. IsPiece from ms blocks (next_of stop) piece) → IfOk result IsSized
-sized from ms blocks tasks stop (Ok piece) few leaves given =
-    let count = filter_few (λ m. nat_le from m.offset) ms in
-    record {
-      most = omega (arith, few, count, ap length given.mappings);
-      some = λ offset e. rw (given.mappings) (left_some from ms tasks stop offset leaves (sym given.next ∙ e));
-    }
-sized from ms blocks tasks stop (Err error) few leaves given = tt
+clears_at : (from : ℕ) (ms : List Mapping) (task : Task) (tasks : List Task) → may_stop from ms task tasks ≡ true → last_clears from task.key (slice_get ms (length ms - 1)) ≡ true
+unfolding may_stop
+clears_at from ms task tasks h = (and_parts (last_clears from task.key (slice_get ms (length ms - 1))) (list_all (λ t. nat_le task.key t.key) tasks) h).0
+
+key_some : (n m : ℕ) → ◌≡◌ {A = Option ℕ} (Some n) (Some m) → n ≡ m
+key_some n m e = cc
+
+-- a place where no piece can begin leaves no piece
+pub none_given : (o : Option ForkFault) → or_else o (Some faults.Order) ≡ None → ⊥
+none_given None h = some_none faults.Order h
+none_given (Some f) h = some_none f h
+
+module _ (at : Layout) (fork : Fork) (levels from : ℕ) (t : Trail) (blocks : List ℕ) (tasks : List Task) (piece : ForkPiece) where
+  by_way : (stop : Stop) → judged at fork levels stop t ≡ None → MayLeave from t.mappings tasks stop → IsPiece from t.mappings blocks (next_of stop) piece → IsSized from piece
+  by_way Bad good leaves given = absurd (some_none faults.Block (else_parts (first_bad at fork t.mappings) (Some faults.Block) good).1)
+  by_way Whole good leaves given = record {
+    most = omega (arith, leaves, ap length given.mappings);
+    some = λ offset e. absurd (none_some offset (sym given.next ∙ e));
+    behind = λ offset e. absurd (none_some offset (sym given.next ∙ e));
+  }
+    where
+      none_some : (n : ℕ) → ◌≡◌ {A = Option ℕ} None (Some n) → ⊥
+      none_some n h = cc
+  by_way (Left task) good leaves given =
+      let clears = clears_at from t.mappings task tasks leaves.1 in
+      record {
+        most = omega (arith, leaves.0, ap length given.mappings);
+        some = λ offset e. rw (given.mappings) (last_from from task.key (length t.mappings - 1) t.mappings (slice_get t.mappings (length t.mappings - 1)) refl clears);
+        behind = λ offset e. subst (λ n. from < n) (key_some task.key offset (sym given.next ∙ e)) (last_behind from task.key (slice_get t.mappings (length t.mappings - 1)) clears);
+      }
+  by_way (Long task) good leaves given = absurd (none_given (first_bad at fork t.mappings) good)
+  by_way Fallen good leaves given = absurd (none_given (first_bad at fork t.mappings) good)
+
+pub sized : (at : Layout) (fork : Fork) (levels from : ℕ) (t : Trail) (blocks : List ℕ) (tasks : List Task) (stop : Stop) (result : Result ForkPiece ReadFault) → IfOk result (λ _. judged at fork levels stop t ≡ None) → MayLeave from t.mappings tasks stop → IfOk result (λ piece. IsPiece from t.mappings blocks (next_of stop) piece) → IfOk result (IsSized from)
+sized at fork levels from t blocks tasks stop (Ok piece) good leaves given = by_way at fork levels from t blocks tasks piece stop good leaves given
+sized at fork levels from t blocks tasks stop (Err error) good leaves given = tt
 
 length_in : (n : ℕ) (bytes : List ℕ) → length (mappings_in n bytes) ≤ n
 unfolding mappings_in
@@ -85,13 +117,14 @@ inline_few at core fork good =
       ])
     ]
 
-pub inline_sized : (at : Layout) (core : Core3) (fork : Fork) (from : ℕ) (ms items : List Mapping) (blocks : List ℕ) (result : Result ForkPiece ReadFault) → inline_fault at core fork ≡ None → items ≡ inline_mappings core fork → ms ≡ items → IfOk result (λ piece. IsPiece from ms blocks None piece) → IfOk result IsSized
+pub inline_sized : (at : Layout) (core : Core3) (fork : Fork) (from : ℕ) (ms items : List Mapping) (blocks : List ℕ) (result : Result ForkPiece ReadFault) → inline_fault at core fork ≡ None → items ≡ inline_mappings core fork → ms ≡ items → IfOk result (λ piece. IsPiece from ms blocks None piece) → IfOk result (IsSized from)
 inline_sized at core fork from ms items blocks (Ok piece) good e f given =
     let few = inline_few at core fork good in
     let all = filter_few (λ m. nat_le from m.offset) ms in
     record {
       most = omega (arith, few, all, ap length given.mappings, ap length (f ∙ e));
       some = λ offset h. absurd (none_left offset (sym given.next ∙ h));
+      behind = λ offset h. absurd (none_left offset (sym given.next ∙ h));
     }
   where
     none_left : (n : ℕ) → ◌≡◌ {A = Option ℕ} None (Some n) → ⊥

@@ -14,11 +14,11 @@ use Rattle.dinode_core.specs.ForkTree.{Image, Trail, Last, Entry, ◌>>=◌, sou
 use Rattle.fork_read.specs.declared.fault.ForkPiece.{ForkPiece}
 use Rattle.fork_read.specs.declared.tasks.Task.{Task}
 use Rattle.fork_read.specs.declared.walk.Stop.{Stop}
-use Rattle.fork_read.specs.declared.walk.Stop.TheVariants.{Bad, Whole, Left, Long}
+use Rattle.fork_read.specs.declared.walk.Stop.TheVariants.{Bad, Whole, Left, Long, Fallen}
 use Rattle.fork_read.specs.Answers.{IsPiece, IsStopped, judged, next_of}
 use Rattle.fork_read.specs.Pieces.{IsForkPiece}
 use Rattle.fork_read.specs.Whole.{IsWhole}
-use Rattle.fork_read.specs.Walk.{is_resumed, is_sound_from, pruned, read_at, passed_from, walk_from, tasks_of, walk_tasks, walk_all}
+use Rattle.fork_read.specs.Walk.{is_resumed, is_sound_from, pruned, read_at, passed_from, skipped_to, walk_from, tasks_of, walk_tasks, walk_all}
 use Rattle.fork_read.proofs.PieceLemmas.{form_none}
 use Rattle.fork_read.proofs.WalkLemmas.{each_then}
 
@@ -28,19 +28,26 @@ nothing_below n = grind (arith, nat_tests)
 all_above : (n : ℕ) → nat_le 0 n ≡ true
 all_above n = grind (arith, nat_tests)
 
-pruned_same : (es : List Entry) → pruned 0 es ≡ es
+pub pruned_same : (es : List Entry) → pruned 0 es ≡ es
 unfolding pruned
 pruned_same [] = refl
 pruned_same (e ∷ []) = refl
 pruned_same (e ∷ next ∷ es) = rw (nothing_below next.key) refl
 
-passed_same : (level : ℕ) (e : Entry) (bytes : List ℕ) (t : Trail) → passed_from 0 level e bytes t ≡ passed level e bytes t
-unfolding passed_from
-passed_same level e bytes t = rw (nothing_below e.key) refl
-
-resumed_same : (last : Option Last) (key : ℕ) → is_resumed 0 last key ≡ false
+pub resumed_same : (last : Option Last) (key : ℕ) → is_resumed 0 last key ≡ false
 resumed_same None key = nothing_below key
 resumed_same (Some last) key = refl
+
+passed_same : (level : ℕ) (e : Entry) (bytes : List ℕ) (t : Trail) → passed_from 0 level e bytes t ≡ passed level e bytes t
+unfolding passed_from
+passed_same level e bytes t = rw (resumed_same (t.last level) e.key) refl
+
+pub skipped_same : (last : Option Last) (key : ℕ) → skipped_to 0 last key ≡ 0
+skipped_same last key = rw (resumed_same last key) refl
+
+-- from 0 on no entry of any block is passed by
+pub entries_same : (last : Option Last) (key : ℕ) (es : List Entry) → pruned (skipped_to 0 last key) es ≡ es
+entries_same last key es = ap (λ n. pruned n es) (skipped_same last key) ∙ pruned_same es
 
 module _ (at : Layout) (image : Image) (core : Core3) where
   read_same : (level : ℕ) (last : Option Last) (e : Entry) (place : Option (ℕ × ℕ)) → read_at at image core 0 level last e place ≡ sound_at at image core level last e place
@@ -53,7 +60,7 @@ module _ (at : Layout) (image : Image) (core : Core3) where
   walk_same zero t e =
       λ i. walk_in (read_same zero (t.last zero) e (split_of at e.block) i) t (λ bytes. Ok (with_mappings (leaf_mappings bytes) (passed_same zero e bytes t i)))
   walk_same (suc level) t e =
-      λ i. walk_in (read_same (suc level) (t.last (suc level)) e (split_of at e.block) i) t (λ bytes. walk_each (λ u x. walk_same level u x i) (pruned_same (node_entries bytes) i) (passed_same (suc level) e bytes t i))
+      λ i. walk_in (read_same (suc level) (t.last (suc level)) e (split_of at e.block) i) t (λ bytes. walk_each (λ u x. walk_same level u x i) (entries_same (t.last (suc level)) e.key (node_entries bytes) i) (passed_same (suc level) e bytes t i))
 
   ends_ok : (r : Result Trail Trail) (f : Trail → Result Trail Trail) → ((t : Trail) → f t ≡ Ok t) → (r >>= f) ≡ r
   ends_ok (Ok t) f h = h t
@@ -74,7 +81,7 @@ module _ (at : Layout) (image : Image) (core : Core3) where
       ∙ ends_ok (walk_each (walk_from at image core 0 level) (root_entries core fork) start) (walk_tasks at image core 0 []) no_tasks
       ∙ (λ i. walk_each (λ u x. walk_same level u x i) (root_entries core fork) start)
 
-all_kept : (ms : List Mapping) → filter (λ m. nat_le 0 m.offset) ms ≡ ms
+pub all_kept : (ms : List Mapping) → filter (λ m. nat_le 0 m.offset) ms ≡ ms
 all_kept [] = refl
 all_kept (m ∷ ms) = rw (all_above m.offset) (ap (λ xs. m ∷ xs) (all_kept ms))
 
@@ -101,6 +108,7 @@ module _ (at : Layout) (image : Image) (core : Core3) (fork : Fork) where
   by_stop Bad rest t piece form tree h good none given = absurd (some_none faults.Block (else_parts (first_bad at fork t.mappings) (Some faults.Block) good).1)
   by_stop Whole rest t piece form tree h good none given = tree_whole t piece form tree (sym (tree_same at image core fork) ∙ h) good given
   by_stop (Left task) rest t piece form tree h good none given = absurd (key_none task.key (sym given.next ∙ none))
+  by_stop Fallen rest t piece form tree h good none given = absurd (some_none faults.Order (else_parts (first_bad at fork t.mappings) (Some faults.Order) good).1)
   by_stop (Long task) rest t piece form tree h good none given = absurd (some_none faults.Order (else_parts (first_bad at fork t.mappings) (Some faults.Order) good).1)
 
   inline_whole : (piece : ForkPiece) → inline_fault at core fork ≡ None → is_tree core fork ≡ false → IsPiece 0 (inline_mappings core fork) [] None piece → IsWhole at image core fork piece

@@ -1,5 +1,6 @@
 pub mod Answers
 pub mod Parts
 pub mod Pieces
+pub mod Stuck
 pub mod Walk
 pub mod Whole

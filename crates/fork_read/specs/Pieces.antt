@@ -15,13 +15,15 @@ use Rattle.fork_read.specs.declared.fault.ReadFault.{ReadFault}
 use Rattle.fork_read.specs.declared.fault.ReadFault.TheVariants.{Fork as IsFork, Core as IsCoreFault, Failed, Memory}
 use Rattle.fork_read.specs.declared.tasks.Task.{Task}
 use Rattle.fork_read.specs.declared.walk.Stop.{Stop}
-use Rattle.fork_read.specs.Answers.{IsPiece, IsReached, IsStopped, judged, next_of}
-use Rattle.fork_read.specs.Walk.{Reaches, first_tasks, walk_all, walk_tasks}
+use Rattle.fork_read.specs.Answers.{IsPiece, IsStopped, judged, next_of}
+use Rattle.fork_read.specs.Stuck.{HasCome}
+use Rattle.fork_read.specs.Walk.{first_tasks, walk_all, walk_tasks}
 
--- at most 512 mappings, and one at least where something is left
-pub record IsSized (piece : ForkPiece) : Type 0 where
+-- at most 512 mappings; and where something is left one at least, and the next one is behind the offset
+pub record IsSized (from : ℕ) (piece : ForkPiece) : Type 0 where
   pub most : length piece.mappings.items ≤ 512
   pub some : (offset : ℕ) → piece.next ≡ Some offset → 0 < length piece.mappings.items
+  pub behind : (offset : ℕ) → piece.next ≡ Some offset → from < offset
 
 -- the 512 bytes of an inode in its block
 abbrev pub slot_bytes : List ℕ → ℕ → List ℕ
@@ -46,7 +48,7 @@ IsCore bytes ino uuid (Err Memory) = ⊥
 -- the walk of the btree from the offset on ends so, with this trail
 pub record Ends (at : Layout) (image : Image) (core : Core3) (fork : Fork) (from : ℕ) (stop : Stop) (trail : Trail) : Type 0 where
   pub rest : List Task
-  pub reached : IsReached (Reaches at image core from (first_tasks core fork from) start) stop rest trail
+  pub reached : HasCome at image core from (first_tasks core fork from) start stop rest trail
   pub stopped : IsStopped (walk_all at image core fork from) (walk_tasks at image core from) from stop rest trail
 
 -- the fault that the walk of a btree from the offset on meets first

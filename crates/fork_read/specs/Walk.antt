@@ -1,5 +1,5 @@
 -- The walk of a fork's btree from an offset on, as far as it has come.
-use Rattle.std.specs.Prelude.{◌≡◌, ℕ, zero, suc, ◌-◌, ◌==◌, nat_lt, Bool, false, ◌&&◌, ◌||◌, if◌then◌else◌, List, [], ◌∷◌, ◌++◌, length, map, get_or, Option, Some, None, Result, Ok}
+use Rattle.std.specs.Prelude.{◌≡◌, ℕ, zero, suc, ◌-◌, ◌==◌, nat_lt, Bool, true, false, ◌&&◌, ◌||◌, if◌then◌else◌, List, [], ◌∷◌, ◌++◌, length, map, get_or, Option, Some, None, Result, Ok}
 use Rattle.byte_fields.specs.Fields.{field}
 use Rattle.geom.specs.Layout.{Layout, device_block_of, split_of}
 use Rattle.dinode_core.specs.declared.inode.Core3.{Core3}
@@ -37,11 +37,15 @@ read_at at image core from level last entry (Some place) =
     let bytes = image (device_block_of at place.0 place.1) in
     if is_sound_from at core from level last entry place bytes then Some bytes else None
 
--- the trail after a block of this level; it is given where its first mapping isn't one of an earlier piece
+-- of a block that an earlier piece has read, the entries are looked at from the offset on; of each other one all
+abbrev pub skipped_to : ℕ → Option Last → ℕ → ℕ
+skipped_to from last key = if is_resumed from last key then from else 0
+
+-- the trail after a block of this level; it is given where no earlier piece has read it
 unfoldable pub passed_from : ℕ → ℕ → Entry → List ℕ → Trail → Trail
 passed_from from level entry bytes trail = record {
   mappings = trail.mappings;
-  blocks = if nat_lt entry.key from then trail.blocks else trail.blocks ++ record { block = entry.block; before = length trail.mappings } ∷ [];
+  blocks = if is_resumed from (trail.last level) entry.key then trail.blocks else trail.blocks ++ record { block = entry.block; before = length trail.mappings } ∷ [];
   last = λ l. if l == level then Some (record { block = entry.block; right = field 8 bytes 16 }) else trail.last l;
 }
 
@@ -52,7 +56,7 @@ walk_from at image core from zero trail entry =
     Ok (with_mappings (leaf_mappings bytes) (passed_from from zero entry bytes trail)))
 walk_from at image core from (suc level) trail entry =
     walk_in (read_at at image core from (suc level) (trail.last (suc level)) entry (split_of at entry.block)) trail (λ bytes.
-    walk_each (walk_from at image core from level) (pruned from (node_entries bytes)) (passed_from from (suc level) entry bytes trail))
+    walk_each (walk_from at image core from level) (pruned (skipped_to from (trail.last (suc level)) entry.key) (node_entries bytes)) (passed_from from (suc level) entry bytes trail))
 
 abbrev pub entry_of : Task → Entry
 entry_of task = record { key = task.key; block = task.block }
@@ -71,8 +75,8 @@ first_tasks core fork from = tasks_of (root_level (area_of core fork) - 1) (prun
 
 -- a node's subtrees come in its own place
 abbrev pub below_of : ℕ → ℕ → List ℕ → List Task
-below_of from zero bytes = []
-below_of from (suc level) bytes = tasks_of level (pruned from (node_entries bytes))
+below_of skipped zero bytes = []
+below_of skipped (suc level) bytes = tasks_of level (pruned skipped (node_entries bytes))
 
 -- a leaf's mappings come behind those that were met
 abbrev pub taken_in : ℕ → ℕ → Entry → List ℕ → Trail → Trail
@@ -83,8 +87,14 @@ taken_in from (suc level) entry bytes trail = passed_from from (suc level) entry
 pub record IsRead (at : Layout) (image : Image) (core : Core3) (from : ℕ) (task : Task) (rest : List Task) (trail : Trail) (left : List Task) (after : Trail) : Type 0 where
   pub bytes : List ℕ
   pub found : read_at at image core from task.level (trail.last task.level) (entry_of task) (split_of at task.block) ≡ Some bytes
-  pub tasks : left ≡ below_of from task.level bytes ++ rest
+  pub tasks : left ≡ below_of (skipped_to from (trail.last task.level) task.key) task.level bytes ++ rest
   pub taken : after ≡ taken_in from task.level (entry_of task) bytes trail
+
+-- the block of the first subtree is read so, or it is bad and nothing changes
+abbrev pub HasStepped : Layout → Image → Core3 → ℕ → Task → List Task → Trail → Bool → List Task → Trail → Type 0
+HasStepped at image core from task rest trail true left after = IsRead at image core from task rest trail left after
+HasStepped at image core from task rest trail false left after =
+    (read_at at image core from task.level (trail.last task.level) (entry_of task) (split_of at task.block) ≡ None) × (after ≡ trail)
 
 -- one block more was read
 pub record IsNext (at : Layout) (image : Image) (core : Core3) (from : ℕ) (Before : List Task → Trail → Type 0) (left : List Task) (after : Trail) : Type 0 where

@@ -47,7 +47,7 @@ fn stop_fault_of(seen: &Seen, levels: u8, stop: &Stop) -> Option<ForkFault>
             }
         }
         Stop::Left(_) => None,
-        Stop::Long(_) => Some(ForkFault::Order),
+        Stop::Long(_) | Stop::Fallen => Some(ForkFault::Order),
     }
 }
 
@@ -66,7 +66,7 @@ fn next_after(stop: &Stop) -> Option<u64>
     ensures { result ≡ next_of stop.now }
 {
     match stop {
-        Stop::Bad | Stop::Whole | Stop::Long(_) => None,
+        Stop::Bad | Stop::Whole | Stop::Long(_) | Stop::Fallen => None,
         Stop::Left(task) => Some(task.key),
     }
 }

@@ -18,7 +18,7 @@ use crate::inode::load_core;
 use crate::judge::{answer, piece_of};
 use crate::seen::fresh_seen;
 use crate::tasks::{Table, Task, push_entries};
-use crate::walk::walk_on;
+use crate::walk::walk_piece;
 use blk_cache::BlkCache;
 use blk_device::Device;
 use byte_fields::{Steps, get_u16};
@@ -76,7 +76,7 @@ fn tree_piece<D: Device, L: Ledger>(
     requires tree { is_tree core.now fork ≡ true }
     requires room { geo.now.dblocks ≤ D.blocks dev.old Image }
     ensures exact { (c : Contents) → D.content dev.old ≡ Some c → IsTreeAnswer (layout geo.now) (c Image) core.now fork from result }
-    ensures size { IfOk result IsSized }
+    ensures size { IfOk result (IsSized from) }
     ensures reading { OnlyRead D.Device dev.old dev.new steps.old steps.new }
     ensures cause { HasCauseBy is_failed (D.faults dev.old) (D.faults dev.new) result }
     ensures few { steps.new.reads ≤ steps.old.reads + 128 }
@@ -89,7 +89,7 @@ fn tree_piece<D: Device, L: Ledger>(
         Ok(level) => level,
         Err(_) => return Err(ReadFault::Memory),
     };
-    let stop = match walk_on(dev, geo, core, from, &mut seen, &mut tasks, steps) {
+    let stop = match walk_piece(dev, geo, core, from, &mut seen, &mut tasks, steps) {
         Ok(stop) => stop,
         Err(fault) => return Err(fault),
     };
@@ -118,7 +118,7 @@ fn piece_in<D: Device, L: Ledger>(
 ) -> Result<ForkPiece, ReadFault>
     requires { geo.now.dblocks ≤ D.blocks dev.old Image }
     ensures exact { (c : Contents) → D.content dev.old ≡ Some c → IsForkAnswer (layout geo.now) (c Image) core.now fork from result }
-    ensures size { IfOk result IsSized }
+    ensures size { IfOk result (IsSized from) }
     ensures reading { OnlyRead D.Device dev.old dev.new steps.old steps.new }
     ensures cause { HasCauseBy is_failed (D.faults dev.old) (D.faults dev.new) result }
     ensures few { steps.new.reads ≤ steps.old.reads + 128 }
@@ -153,7 +153,7 @@ pub fn fork_piece<D: Device, L: Ledger>(
     requires room { geo.now.dblocks ≤ D.blocks dev.old Image }
     requires agreed { AgreesTold cache.old (D.content dev.old) }
     ensures exact { (c : Contents) → D.content dev.old ≡ Some c → IsAnswer (layout geo.now) (c Image) ino fork from result }
-    ensures size { IfOk result IsSized }
+    ensures size { IfOk result (IsSized from) }
     ensures reading { OnlyRead D.Device dev.old dev.new steps.old steps.new }
     ensures cause { HasCauseBy is_failed (D.faults dev.old) (D.faults dev.new) result }
     ensures agrees { AgreesTold cache.new (D.content dev.new) }

@@ -1,6 +1,7 @@
-ghost use Rattle.std.specs.Prelude.{◌≡◌, ◌<◌, ◌≤◌, ◌+◌, ◌++◌, ◌==◌, ℕ, [], ◌∷◌, length, map, nat_lt, if◌then◌else◌, OnOk};
+ghost use Rattle.std.specs.Prelude.{◌≡◌, ◌<◌, ◌≤◌, ◌+◌, ◌++◌, ◌==◌, ℕ, [], ◌∷◌, length, map, if◌then◌else◌, OnOk};
 ghost use Rattle.dinode_core.specs.ForkTree.{is_beside, leaf_mappings, numrecs, ends, start, with_mappings};
-ghost use Rattle.fork_read.specs.Walk.{block_of, entry_of, last_or, is_resumed, last_in, passed_from, trail_of};
+ghost use Rattle.fork_read.specs.Answers.{given_of};
+ghost use Rattle.fork_read.specs.Walk.{block_of, entry_of, last_or, is_resumed, last_in, passed_from, skipped_to, trail_of};
 
 use crate::fault::ReadFault;
 use crate::tasks::Task;
@@ -74,13 +75,27 @@ pub fn is_beside_last(seen: &Seen, task: &Task, block: &Block) -> bool
     }
 }
 
-// Gives a block of the btree, where its first mapping isn't one of an earlier piece.
+/// The offset up to which subtrees of a block are passed by: of each block but those that an earlier piece
+/// has read, none is.
+pub fn skipped_at(seen: &Seen, task: &Task, from: u64) -> u64
+    requires { task.now.level < 9 }
+    ensures { result ≡ skipped_to from (last_in seen.now.lasts task.now.level) task.now.key }
+{
+    if is_resumed_at(seen, task, from) {
+        from
+    } else {
+        0
+    }
+}
+
+// Gives a block of the btree, where no earlier piece has read it.
 fn give_block(seen: &mut Seen, task: &Task, from: u64) -> Result<(), ReadFault>
-    ensures blocks { OnOk result (map block_of seen.new.blocks.items ≡ (if nat_lt task.now.key from then map block_of seen.old.blocks.items else map block_of seen.old.blocks.items ++ record { block = task.now.block; before = length seen.old.mappings.items } ∷ [])) }
+    requires { task.now.level < 9 }
+    ensures blocks { OnOk result (map block_of seen.new.blocks.items ≡ (if is_resumed from (last_in seen.old.lasts task.now.level) task.now.key then map block_of seen.old.blocks.items else map block_of seen.old.blocks.items ++ record { block = task.now.block; before = length seen.old.mappings.items } ∷ [])) }
     ensures mappings { seen.new.mappings.items ≡ seen.old.mappings.items }
     ensures lasts { seen.new.lasts ≡ seen.old.lasts }
 {
-    if task.key < from {
+    if is_resumed_at(seen, task, from) {
         return Ok(());
     }
     let read = BlockRead {
@@ -121,7 +136,7 @@ pub fn note_block(seen: &mut Seen, task: &Task, from: u64, block: &Block) -> Res
 pub fn take_leaf(seen: &mut Seen, block: &Block) -> Result<(), ReadFault>
     requires { numrecs block.now.bytes ≤ 251 }
     ensures trail { OnOk result (trail_of seen.new ≡ with_mappings (leaf_mappings block.now.bytes) (trail_of seen.old)) }
-    ensures few { OnOk result (length seen.new.mappings.items ≤ length seen.old.mappings.items + 251) }
+    ensures few { OnOk result ((from : ℕ) → given_of from seen.new.mappings.items ≤ given_of from seen.old.mappings.items + 251) }
 {
     let (_, area) = block.bytes.split_at(72);
     let mut rest = area;

@@ -1,4 +1,4 @@
-ghost use Rattle.std.specs.Prelude.{◌≡◌, ◌+◌, ◌*◌, ◌-◌, ◌<◌, ◌≤◌, ◌∷◌, ℕ, nat_le, length, true, false, Some, None, Ok, Err, IfOk, IfErr, IfSome, OnOk};
+ghost use Rattle.std.specs.Prelude.{◌≡◌, ◌+◌, ◌*◌, ◌-◌, ◌<◌, ◌≤◌, ◌∷◌, ◌&&◌, ◌||◌, ℕ, nat_le, nat_lt, length, true, false, Some, None, Ok, Err, IfOk, IfErr, IfSome, OnOk};
 ghost use Rattle.blk_device.specs.Causes.{HasCauseBy};
 ghost use Rattle.blk_device.specs.Contents.{Contents};
 ghost use Rattle.blk_device.specs.Reading.{OnlyRead};
@@ -6,13 +6,14 @@ ghost use Rattle.blk_device.specs.declared.device.Region.TheVariants.{Image};
 ghost use Rattle.geom.specs.Layout.{split_of};
 ghost use Rattle.geom.specs.Places.{layout};
 ghost use Rattle.dinode_core.specs.ForkTree.{numrecs};
-ghost use Rattle.fork_read.specs.Walk.{IsRead, Reaches, entry_of, last_in, passed_from, read_at, trail_of, walk_tasks};
+ghost use Rattle.fork_read.specs.Walk.{HasStepped, entry_of, last_in, passed_from, read_at, trail_of, walk_tasks};
 ghost use Rattle.std.specs.List.{slice_get, list_all};
-ghost use Rattle.fork_read.specs.Answers.{AllLow, bytes_of, HasRead, IfRead, MayLeave, is_failed, IsOutside, IsReached, IsStopped, last_clears, may_stop};
+ghost use Rattle.fork_read.specs.Answers.{AllLow, bytes_of, end_before, first_level, given_of, HasRead, IfRead, MayLeave, is_failed, IsLow, IsOutside, IsStopped, last_clears, may_stop, stuck_at};
+ghost use Rattle.fork_read.specs.Stuck.{HasCome, HasGone, HasSought};
 
 use crate::block::is_sound_at;
 use crate::fault::ReadFault;
-use crate::seen::{Seen, note_block, take_leaf};
+use crate::seen::{Seen, note_block, skipped_at, take_leaf};
 use crate::tasks::{Table, Task, push_entries};
 use blk_device::{Device, Region};
 use byte_fields::{Block, Steps, get_u16};
@@ -21,23 +22,27 @@ use geom::Geometry;
 use std::collections::VecDeque;
 use std::sync::ledger::Ledger;
 
-// The most blocks that a piece reads of a btree.
-const MOST_BLOCKS: usize = 128;
+// The most blocks of a btree that are read until a piece ends.
+const MOST_BLOCKS: usize = 100;
 
-// With so many mappings a piece may end, and with more than that no further leaf is read: so at most
-// 512 are read.
-const ENOUGH: usize = 10;
+// With so many blocks a piece ends at the next leaf's end.
+const MANY_BLOCKS: usize = 90;
 
-const MOST_BEFORE_A_LEAF: usize = 261;
+// The most blocks that are read behind a place where no piece can begin.
+const MOST_BEHIND: usize = 28;
+
+// With more mappings of its own a piece ends, since with one leaf more it could have more than 512.
+const ENOUGH: usize = 261;
 
 /// Where a walk ended: at a bad block, at its end, before a subtree with which the next piece begins,
-/// or before one where no piece can begin.
+/// before one where no piece can begin, or at its end behind such a one.
 #[derive(Clone, Copy, Drop)]
 pub enum Stop {
     Bad,
     Whole,
     Left(Task),
     Long(Task),
+    Fallen,
 }
 
 // Reads a block of the image from the device itself.
@@ -75,6 +80,7 @@ fn open_task<D: Device, L: Ledger>(
     requires low { task.now.level < 9 }
     ensures found { IfOk result (λ found. (c : Contents) → D.content dev.old ≡ Some c → read_at (layout geo.now) (c Image) core.now from task.now.level (last_in seen.now.lasts task.now.level) (entry_of task.now) (split_of (layout geo.now) task.now.block) ≡ bytes_of found) }
     ensures most { IfOk result (λ found. IfSome found (λ block. numrecs block.bytes ≤ 251)) }
+    ensures some { IfOk result (λ found. IfSome found (λ block. 1 ≤ numrecs block.bytes)) }
     ensures outside { IfErr result IsOutside }
     ensures reading { OnlyRead D.Device dev.old dev.new steps.old steps.new }
     ensures cause { HasCauseBy is_failed (D.faults dev.old) (D.faults dev.new) result }
@@ -110,10 +116,12 @@ fn read_task<D: Device, L: Ledger>(
     requires low { task.now.level < 9 }
     requires all_low { AllLow tasks.old.items }
     ensures read { IfOk result (λ read. (c : Contents) → D.content dev.old ≡ Some c → HasRead (walk_tasks (layout geo.now) (c Image) core.now from (task.now ∷ tasks.old.items) (trail_of seen.old)) read (walk_tasks (layout geo.now) (c Image) core.now from tasks.new.items (trail_of seen.new)) (trail_of seen.new)) }
-    ensures step { IfOk result (λ read. (c : Contents) → D.content dev.old ≡ Some c → IfRead read (IsRead (layout geo.now) (c Image) core.now from task.now tasks.old.items (trail_of seen.old) tasks.new.items (trail_of seen.new))) }
+    ensures step { IfOk result (λ read. (c : Contents) → D.content dev.old ≡ Some c → HasStepped (layout geo.now) (c Image) core.now from task.now tasks.old.items (trail_of seen.old) read tasks.new.items (trail_of seen.new)) }
     ensures low { OnOk result (AllLow tasks.new.items) }
+    ensures stays { OnOk result (0 < task.now.level → seen.new.mappings.items ≡ seen.old.mappings.items) }
+    ensures falls { IfOk result (λ read. IfRead read (0 < task.now.level → first_level tasks.new.items < task.now.level)) }
     ensures outside { IfErr result IsOutside }
-    ensures grows { OnOk result (length seen.new.mappings.items ≤ length seen.old.mappings.items + 251) }
+    ensures grows { OnOk result ((o : ℕ) → given_of o seen.new.mappings.items ≤ given_of o seen.old.mappings.items + 251) }
     ensures reading { OnlyRead D.Device dev.old dev.new steps.old steps.new }
     ensures cause { HasCauseBy is_failed (D.faults dev.old) (D.faults dev.new) result }
     ensures few { steps.new.reads ≤ steps.old.reads + 1 }
@@ -125,6 +133,7 @@ fn read_task<D: Device, L: Ledger>(
     let Some(block) = found else {
         return Ok(false);
     };
+    let skipped = skipped_at(seen, task, from);
     match note_block(seen, task, from, &block) {
         Ok(()) => {}
         Err(_) => return Err(ReadFault::Memory),
@@ -140,7 +149,7 @@ fn read_task<D: Device, L: Ledger>(
         pointers: 72 + 8 * 251,
         count: get_u16(&block.bytes, 6) as usize,
     };
-    match push_entries(&block.bytes, &table, task.level - 1, from, tasks) {
+    match push_entries(&block.bytes, &table, task.level - 1, skipped, tasks) {
         Ok(()) => Ok(true),
         Err(_) => Err(ReadFault::Memory),
     }
@@ -171,8 +180,37 @@ fn may_stop_at(seen: &Seen, tasks: &VecDeque<Task>, task: &Task, from: u64) -> b
     does_last_clear(seen.mappings.as_slice(), from, task.key) && are_behind(tasks, task.key)
 }
 
-/// Walks on, until a piece may end.
-pub fn walk_on<D: Device, L: Ledger>(
+// Ends a piece before this subtree, where it may end there.
+fn end_at(seen: &Seen, tasks: &VecDeque<Task>, task: Task, from: u64) -> Stop
+    ensures { result ≡ end_before from seen.now.mappings.items task tasks.now.items }
+{
+    if may_stop_at(seen, tasks, &task, from) {
+        Stop::Left(task)
+    } else {
+        Stop::Long(task)
+    }
+}
+
+// How many mappings begin at the offset or behind it.
+fn given_in(mappings: &[Mapping], from: u64) -> usize
+    ensures { result ≡ given_of from mappings.now }
+{
+    mappings
+        .iter()
+        .copied()
+        .filter(|m| from <= m.offset)
+        .count()
+}
+
+// Whether a piece ends at a leaf's end, after so many blocks and with these mappings.
+fn has_enough(seen: &Seen, from: u64, is_border: bool, blocks: usize) -> bool
+    ensures { result ≡ (is_border && (nat_le 90 blocks || nat_lt 261 (given_of from seen.now.mappings.items))) }
+{
+    is_border && (MANY_BLOCKS <= blocks || given_in(seen.mappings.as_slice(), from) > ENOUGH)
+}
+
+// Walks on until a piece has enough, and ends there where it may.
+fn walk_on<D: Device, L: Ledger>(
     dev: &mut D,
     geo: &Geometry,
     core: &Core3,
@@ -183,27 +221,25 @@ pub fn walk_on<D: Device, L: Ledger>(
 ) -> Result<Stop, ReadFault>
     requires room { geo.now.dblocks ≤ D.blocks dev.old Image }
     requires low { AllLow tasks.old.items }
-    requires fresh { length seen.old.mappings.items ≤ 512 }
+    requires fresh { given_of from seen.old.mappings.items ≤ 261 }
     ensures stopped { IfOk result (λ stop. (c : Contents) → D.content dev.old ≡ Some c → IsStopped (walk_tasks (layout geo.now) (c Image) core.now from tasks.old.items (trail_of seen.old)) (walk_tasks (layout geo.now) (c Image) core.now from) from stop tasks.new.items (trail_of seen.new)) }
-    ensures reached { IfOk result (λ stop. (c : Contents) → D.content dev.old ≡ Some c → IsReached (Reaches (layout geo.now) (c Image) core.now from tasks.old.items (trail_of seen.old)) stop tasks.new.items (trail_of seen.new)) }
+    ensures reached { IfOk result (λ stop. (c : Contents) → D.content dev.old ≡ Some c → HasGone (layout geo.now) (c Image) core.now from tasks.old.items (trail_of seen.old) stop tasks.new.items (trail_of seen.new)) }
     ensures leaves { IfOk result (MayLeave from seen.new.mappings.items tasks.new.items) }
-    ensures most { OnOk result (length seen.new.mappings.items ≤ 512) }
+    ensures low { IfOk result (IsLow tasks.new.items) }
     ensures outside { IfErr result IsOutside }
     ensures reading { OnlyRead D.Device dev.old dev.new steps.old steps.new }
     ensures cause { HasCauseBy is_failed (D.faults dev.old) (D.faults dev.new) result }
-    ensures few { steps.new.reads ≤ steps.old.reads + 128 }
+    ensures few { steps.new.reads ≤ steps.old.reads + 100 }
 {
+    let mut is_border = false;
     for i in 0..MOST_BLOCKS {
-        let _read = i;
         let Some(task) = tasks.pop_front() else {
             return Ok(Stop::Whole);
         };
-        if seen.mappings.len() > ENOUGH && may_stop_at(seen, tasks, &task, from) {
-            return Ok(Stop::Left(task));
+        if has_enough(seen, from, is_border, i) {
+            return Ok(end_at(seen, tasks, task, from));
         }
-        if seen.mappings.len() > MOST_BEFORE_A_LEAF {
-            return Ok(Stop::Long(task));
-        }
+        is_border = task.level == 0;
         let read = match read_task(dev, geo, core, from, &task, seen, tasks, steps) {
             Ok(read) => read,
             Err(fault) => return Err(fault),
@@ -212,8 +248,87 @@ pub fn walk_on<D: Device, L: Ledger>(
             return Ok(Stop::Bad);
         }
     }
-    match tasks.pop_front() {
-        None => Ok(Stop::Whole),
-        Some(task) => Ok(Stop::Long(task)),
+    // No way down has more than nine blocks, so that a leaf's end came before.
+    unreachable!()
+}
+
+// Walks on from a subtree where no piece can begin, to find the fault that lies behind.
+fn walk_behind<D: Device, L: Ledger>(
+    dev: &mut D,
+    geo: &Geometry,
+    core: &Core3,
+    from: u64,
+    first: Task,
+    seen: &mut Seen,
+    tasks: &mut VecDeque<Task>,
+    steps: &mut Steps<L>,
+) -> Result<Stop, ReadFault>
+    requires room { geo.now.dblocks ≤ D.blocks dev.old Image }
+    requires first { first.level < 9 }
+    requires low { AllLow tasks.old.items }
+    ensures stopped { IfOk result (λ stop. (c : Contents) → D.content dev.old ≡ Some c → IsStopped (walk_tasks (layout geo.now) (c Image) core.now from (first ∷ tasks.old.items) (trail_of seen.old)) (walk_tasks (layout geo.now) (c Image) core.now from) from stop tasks.new.items (trail_of seen.new)) }
+    ensures reached { IfOk result (λ stop. (c : Contents) → D.content dev.old ≡ Some c → HasSought (layout geo.now) (c Image) core.now from (first ∷ tasks.old.items) (trail_of seen.old) stop tasks.new.items (trail_of seen.new)) }
+    ensures leaves { IfOk result (MayLeave from seen.new.mappings.items tasks.new.items) }
+    ensures outside { IfErr result IsOutside }
+    ensures reading { OnlyRead D.Device dev.old dev.new steps.old steps.new }
+    ensures cause { HasCauseBy is_failed (D.faults dev.old) (D.faults dev.new) result }
+    ensures few { steps.new.reads ≤ steps.old.reads + 28 }
+{
+    let mut task = first;
+    for i in 0..MOST_BEHIND {
+        let _read = i;
+        let read = match read_task(dev, geo, core, from, &task, seen, tasks, steps) {
+            Ok(read) => read,
+            Err(fault) => return Err(fault),
+        };
+        if !read {
+            return Ok(Stop::Bad);
+        }
+        match tasks.pop_front() {
+            None => return Ok(Stop::Fallen),
+            Some(next) => task = next,
+        }
+    }
+    Ok(Stop::Long(task))
+}
+
+// The subtree where no piece can begin.
+fn stuck_at(stop: &Stop) -> Option<Task>
+    ensures { result ≡ stuck_at stop.now }
+{
+    match stop {
+        Stop::Long(task) => Some(*task),
+        Stop::Bad | Stop::Whole | Stop::Left(_) | Stop::Fallen => None,
+    }
+}
+
+/// Walks on, until a piece may end, or the fork's fault is found.
+pub fn walk_piece<D: Device, L: Ledger>(
+    dev: &mut D,
+    geo: &Geometry,
+    core: &Core3,
+    from: u64,
+    seen: &mut Seen,
+    tasks: &mut VecDeque<Task>,
+    steps: &mut Steps<L>,
+) -> Result<Stop, ReadFault>
+    requires room { geo.now.dblocks ≤ D.blocks dev.old Image }
+    requires low { AllLow tasks.old.items }
+    requires fresh { given_of from seen.old.mappings.items ≤ 261 }
+    ensures stopped { IfOk result (λ stop. (c : Contents) → D.content dev.old ≡ Some c → IsStopped (walk_tasks (layout geo.now) (c Image) core.now from tasks.old.items (trail_of seen.old)) (walk_tasks (layout geo.now) (c Image) core.now from) from stop tasks.new.items (trail_of seen.new)) }
+    ensures reached { IfOk result (λ stop. (c : Contents) → D.content dev.old ≡ Some c → HasCome (layout geo.now) (c Image) core.now from tasks.old.items (trail_of seen.old) stop tasks.new.items (trail_of seen.new)) }
+    ensures leaves { IfOk result (MayLeave from seen.new.mappings.items tasks.new.items) }
+    ensures outside { IfErr result IsOutside }
+    ensures reading { OnlyRead D.Device dev.old dev.new steps.old steps.new }
+    ensures cause { HasCauseBy is_failed (D.faults dev.old) (D.faults dev.new) result }
+    ensures few { steps.new.reads ≤ steps.old.reads + 128 }
+{
+    let stop = match walk_on(dev, geo, core, from, seen, tasks, steps) {
+        Ok(stop) => stop,
+        Err(fault) => return Err(fault),
+    };
+    match stuck_at(&stop) {
+        None => Ok(stop),
+        Some(task) => walk_behind(dev, geo, core, from, task, seen, tasks, steps),
     }
 }

@@ -30,8 +30,8 @@ push_root-requires-clause-long g c =
     let room : c.root_room-room.result ≡ key_room (size_of c.args.core.now c.args.fork) = c.root_room-room.ensures in
     omega (arith, room, root.size, c.fork_area-area.ensures.long)
 
-pub walk_on-requires-clause-low : goal.walk_on-requires-clause-low
-walk_on-requires-clause-low g c =
+pub walk_piece-requires-clause-low : goal.walk_piece-requires-clause-low
+walk_piece-requires-clause-low g c =
     let root = root_facts c.args.core.now c.args.fork c.requires.form c.requires.tree in
     low_first c.args.core.now c.args.fork c.args.from c.fork_area-area.result.now c.root_room-room.result c.push_root.new.tasks.items c.new-tasks.result.items root.low root.high c.fork_area-area.ensures.bytes c.root_room-room.ensures c.new-tasks.ensures.items c.in-Ok.ensures.pushed
 
@@ -40,16 +40,16 @@ answer-requires g c =
     let root = root_facts c.args.core.now c.args.fork c.requires.form c.requires.tree in
     rw (c.in-Ok.ensures.level, c.fork_area-area.ensures.bytes) root.high
 
-pub returns-in-Err-walk_on-clause-exact : goal.returns-in-Err-walk_on-clause-exact
-returns-in-Err-walk_on-clause-exact g c = λ m e.
-    tree_outside (layout c.args.geo.now) (m Image) c.args.core.now c.args.fork c.args.from c.in-Err-walk_on.fault c.in-Err-walk_on.ensures.outside
+pub returns-in-Err-walk_piece-clause-exact : goal.returns-in-Err-walk_piece-clause-exact
+returns-in-Err-walk_piece-clause-exact g c = λ m e.
+    tree_outside (layout c.args.geo.now) (m Image) c.args.core.now c.args.fork c.args.from c.in-Err-walk_piece.fault c.in-Err-walk_piece.ensures.outside
 
 pub returns-clause-exact : goal.returns-clause-exact
 returns-clause-exact g c = λ m e.
     let first = first_pushed c.args.core.now c.args.fork c.args.from c.fork_area-area.result.now c.root_room-room.result c.push_root.new.tasks.items c.new-tasks.result.items c.fork_area-area.ensures.bytes c.root_room-room.ensures c.new-tasks.ensures.items c.in-Ok.ensures.pushed in
     let level : c.in-Ok.level ≡ root_level (area_of c.args.core.now c.args.fork) = c.in-Ok.ensures.level ∙ ap root_level c.fork_area-area.ensures.bytes in
-    let walked = ends_of (layout c.args.geo.now) (m Image) c.args.core.now c.args.fork c.args.from c.push_root.new.tasks.items c.walk_on.new.tasks.items (trail_of c.fresh_seen-seen.result) (trail_of c.walk_on.new.seen) c.in-Ok-walk_on.stop first c.fresh_seen-seen.ensures (c.in-Ok-walk_on.ensures.reached m e) (c.in-Ok-walk_on.ensures.stopped m e) in
-    tree_answered (layout c.args.geo.now) (m Image) c.args.core.now c.args.fork c.args.from c.in-Ok-walk_on.stop (trail_of c.walk_on.new.seen) c.in-Ok.level (map (λ b. b.block) c.walk_on.new.seen.blocks.items) c.answer.result walked level (numbers_same c.walk_on.new.seen.blocks.items) c.answer.ensures.good c.answer.ensures.piece c.answer.ensures.fault
+    let walked = ends_of (layout c.args.geo.now) (m Image) c.args.core.now c.args.fork c.args.from c.push_root.new.tasks.items c.walk_piece.new.tasks.items (trail_of c.fresh_seen-seen.result) (trail_of c.walk_piece.new.seen) c.in-Ok-walk_piece.stop first c.fresh_seen-seen.ensures (c.in-Ok-walk_piece.ensures.reached m e) (c.in-Ok-walk_piece.ensures.stopped m e) in
+    tree_answered (layout c.args.geo.now) (m Image) c.args.core.now c.args.fork c.args.from c.in-Ok-walk_piece.stop (trail_of c.walk_piece.new.seen) c.in-Ok.level (map (λ b. b.block) c.walk_piece.new.seen.blocks.items) c.answer.result walked level (numbers_same c.walk_piece.new.seen.blocks.items) c.answer.ensures.good c.answer.ensures.piece c.answer.ensures.fault
 
 pub returns-clause-size : goal.returns-clause-size
-returns-clause-size g c = sized c.args.from c.walk_on.new.seen.mappings.items (map (λ b. b.block) c.walk_on.new.seen.blocks.items) c.walk_on.new.tasks.items c.in-Ok-walk_on.stop c.answer.result c.in-Ok-walk_on.ensures.most c.in-Ok-walk_on.ensures.leaves c.answer.ensures.piece
+returns-clause-size g c = sized (layout c.args.geo.now) c.args.fork c.in-Ok.level c.args.from (trail_of c.walk_piece.new.seen) (map (λ b. b.block) c.walk_piece.new.seen.blocks.items) c.walk_piece.new.tasks.items c.in-Ok-walk_piece.stop c.answer.result c.answer.ensures.good c.in-Ok-walk_piece.ensures.leaves c.answer.ensures.piece

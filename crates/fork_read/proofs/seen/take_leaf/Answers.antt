@@ -2,7 +2,7 @@ use Rattle.std.proofs.Common.{◌≡◌, drop, map, arith}
 use Rattle.dinode_core.specs.Packed.{unpacked}
 use Rattle.dinode_core.specs.ForkTree.{leaf_mappings}
 use Rattle.fork_read.specs.Walk.{block_of, last_in}
-use Rattle.fork_read.proofs.LeafLemmas.{none_left, one_more}
+use Rattle.fork_read.proofs.LeafLemmas.{given_grows, none_left, one_more}
 use Rattle.std.specs.Prelude.{◌++◌}
 use Rattle.fork_read.proofs.seen.take_leaf.Goals as goal
 
@@ -12,7 +12,6 @@ loop-left-preserved c =
     let here : c.mapping_at.result ≡ unpacked c.loop-left.rest.now = c.mapping_at.ensures.exact in
     record {
       goes_on = rw (c.in-Ok.ensures.items, tail, here) (one_more c.loop-left.seen.mappings.items (c.args.seen.now.mappings.items ++ leaf_mappings c.args.block.now.bytes) c.loop-left.left c.loop-left.rest.now c.loop-left-test.true c.loop-left.invariant.goes_on);
-      few = omega (arith, c.in-Ok.ensures.len, c.loop-left.invariant.few, c.loop-left-test.true);
       room = omega (arith, c.split_at-in-loop-left.ensures.back_len, c.loop-left.invariant.room);
       blocks = c.loop-left.invariant.blocks;
       lasts = c.loop-left.invariant.lasts;
@@ -22,3 +21,8 @@ pub returns-clause-trail : goal.returns-clause-trail
 returns-clause-trail c =
     let whole = none_left c.loop-left.seen.mappings.items (c.args.seen.now.mappings.items ++ leaf_mappings c.args.block.now.bytes) c.loop-left.left c.loop-left.rest.now (omega (arith, c.loop-left-test.false)) c.loop-left.invariant.goes_on in
     λ i. record { mappings = whole i; blocks = map block_of (c.loop-left.invariant.blocks i); last = last_in (c.loop-left.invariant.lasts i) }
+
+pub returns-clause-few : goal.returns-clause-few
+returns-clause-few c =
+    let whole = none_left c.loop-left.seen.mappings.items (c.args.seen.now.mappings.items ++ leaf_mappings c.args.block.now.bytes) c.loop-left.left c.loop-left.rest.now (omega (arith, c.loop-left-test.false)) c.loop-left.invariant.goes_on in
+    λ from. given_grows from c.args.seen.now.mappings.items c.loop-left.seen.mappings.items c.args.block.now.bytes c.requires whole

@@ -6,7 +6,6 @@ use Rattle.fork_read.proofs.seen.take_leaf.Given as goal
 abbrev pub invariant-loop-left : goal.invariant-loop-left
 invariant-loop-left l = record {
   goes_on : l.seen.mappings.items ++ mappings_in l.left l.rest ≡ l.fn.seen.mappings.items ++ leaf_mappings l.fn.block.bytes;
-  few : length l.seen.mappings.items + l.left ≤ length l.fn.seen.mappings.items + 251;
   room : 16 * l.left ≤ length l.rest;
   blocks : l.seen.blocks.items ≡ l.fn.seen.blocks.items;
   lasts : l.seen.lasts ≡ l.fn.seen.lasts;

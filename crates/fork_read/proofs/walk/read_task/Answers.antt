@@ -1,9 +1,12 @@
-use Rattle.std.proofs.Common.{◌-◌, ◌<◌, ◌∙◌, ap, arith}
+use Rattle.std.proofs.Common.{◌-◌, ◌<◌, ◌≤◌, ◌∙◌, ap, refl, subst, arith}
 use Rattle.blk_device.specs.declared.device.Region.TheVariants.{Image}
+use Rattle.std.specs.Prelude.{IfSome}
+use Rattle.byte_fields.specs.declared.block.Block.{Block}
+use Rattle.dinode_core.specs.ForkTree.{numrecs}
 use Rattle.geom.specs.Places.{layout}
 use Rattle.fork_read.specs.Answers.{bytes_of}
-use Rattle.fork_read.specs.Walk.{trail_of}
-use Rattle.fork_read.proofs.WalkLemmas.{bad_block, leaf_block, leaf_read, node_block, node_read, pushed_low, pushed_node, with_leaf}
+use Rattle.fork_read.specs.Walk.{last_in, skipped_to, trail_of}
+use Rattle.fork_read.proofs.WalkLemmas.{bad_block, leaf_block, leaf_read, node_block, node_read, pushed_falls, pushed_low, pushed_node, with_leaf}
 use Rattle.fork_read.proofs.walk.read_task.Goals as goal
 
 pub returns-in_default-clause-read : goal.returns-in_default-clause-read
@@ -20,11 +23,11 @@ pub returns-in-Ok-push_entries-clause-read : goal.returns-in-Ok-push_entries-cla
 returns-in-Ok-push_entries-clause-read g c = λ m e.
     let found = c.in-Ok.ensures.found m e in
     let high : 0 < c.args.task.now.level = omega (arith, c.if-task-eq0.false) in
-    node_block (layout c.args.geo.now) (m Image) c.args.core.now c.args.from c.args.task.now c.args.tasks.now.items c.push_entries.new.tasks.items (trail_of c.args.seen.now) (trail_of c.note_block.new.seen) c.in-Some.block.bytes high (found ∙ ap bytes_of c.in-Some.is) c.in-Ok-note_block.ensures.trail (pushed_node c.args.from (c.args.task.now.level - 1) c.get_u16.result c.in-Some.block.bytes c.args.tasks.now.items c.push_entries.new.tasks.items c.get_u16.ensures c.in-Ok-push_entries.ensures.pushed)
+    node_block (layout c.args.geo.now) (m Image) c.args.core.now c.args.from c.args.task.now c.args.tasks.now.items c.push_entries.new.tasks.items (trail_of c.args.seen.now) (trail_of c.note_block.new.seen) c.in-Some.block.bytes high (found ∙ ap bytes_of c.in-Some.is) c.in-Ok-note_block.ensures.trail (pushed_node c.skipped_at-skipped.result (skipped_to c.args.from (last_in c.args.seen.now.lasts c.args.task.now.level) c.args.task.now.key) (c.args.task.now.level - 1) c.get_u16.result c.in-Some.block.bytes c.args.tasks.now.items c.push_entries.new.tasks.items c.skipped_at-skipped.ensures c.get_u16.ensures c.in-Ok-push_entries.ensures.pushed)
 
 pub returns-in-Ok-push_entries-clause-low : goal.returns-in-Ok-push_entries-clause-low
 returns-in-Ok-push_entries-clause-low g c =
-    pushed_low c.args.from (c.args.task.now.level - 1) c.in-Some.block.bytes c.args.tasks.now.items c.push_entries.new.tasks.items (omega (arith, c.requires.low)) c.requires.all_low (pushed_node c.args.from (c.args.task.now.level - 1) c.get_u16.result c.in-Some.block.bytes c.args.tasks.now.items c.push_entries.new.tasks.items c.get_u16.ensures c.in-Ok-push_entries.ensures.pushed)
+    pushed_low (skipped_to c.args.from (last_in c.args.seen.now.lasts c.args.task.now.level) c.args.task.now.key) (c.args.task.now.level - 1) c.in-Some.block.bytes c.args.tasks.now.items c.push_entries.new.tasks.items (omega (arith, c.requires.low)) c.requires.all_low (pushed_node c.skipped_at-skipped.result (skipped_to c.args.from (last_in c.args.seen.now.lasts c.args.task.now.level) c.args.task.now.key) (c.args.task.now.level - 1) c.get_u16.result c.in-Some.block.bytes c.args.tasks.now.items c.push_entries.new.tasks.items c.skipped_at-skipped.ensures c.get_u16.ensures c.in-Ok-push_entries.ensures.pushed)
 
 pub returns-in-Ok-take_leaf-clause-step : goal.returns-in-Ok-take_leaf-clause-step
 returns-in-Ok-take_leaf-clause-step g c = λ m e.
@@ -35,4 +38,15 @@ pub returns-in-Ok-push_entries-clause-step : goal.returns-in-Ok-push_entries-cla
 returns-in-Ok-push_entries-clause-step g c = λ m e.
     let found = c.in-Ok.ensures.found m e in
     let high : 0 < c.args.task.now.level = omega (arith, c.if-task-eq0.false) in
-    node_read (layout c.args.geo.now) (m Image) c.args.core.now c.args.from c.args.task.now c.args.tasks.now.items c.push_entries.new.tasks.items (trail_of c.args.seen.now) (trail_of c.note_block.new.seen) c.in-Some.block.bytes high (found ∙ ap bytes_of c.in-Some.is) c.in-Ok-note_block.ensures.trail (pushed_node c.args.from (c.args.task.now.level - 1) c.get_u16.result c.in-Some.block.bytes c.args.tasks.now.items c.push_entries.new.tasks.items c.get_u16.ensures c.in-Ok-push_entries.ensures.pushed)
+    node_read (layout c.args.geo.now) (m Image) c.args.core.now c.args.from c.args.task.now c.args.tasks.now.items c.push_entries.new.tasks.items (trail_of c.args.seen.now) (trail_of c.note_block.new.seen) c.in-Some.block.bytes high (found ∙ ap bytes_of c.in-Some.is) c.in-Ok-note_block.ensures.trail (pushed_node c.skipped_at-skipped.result (skipped_to c.args.from (last_in c.args.seen.now.lasts c.args.task.now.level) c.args.task.now.key) (c.args.task.now.level - 1) c.get_u16.result c.in-Some.block.bytes c.args.tasks.now.items c.push_entries.new.tasks.items c.skipped_at-skipped.ensures c.get_u16.ensures c.in-Ok-push_entries.ensures.pushed)
+
+pub returns-in-Ok-push_entries-clause-falls : goal.returns-in-Ok-push_entries-clause-falls
+returns-in-Ok-push_entries-clause-falls g c = λ high.
+    let some : 1 ≤ numrecs c.in-Some.block.bytes = subst (λ o. IfSome o (λ (block : Block). 1 ≤ numrecs block.bytes)) c.in-Some.is c.in-Ok.ensures.some in
+    let same = pushed_falls (skipped_to c.args.from (last_in c.args.seen.now.lasts c.args.task.now.level) c.args.task.now.key) (c.args.task.now.level - 1) c.in-Some.block.bytes c.args.tasks.now.items c.push_entries.new.tasks.items some (pushed_node c.skipped_at-skipped.result (skipped_to c.args.from (last_in c.args.seen.now.lasts c.args.task.now.level) c.args.task.now.key) (c.args.task.now.level - 1) c.get_u16.result c.in-Some.block.bytes c.args.tasks.now.items c.push_entries.new.tasks.items c.skipped_at-skipped.ensures c.get_u16.ensures c.in-Ok-push_entries.ensures.pushed) in
+    omega (arith, same, high)
+
+pub returns-in_default-clause-step : goal.returns-in_default-clause-step
+returns-in_default-clause-step g c = λ m e.
+    let found = c.in-Ok.ensures.found m e in
+    (found ∙ ap bytes_of c.in_default.is, refl)
