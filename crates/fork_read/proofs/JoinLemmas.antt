@@ -21,10 +21,10 @@ use Rattle.fork_read.proofs.EndLemmas.{border_next}
 use Rattle.fork_read.proofs.NextLemmas.{Begins, Came, Waits, next_begins}
 use Rattle.fork_read.proofs.ResumeLemmas.{Resumed, resume}
 use Rattle.fork_read.proofs.RiseLemmas.{Clears, all_before, all_behind, bad_behind, cancel, clears_of, each_kept, filter_both, good_back, none_kept}
-use Rattle.fork_read.proofs.RunLemmas.{Along, AlongAll, Known, Same, UpTo, along, along_all, first_read, grows, middle, nothing_more, one_way}
+use Rattle.fork_read.proofs.RunLemmas.{Along, AlongAll, Known, Same, UpTo, along, along_all, first_read, grows, middle, nothing_more, one_way, read_alike}
 use Rattle.fork_read.proofs.StandLemmas.{Deep, Holds, Stands, deep_on, each_back, each_front, each_weaker, stands_on}
 use Rattle.fork_read.proofs.WalkLemmas.{border_leaves, leaves_join}
-use Rattle.fork_read.proofs.WholeLemmas.{pruned_same}
+use Rattle.fork_read.proofs.WholeLemmas.{all_kept, pruned_same}
 
 holds_before : (from k : ℕ) (ms : List Mapping) → Each (λ (m : Mapping). m.offset < from) ms → Holds k ms → k < from
 holds_before from k [] h held = absurd held
@@ -150,6 +150,7 @@ module _ (at : Layout) (image : Image) (core : Core3) (fork : Fork) where
     pub same : Same at image core 0 top front own trail v
     pub known_blocks : own ≡ bs
     pub bad : first_bad at fork trail.mappings ≡ first_bad at fork v.mappings
+    pub alike : (x : Task) (xs : List Task) → ys ≡ x ∷ xs → read_at at image core from x.level (v.last x.level) (entry_of x) (split_of at x.block) ≡ None → read_at at image core 0 x.level (trail.last x.level) (entry_of x) (split_of at x.block) ≡ None
     pub given : first_bad at fork v.mappings ≡ None → trail.mappings ≡ ms ++ filter (λ m. nat_le from m.offset) v.mappings
 
   before_all : (from : ℕ) (ms : List Mapping) (bs : List ℕ) (c : Come from ms bs) → Each (λ (m : Mapping). m.offset < from) c.trail.mappings
@@ -218,6 +219,9 @@ module _ (at : Layout) (image : Image) (core : Core3) (fork : Fork) where
         bad =
             let own = grown.1 ∙ ap (λ zs. zs ++ grown.0) some.2 in
             ap (first_bad at fork) (all.same.mappings ∙ ap (λ zs. a.front ++ zs) own) ∙ bad_behind at fork a.front some.0 some.1 (some.1 ++ grown.0) good ∙ ap (first_bad at fork) (sym own);
+        alike = λ x xs e none.
+            let low = (subst (UpTo at image core from top) e all.upto).0 in
+            ap (λ o. read_at at image core 0 x.level o (entry_of x) (split_of at x.block)) (all.same.last x.level low) ∙ sym (read_alike at image core from x.level (v.last x.level) (entry_of x) (split_of at x.block) (all.known x.level low)) ∙ none;
         given = λ fine.
             let rest = good_back at fork a.trail.mappings grown.0 (subst (λ zs. first_bad at fork zs ≡ None) grown.1 fine) in
             let kept = kept_behind from c.task c.trail.mappings all.trail.mappings grown.0 ys c.key met rest next in
@@ -258,3 +262,49 @@ module _ (at : Layout) (image : Image) (core : Core3) (fork : Fork) where
             cc
         | inr late ↦ grind (arith, nat_tests, late)
       ]
+
+  -- the first piece's walk is the whole btree's
+  pub view_first : (ys : List Task) (v : Trail) (n : ℕ) → Leaves at image core 0 (first_tasks core fork 0) start n ys v → View 0 [] [] ys v
+  view_first ys v n h = record {
+    trail = v;
+    count = n;
+    leaves = h;
+    front = [];
+    own = [];
+    same = record { mappings = refl; blocks = refl; last = λ l low. refl };
+    known_blocks = refl;
+    bad = refl;
+    alike = λ x xs e none. none;
+    given = λ fine. sym (all_kept v.mappings);
+  }
+
+  -- a view at a leaf's end
+  pub record Edge (from : ℕ) (ms : List Mapping) (bs : List ℕ) (ys : List Task) (v : Trail) : Type 0 where
+    pub view : View from ms bs ys v
+    pub border : IsBorder at image core 0 (first_tasks core fork 0) start view.count ys view.trail
+
+  pub edge_first : (ys : List Task) (v : Trail) (n : ℕ) → IsBorder at image core 0 (first_tasks core fork 0) start n ys v → Edge 0 [] [] ys v
+  unfolding view_first
+  edge_first ys v n b = record { view = view_first ys v n (border_leaves at image core 0 (first_tasks core fork 0) ys start v n b); border = b }
+
+  pub edge : (from : ℕ) (ms : List Mapping) (bs : List ℕ) (c : Come from ms bs) (ys : List Task) (v : Trail) (n : ℕ) → suc top < n → IsBorder at image core from (first_tasks core fork from) start n ys v → Edge from ms bs ys v
+  unfolding view
+  edge from ms bs c ys v n more b =
+      let a = again from ms bs c in
+      let deep = deep_at (c.task ∷ c.rest) c.trail c.count c.border in
+      let blocks = map (λ (b : TreeBlock). b.block) c.trail.blocks in
+      let w = view from ms bs c ys v n (omega (arith, more)) (border_leaves at image core from (first_tasks core fork from) ys start v n b) in
+      let y = b.read.task in
+      let zs = b.read.rest in
+      let late : suc top ≤ b.before = omega (arith, more, b.count) in
+      let on = behind_meet from ms bs c a (y ∷ zs) b.read.trail b.before late b.read.before in
+      let known : Known at image core from top a.trail = λ l low none. known_at top (root_entries core fork) c.trail (c.task ∷ c.rest) deep l low (sym (a.same l low) ∙ none) in
+      let all = along_all at image core from top a.front blocks (c.task ∷ c.rest) (y ∷ zs) c.trail a.trail b.read.trail (b.before - suc top) (upto_at top (root_entries core fork) c.trail (c.task ∷ c.rest) deep) known (meet from ms bs c a) on in
+      let one = along at image core from top a.front blocks y zs ys all.trail b.read.trail v all.upto all.known all.same b.read.read in
+      let whole = leaves_join at image core 0 (first_tasks core fork 0) (c.task ∷ c.rest) (y ∷ zs) start c.trail all.trail c.count (b.before - suc top) (border_leaves at image core 0 (first_tasks core fork 0) (c.task ∷ c.rest) start c.trail c.count c.border) all.leaves in
+      let next = border_next at image core 0 (first_tasks core fork 0) (y ∷ zs) zs ys start all.trail one.trail (c.count + (b.before - suc top)) y refl whole one.read b.leaf in
+      let steps : n ≡ suc b.before = b.count in
+      let count : c.count + (b.before - suc top) + 1 ≡ c.count + (n - suc top) = omega (arith, late, steps) in
+      let here = subst (λ k. IsBorder at image core 0 (first_tasks core fork 0) start k ys one.trail) count next in
+      let same = one_way at image core 0 (first_tasks core fork 0) ys ys start one.trail w.trail w.count (border_leaves at image core 0 (first_tasks core fork 0) ys start one.trail w.count here) w.leaves in
+      record { view = w; border = subst (λ u. IsBorder at image core 0 (first_tasks core fork 0) start w.count ys u) same.1 here }

@@ -2,6 +2,7 @@ pub mod EndLemmas
 pub mod FirstLemmas
 pub mod JoinLemmas
 pub mod JudgeLemmas
+pub mod LawLemmas
 pub mod LeafLemmas
 pub mod NextLemmas
 pub mod PartLemmas

@@ -130,7 +130,7 @@ module _ (at : Layout) (image : Image) (core : Core3) (from : ℕ) where
   not_resumed (Some last) key known = refl
 
   -- behind the first leaf the same blocks are read
-  read_alike : (level : ℕ) (o : Option Last) (e : Entry) (place : Option (ℕ × ℕ)) → (o ≡ None → ⊥) → read_at at image core from level o e place ≡ read_at at image core 0 level o e place
+  pub read_alike : (level : ℕ) (o : Option Last) (e : Entry) (place : Option (ℕ × ℕ)) → (o ≡ None → ⊥) → read_at at image core from level o e place ≡ read_at at image core 0 level o e place
   unfolding is_sound_from
   read_alike level o e None known = refl
   read_alike level None e (Some p) known = absurd (known refl)

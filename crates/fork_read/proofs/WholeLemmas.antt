@@ -94,39 +94,3 @@ key_none n e = cc
 pub else_parts : (o x : Option ForkFault) → or_else o x ≡ None → (o ≡ None) × (x ≡ None)
 else_parts None x h = (refl, h)
 else_parts (Some f) x h = absurd (some_none f h)
-
-module _ (at : Layout) (image : Image) (core : Core3) (fork : Fork) where
-  tree_whole : (t : Trail) (piece : ForkPiece) → form_fault core fork ≡ None → is_tree core fork ≡ true → walk_tree at image core fork ≡ Ok t → or_else (first_bad at fork t.mappings) (block_fault (ends (root_level (area_of core fork)) t)) ≡ None → IsPiece 0 t.mappings (map (λ b. b.block) t.blocks) None piece → IsWhole at image core fork piece
-  unfolding walk_fault met_of
-  tree_whole t piece form tree walked good given = record {
-    good = rw (tree, form, walked) good;
-    mappings = rw (tree, walked) (given.mappings ∙ all_kept t.mappings);
-    tree_blocks = rw (tree, walked) given.tree_blocks;
-  }
-
-  by_stop : (stop : Stop) (rest : List Task) (t : Trail) (piece : ForkPiece) → form_fault core fork ≡ None → is_tree core fork ≡ true → IsStopped (walk_all at image core fork 0) (walk_tasks at image core 0) 0 stop rest t → judged at fork (root_level (area_of core fork)) stop t ≡ None → piece.next ≡ None → IsPiece 0 t.mappings (map (λ b. b.block) t.blocks) (next_of stop) piece → IsWhole at image core fork piece
-  by_stop Bad rest t piece form tree h good none given = absurd (some_none faults.Block (else_parts (first_bad at fork t.mappings) (Some faults.Block) good).1)
-  by_stop Whole rest t piece form tree h good none given = tree_whole t piece form tree (sym (tree_same at image core fork) ∙ h) good given
-  by_stop (Left task) rest t piece form tree h good none given = absurd (key_none task.key (sym given.next ∙ none))
-  by_stop Fallen rest t piece form tree h good none given = absurd (some_none faults.Order (else_parts (first_bad at fork t.mappings) (Some faults.Order) good).1)
-  by_stop (Long task) rest t piece form tree h good none given = absurd (some_none faults.Order (else_parts (first_bad at fork t.mappings) (Some faults.Order) good).1)
-
-  inline_whole : (piece : ForkPiece) → inline_fault at core fork ≡ None → is_tree core fork ≡ false → IsPiece 0 (inline_mappings core fork) [] None piece → IsWhole at image core fork piece
-  unfolding walk_fault met_of inline_fault
-  inline_whole piece good off given =
-      let parts = else_parts (form_fault core fork) (first_bad at fork (inline_mappings core fork)) good in
-      record {
-        good = rw (off, parts.0, parts.1) refl;
-        mappings = rw off (given.mappings ∙ all_kept (inline_mappings core fork));
-        tree_blocks = rw off given.tree_blocks;
-      }
-
-  -- where a piece from 0 on leaves nothing, the fork has no fault but its number, and is this piece
-  pub piece_whole : (piece : ForkPiece) → IsForkPiece at image core fork 0 piece → piece.next ≡ None → IsWhole at image core fork piece
-  piece_whole piece h none = by_form (is_tree core fork) refl
-    where
-      by_form : (b : Bool) → is_tree core fork ≡ b → IsWhole at image core fork piece
-      by_form true tree =
-          let found = h.2 tree in
-          by_stop found.stop found.walked.rest found.trail piece (form_none at core fork h.0) tree found.walked.stopped found.good none found.given
-      by_form false off = inline_whole piece h.0 off (h.1 off)

@@ -1,7 +1,8 @@
--- A piece that is the whole fork, and one that ended before the fork did.
-use Rattle.std.specs.Prelude.{◌≡◌, List, map, None, Some}
+-- Pieces of a fork one after another, and what they are in sum.
+use Rattle.std.specs.Prelude.{◌≡◌, ℕ, List, [], ◌∷◌, ◌++◌, map, Option, None, Some, ◌⊎◌}
 use Rattle.geom.specs.Layout.{Layout}
 use Rattle.dinode_core.specs.declared.inode.Core3.{Core3}
+use Rattle.dinode_core.specs.declared.mapping.Mapping.{Mapping}
 use Rattle.dinode_core.specs.declared.mapping.Fork.{Fork}
 use Rattle.dinode_core.specs.declared.mapping.ForkFault.{ForkFault}
 use Rattle.dinode_core.specs.declared.mapping.ForkFault.TheVariants as faults
@@ -9,17 +10,54 @@ use Rattle.dinode_core.specs.Inline.{first_bad, or_else}
 use Rattle.dinode_core.specs.ForkTree.{Image, Trail, met_of, start, walk_fault}
 use Rattle.fork_read.specs.declared.fault.ForkPiece.{ForkPiece}
 use Rattle.fork_read.specs.declared.tasks.Task.{Task}
-use Rattle.fork_read.specs.Walk.{Reaches, first_tasks}
+use Rattle.fork_read.specs.Parts.{IsPart}
+use Rattle.fork_read.specs.Pieces.{IsForkFault, IsForkPiece}
+use Rattle.fork_read.specs.Stuck.{IsStuck}
+use Rattle.fork_read.specs.Walk.{first_tasks}
+
+-- pieces one after another, each from where the one before leaves something, and what the last one leaves
+abbrev pub Follow : Layout → Image → Core3 → Fork → Option ℕ → List ForkPiece → Option ℕ → Type 0
+Follow at image core fork next [] left = next ≡ left
+Follow at image core fork None (piece ∷ pieces) left = ⊥
+Follow at image core fork (Some from) (piece ∷ pieces) left =
+    IsForkPiece at image core fork from piece × Follow at image core fork piece.next pieces left
+
+abbrev pub all_mappings : List ForkPiece → List Mapping
+all_mappings [] = []
+all_mappings (piece ∷ pieces) = piece.mappings.items ++ all_mappings pieces
+
+abbrev pub all_blocks : List ForkPiece → List ℕ
+all_blocks [] = []
+all_blocks (piece ∷ pieces) = piece.tree_blocks.items ++ all_blocks pieces
 
 -- the fork has no fault but maybe the number of its mappings, and these are its mappings and blocks
-pub record IsWhole (at : Layout) (image : Image) (core : Core3) (fork : Fork) (piece : ForkPiece) : Type 0 where
+pub record IsWhole (at : Layout) (image : Image) (core : Core3) (fork : Fork) (mappings : List Mapping) (blocks : List ℕ) : Type 0 where
   pub good : walk_fault at image core fork ≡ None
-  pub mappings : piece.mappings.items ≡ (met_of at image core fork).mappings
-  pub tree_blocks : piece.tree_blocks.items ≡ map (λ b. b.block) (met_of at image core fork).blocks
+  pub mappings_are : mappings ≡ (met_of at image core fork).mappings
+  pub blocks_are : blocks ≡ map (λ b. b.block) (met_of at image core fork).blocks
 
--- subtrees were left when a piece from 0 on found this fault: the first bad mapping of those that were met, or Order
-pub record IsCut (at : Layout) (image : Image) (core : Core3) (fork : Fork) (fault : ForkFault) : Type 0 where
-  pub tasks : List Task
-  pub trail : Trail
-  pub reached : Reaches at image core 0 (first_tasks core fork 0) start tasks trail
-  pub found : or_else (first_bad at fork trail.mappings) (Some faults.Order) ≡ Some fault
+-- a piece from this offset on came to a subtree where none can begin, and met no bad block behind it: the fault is
+-- the first bad mapping that it met, or Order
+pub record IsCut (at : Layout) (image : Image) (core : Core3) (fork : Fork) (from : ℕ) (fault : ForkFault) : Type 0 where
+  pub rest : List Task
+  pub met : Trail
+  pub stuck : IsStuck at image core from (first_tasks core fork from) start rest met
+  pub after : Trail
+  pub found : or_else (first_bad at fork after.mappings) (Some faults.Order) ≡ Some fault
+
+-- pieces from 0 on, one after another until nothing is left, are in sum the whole fork
+abbrev pub PiecesJoin : Layout → Core3 → Fork → Type 0
+PiecesJoin at core fork =
+    (image : Image) (pieces : List ForkPiece) → Follow at image core fork (Some 0) pieces None → IsWhole at image core fork (all_mappings pieces) (all_blocks pieces)
+
+-- the fault for which the next of pieces from 0 on is refused is the fork's first one, or no piece can begin behind it
+abbrev pub RefusalsAreFirst : Layout → Core3 → Fork → Type 0
+RefusalsAreFirst at core fork =
+    (image : Image) (pieces : List ForkPiece) (from : ℕ) (fault : ForkFault) → Follow at image core fork (Some 0) pieces (Some from)
+    → IsForkFault at image core fork from fault → (walk_fault at image core fork ≡ Some fault) ⊎ IsCut at image core fork from fault
+
+-- a piece of a fork without a fault has nothing of other forks
+abbrev pub PiecesAreParts : Layout → Core3 → Fork → Type 0
+PiecesAreParts at core fork =
+    (image : Image) (from : ℕ) (piece : ForkPiece) → IsForkPiece at image core fork from piece → walk_fault at image core fork ≡ None
+    → IsPart at image core fork piece

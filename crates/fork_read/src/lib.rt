@@ -12,5 +12,5 @@ mod tasks;
 mod walk;
 
 pub use fault::{ForkPiece, ReadFault};
-pub use laws::{one_piece_is_whole, pieces_are_parts, refusal_is_first};
+pub use laws::{pieces_are_parts, pieces_join, refusal_is_first};
 pub use piece::fork_piece;

@@ -95,7 +95,8 @@ fn give_block(seen: &mut Seen, task: &Task, from: u64) -> Result<(), ReadFault>
     ensures mappings { seen.new.mappings.items ≡ seen.old.mappings.items }
     ensures lasts { seen.new.lasts ≡ seen.old.lasts }
 {
-    if is_resumed_at(seen, task, from) {
+    let resumed = is_resumed_at(seen, task, from);
+    if resumed {
         return Ok(());
     }
     let read = BlockRead {
