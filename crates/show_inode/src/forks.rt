@@ -4,7 +4,8 @@ use dinode_core::{
 };
 use std::io;
 
-fn name_of(fork: Fork) -> &'static str {
+/// The name of a fork in what is shown.
+pub fn name_of(fork: Fork) -> &'static str {
     match fork {
         Fork::Data => "data",
         Fork::Attr => "attr",
@@ -20,7 +21,8 @@ fn word_of(format: Format) -> &'static str {
     }
 }
 
-fn show_mapping<R: Print>(rt: &R, name: &str, m: &Mapping) -> io::Result<()> {
+/// Shows a mapping of a fork.
+pub fn show_mapping<R: Print>(rt: &R, name: &str, m: &Mapping) -> io::Result<()> {
     let flag = u8::from(m.unwritten);
     println!(rt; "{name} map {} {} {} {flag}", m.offset, m.block, m.count)
 }

@@ -1,0 +1,5 @@
+use Rattle.show_inode.proofs.whole.piece_of.Given as goal
+
+-- the ledger is the blank's
+abbrev pub ghosts-counted : goal.ghosts-counted
+ghosts-counted g a = record { name = a.blank.name; parts = a.blank.parts }
