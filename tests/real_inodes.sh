@@ -1,5 +1,6 @@
 #!/usr/bin/env bash
-# Compares what crates/dinode_core reads of inodes with what xfs_db of xfsprogs says of them.
+# Compares what crates/dinode_core and crates/fork_read read of inodes and their forks with what
+# xfs_db of xfsprogs says of them.
 #
 #     tests/real_inodes.sh [PROGRAM [IMAGE ..]]
 #
@@ -9,7 +10,9 @@
 # more are made here, by mkfs.xfs and xfs_db, without and with large counts.
 #
 # The inodes of an image are sorted into kinds, by type, formats and numbers of mappings. At least
-# one of every kind is taken, and twenty in all where there are so many. Each case prints
+# one of every kind is taken, and twenty in all where there are so many. Of inodes with a fork in
+# btree format, at most twenty an image, each mapping and each block of the btree is compared too,
+# with xfs_db's bmap and btdump. Each case prints
 # `ok NAME` or `FAILED NAME` with the lines that differ. The last line is
 # `real inodes: N passed, M failed`; the status is 1 where one failed. Where xfsprogs isn't here
 # and can't be installed, one line says that real inodes are skipped.
@@ -201,24 +204,61 @@ compared() {
   done <chosen.txt
 }
 
+# told_whole IMAGE NUMBER: the mappings of both forks and the blocks of their btrees, as xfs_db has
+# them; btdump says at which sector a block begins.
+told_whole() {
+  local image=$1 number=$2
+  eval "$(xfs_db -r -c 'sb 0' -c 'p agblocks agblklog' "$image" | tr -d ' ')"
+  xfs_db -r -c "inode $number" -c 'bmap -d' -c 'bmap -a' -c btdump -c 'btdump -a' "$image" 2>/dev/null |
+    awk -v blocks="$agblocks" -v bits="$agblklog" '
+    /^(data|attr) offset / { print $1, "map", $3, $5, $8, $10 }
+    /^bmapbt[da] level / {
+      block = $NF / 8
+      print ($1 == "bmapbta" ? "attr" : "data"), "tree", int(block / blocks) * 2 ^ bits + block % blocks
+    }' | sort
+}
+
+# compared_whole NAME IMAGE: the inodes with a fork in btree format, each a case.
+compared_whole() {
+  local name=$1 image=$2 number asked=() sector kind
+  for number in $(numbers "$image"); do
+    asked+=(-c "inode $number" -c daddr -c p)
+  done
+  xfs_db -r "${asked[@]}" "$image" 2>/dev/null | kinds | grep btree | head -n "$wanted" >btrees.txt
+  [ -s btrees.txt ] || verdict "$name" 1 'no btree was found'
+  while read -r sector number kind; do
+    told_whole "$image" "$number" >told.txt
+    "$program" "$image" "$number" 2>&1 </dev/null | grep -v '^ino ' | sort >shown.txt
+    diff told.txt shown.txt >diff.txt
+    verdict "$name: forks of inode $number, $kind" $? "$(cat diff.txt)"
+  done <btrees.txt
+}
+
 # A file of mkfs.xfs's own form from which it fills a new file system: one of each type of file,
-# symbolic links that fit their inodes and that don't, and directories of two sizes.
+# symbolic links that fit their inodes and that don't, and directories of three sizes: the blocks of
+# the last one lie between those of its files.
 prototype() {
   local i
   : >empty
   head -c 300000 /dev/zero >data
+  head -c 3000 /dev/zero >one
   printf '%s\n' '/' '0 0' 'd--755 0 0' 'file ---644 1001 5 data' 'short l--777 0 0 away' \
     "long l--777 0 0 $(printf '%0900d' 0)" 'pipe p--600 3 0' 'terminal c--620 0 5 4 1' \
     'disk b--660 0 6 8 1' 'small d--755 0 0' 'below ---600 0 0 data' '$' 'large d--755 0 0'
   for i in {1..100}; do
     printf 'entry%0200d ---644 0 0 empty\n' "$i"
   done
+  printf '%s\n' '$' 'broken d--755 0 0'
+  for i in {1..700}; do
+    printf 'entry%0200d ---644 0 0 one\n' "$i"
+  done
   printf '%s\n' '$' '$'
 }
 
-# attributes IMAGE: puts attributes of three sizes onto regular files of the image.
+# attributes IMAGE: puts attributes of three sizes onto regular files of the image, and by turns so
+# many onto two more that their blocks lie between each other.
 attributes() {
-  local image=$1 files i many=()
+  local image=$1 files i many=() turns=()
   for i in {1..120}; do
     many+=(-c "attr_set -v 60 name$i")
   done
@@ -226,6 +266,11 @@ attributes() {
   xfs_db -x -c "inode ${files[0]}" -c 'attr_set -v 20 first' "$image" &&
     xfs_db -x -c "inode ${files[1]}" -c 'attr_set -v 1000 first' "$image" &&
     xfs_db -x -c "inode ${files[2]}" "${many[@]}" "$image"
+  for i in {1..30}; do
+    turns+=(-c "inode ${files[3]}" -c "attr_set -v 3000 name$i")
+    turns+=(-c "inode ${files[4]}" -c "attr_set -v 3000 name$i")
+  done
+  xfs_db -x "${turns[@]}" "$image"
 }
 
 # own NAME OPTION..: an image of mkfs.xfs, with attributes by xfs_db.
@@ -237,6 +282,7 @@ own() {
   prototype >prototype.txt
   if mkfs.xfs --unsupported -q -p prototype.txt "$@" own.img >own.log 2>&1 && attributes own.img >>own.log 2>&1; then
     compared "$name" own.img
+    compared_whole "$name" own.img
   else
     verdict "$name" 1 "$(tail -n 1 own.log)"
   fi
@@ -250,6 +296,7 @@ given() {
     return
   fi
   compared "$name" given.img
+  compared_whole "$name" given.img
 }
 
 made_inodes

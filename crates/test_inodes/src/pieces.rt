@@ -194,14 +194,15 @@ fn piece_at(
     counted::<Brand>(alloc, device, fork, from, blank)
 }
 
-// A btree of three leaves: two full ones, and one with a mapping alone.
-fn three_leaves(alloc: Global, fork: Fork, last_count: u64) -> Result<MemDevice, AllocError> {
+// A btree of three leaves: two full ones, the second's last mapping with this low word, and one with a
+// mapping alone.
+fn three_leaves(alloc: Global, fork: Fork, low: u64) -> Result<MemDevice, AllocError> {
     let full = leaf(251, 40, 42, 41, 502);
     device_of(
         alloc,
         inodes(fork, 1, 3, [(0, 40), (502, 41), (1004, 42)]),
         leaf(251, NONE, 41, 40, 0),
-        spoiled(full, 250, 512 * 1002, (100 << 21) + last_count),
+        spoiled(full, 250, 512 * 1002, low),
         leaf(1, 41, NONE, 42, 1004),
     )
 }
@@ -224,7 +225,7 @@ fn pieces_go_through_three_leaves(rt: HostRuntime) -> Result<(), Fail> {
             (1004, 1, 1, None),
             (1005, 0, 0, None),
         ] {
-            let piece = piece_at(alloc, three_leaves(alloc, fork, 1)?, fork, from)?;
+            let piece = piece_at(alloc, three_leaves(alloc, fork, ONE)?, fork, from)?;
             assert_eq!(rt; piece.mappings.len(), count, "from {from}");
             assert_eq!(rt; piece.tree_blocks.len(), blocks, "from {from}");
             assert_eq!(rt; piece.next, next, "from {from}");
@@ -238,7 +239,13 @@ fn a_full_leafs_last_mapping_overlaps(rt: HostRuntime) -> Result<(), Fail> {
     let alloc = rt.alloc();
     // Its last mapping passes the first offset of the leaf behind it.
     for from in [0, 2, 500, 501, 502, 1002, 1004] {
-        let found = piece_at(alloc, three_leaves(alloc, Fork::Data, 3)?, Fork::Data, from).err();
+        let found = piece_at(
+            alloc,
+            three_leaves(alloc, Fork::Data, ONE + 2)?,
+            Fork::Data,
+            from,
+        )
+        .err();
         assert_eq!(rt;
             found,
             Some(ReadFault::Fork(ForkFault::Overlap)),
@@ -418,6 +425,49 @@ fn cycles_are_bad_blocks(rt: HostRuntime) -> Result<(), Fail> {
         )?;
         let found = piece_at(alloc, device, Fork::Data, 0).err();
         assert_eq!(rt; found, Some(ReadFault::Fork(ForkFault::Block)));
+    }
+    Ok(())
+}
+
+// How many mappings and blocks the pieces of a fork have in sum.
+fn sums_of(alloc: Global, fork: Fork) -> Result<(usize, usize), Fail> {
+    let mut from = 0;
+    let mut mappings: usize = 0;
+    let mut blocks: usize = 0;
+    for _ in 0..4 {
+        let piece = piece_at(alloc, three_leaves(alloc, fork, ONE)?, fork, from)?;
+        mappings = mappings.saturating_add(piece.mappings.len());
+        blocks = blocks.saturating_add(piece.tree_blocks.len());
+        match piece.next {
+            Some(next) => from = next,
+            None => return Ok((mappings, blocks)),
+        }
+    }
+    Ok((0, 0))
+}
+
+#[test]
+fn pieces_are_in_sum_the_fork(rt: HostRuntime) -> Result<(), Fail> {
+    let alloc = rt.alloc();
+    assert_eq!(rt; sums_of(alloc, Fork::Data)?, (503, 3));
+    assert_eq!(rt; sums_of(alloc, Fork::Attr)?, (503, 3));
+    Ok(())
+}
+
+#[test]
+fn keys_that_fall_are_found_behind(rt: HostRuntime) -> Result<(), Fail> {
+    let alloc = rt.alloc();
+    // Two full leaves, and a third one that begins before the second: no piece can begin between.
+    for (count, fault) in [(1, ForkFault::Order), (0, ForkFault::Block)] {
+        let device = device_of(
+            alloc,
+            inodes(Fork::Data, 1, 3, [(0, 40), (700, 41), (502, 42)]),
+            leaf(251, NONE, 41, 40, 0),
+            leaf(251, 40, 42, 41, 700),
+            leaf(count, 41, NONE, 42, 502),
+        )?;
+        let found = piece_at(alloc, device, Fork::Data, 0).err();
+        assert_eq!(rt; found, Some(ReadFault::Fork(fault)));
     }
     Ok(())
 }

@@ -1,0 +1,82 @@
+#!/usr/bin/env bash
+# Times the reading of all forks of an image beside `xfs_db -c frag` and `xfs_repair -n`.
+#
+#     bench/forks.sh PROGRAM IMAGE ..
+#
+# PROGRAM is what crates/show_inode was built to. An IMAGE is perhaps packed by xz, with inodes of 512
+# bytes. bench/README.md says how the table is read.
+set -u
+export LC_ALL=C
+program=$(readlink -f -- "${1:?the program that shows inodes}") || exit 1
+shift
+images=()
+for image in "$@"; do
+  images+=("$(readlink -m -- "$image")")
+done
+for tool in xfs_db xfs_repair; do
+  command -v "$tool" >/dev/null || {
+    echo "bench/forks.sh needs $tool" >&2
+    exit 1
+  }
+done
+room=$(mktemp -d) || exit 1
+trap 'rm -rf -- "$room"' EXIT
+cd -- "$room" || exit 1
+runs=3
+
+# least_of COMMAND..: the least microseconds of so many runs, in $least.
+least_of() {
+  local i before took
+  least=''
+  for ((i = 0; i < runs; i++)); do
+    before=${EPOCHREALTIME/[.,]/}
+    "$@" >/dev/null 2>&1 </dev/null
+    took=$((${EPOCHREALTIME/[.,]/} - before))
+    least=$((i == 0 || took < least ? took : least))
+  done
+}
+
+# seconds MICROSECONDS: with three places.
+seconds() { printf '%d.%03d' $(($1 / 1000000)) $(($1 % 1000000 / 1000)); }
+
+# numbers: the numbers of the places where an inode may lie.
+numbers() {
+  eval "$(xfs_db -r -c 'sb 0' -c 'p agblocks agblklog inopblock inopblog' image.img | tr -d ' ')"
+  # shellcheck disable=SC2154
+  grep -obUa IN image.img | awk -F: -v blocks="$agblocks" -v block_bits="$agblklog" \
+    -v inodes="$inopblock" -v inode_bits="$inopblog" '
+    $1 % 512 == 0 {
+      block = int($1 / 512 / inodes)
+      group = int(block / blocks)
+      print (group * 2 ^ block_bits + block % blocks) * 2 ^ inode_bits + $1 / 512 % inodes
+    }'
+}
+
+form='%-20s | %8s %9s %8s | %8s | %8s | %10s\n'
+
+# row NAME: the file image.img.
+row() {
+  local all ours frag mappings blocks
+  mapfile -t all < <(numbers)
+  "$program" image.img "${all[@]}" >shown.txt 2>&1
+  mappings=$(grep -c ' map ' shown.txt)
+  blocks=$(grep -c ' tree ' shown.txt)
+  least_of "$program" image.img "${all[@]}"
+  ours=$least
+  least_of xfs_db -r -c frag image.img
+  frag=$least
+  least_of xfs_repair -n image.img
+  # shellcheck disable=SC2059
+  printf "$form" "$1" "${#all[@]}" "$mappings" "$blocks" "$(seconds "$ours")" "$(seconds "$frag")" \
+    "$(seconds "$least")"
+}
+
+xfs_db -V
+echo "$(nproc) processors, load $(cut -d ' ' -f 1-3 /proc/loadavg); each number is of $runs runs"
+# shellcheck disable=SC2059
+printf "$form" image inodes mappings blocks forks 'xfs_db' 'xfs_repair'
+for image in "${images[@]}"; do
+  rm -f image.img
+  { xz -dc -- "$image" 2>/dev/null || cat -- "$image"; } | dd of=image.img bs=64K iflag=fullblock conv=sparse status=none
+  row "${image##*/}"
+done
