@@ -1,0 +1,3 @@
+mod Beside
+mod Compose
+pub mod Stays

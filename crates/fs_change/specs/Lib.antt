@@ -1,0 +1,12 @@
+pub mod Chains
+pub mod Changes
+pub mod Choice
+pub mod Forget
+pub mod Laws
+pub mod Loose
+pub mod Parts
+pub mod Records
+pub mod Run
+pub mod Scan
+pub mod Step
+pub mod Switch

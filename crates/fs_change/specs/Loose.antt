@@ -1,0 +1,116 @@
+-- What an entry leaves open: how an edited tree is cut into blocks, and what a block that a tree had or gained, or that
+-- left the reserve, holds as cores.
+use Rattle.std.specs.Prelude.{◌≡◌, ℕ, ◌+◌, ◌-◌, ◌/◌, ◌==◌, ◌&&◌, ◌||◌, ◌≤◌, Bool, true, false, not, List, [], ◌∷◌, ◌++◌, map, flat_map, filter, length, drop, Option, Some, None}
+use Rattle.std.specs.List.{list_any, list_all}
+use Rattle.dinode_core.specs.declared.mapping.Fork.{Fork}
+use Rattle.fs_model.specs.declared.fault.Counter.{Counter}
+use Rattle.fs_model.specs.declared.fault.Counter.TheVariants.{Iblocks, Fblocks, RmapBlocks, Btreeblks, RefcountBlocks}
+use Rattle.geom.specs.Layout.{split_of}
+use Rattle.rmap_recs.specs.Owners.{number_of}
+use Rattle.rmap_recs.specs.declared.owner.Owner.TheVariants.{Ag}
+use Rattle.rmap_recs.specs.declared.records.RmapRec.{RmapRec}
+use Rattle.sblock.specs.declared.kind.Kind.{Kind}
+use Rattle.sblock.specs.declared.kind.Kind.TheVariants.{Bno, Cnt, Rmap, Refc, Ino, Fino}
+use Rattle.tree_defs.specs.Lists.{is_in, times}
+use Rattle.fs_state.specs.Apart.{is_chunk, is_inode}
+use Rattle.fs_state.specs.Frame.{SameFork}
+use Rattle.fs_state.specs.Group.{is_among}
+use Rattle.fs_state.specs.State.{State, Group, Owned, blocks_of, blocks_in}
+use Rattle.fs_derive.specs.Kinds.{all_kinds, tree_owner}
+use Rattle.fs_change.specs.Parts.{edit, set_blocks}
+use Rattle.fs_change.specs.Records.{give_mapping, take_mapping}
+use Rattle.fs_change.specs.Changes.{follow}
+use Rattle.fs_change.specs.Switch.{owned_by, has_owned}
+
+-- ---- blocks of trees, list and limbo, with their owners
+
+abbrev pub tree_blocks : Group → Kind → List ℕ
+tree_blocks p k = blocks_of (p.tree k).reading
+
+abbrev pub owners_in : Group → List Owned
+owners_in p = map (owned_by (number_of Ag)) p.free_list ++ flat_map (λ k. map (owned_by (tree_owner k)) (tree_blocks p k)) all_kinds ++ p.limbo
+
+-- which of the first the second hasn't
+abbrev pub lost_to : List Owned → List Owned → List Owned
+lost_to os ps = filter (λ o. not (has_owned ps o)) os
+
+abbrev pub one_block : Owned → RmapRec
+one_block o = record { start = o.block; count = 1; owner = o.owner; word = 0 }
+
+abbrev pub take_each : List Owned → List RmapRec → List RmapRec
+take_each [] recs = recs
+take_each (o ∷ os) recs = take_mapping (one_block o) (take_each os recs)
+
+abbrev pub give_each : List Owned → List RmapRec → List RmapRec
+give_each [] recs = recs
+give_each (o ∷ os) recs = give_mapping (one_block o) (give_each os recs)
+
+-- where a moved block's owner differs, reverse mappings follow
+abbrev pub owners_follow : List Kind → Group → Group → Group
+owners_follow left p q = edit left Rmap (λ recs. give_each (lost_to (owners_in q) (owners_in p)) (take_each (lost_to (owners_in p) (owners_in q)) recs)) q
+
+-- and so do the counters of blocks
+abbrev pub block_counter : Group → Group → Counter → ℕ
+block_counter p q Iblocks = follow (p.counters Iblocks) (length (tree_blocks p Ino)) (length (tree_blocks q Ino))
+block_counter p q Fblocks = follow (p.counters Fblocks) (length (tree_blocks p Fino)) (length (tree_blocks q Fino))
+block_counter p q RmapBlocks = follow (p.counters RmapBlocks) (length (tree_blocks p Rmap)) (length (tree_blocks q Rmap))
+block_counter p q RefcountBlocks = follow (p.counters RefcountBlocks) (length (tree_blocks p Refc)) (length (tree_blocks q Refc))
+block_counter p q Btreeblks = follow (p.counters Btreeblks) (length (tree_blocks p Bno) + length (tree_blocks p Cnt) + length (tree_blocks p Rmap)) (length (tree_blocks q Bno) + length (tree_blocks q Cnt) + length (tree_blocks q Rmap))
+block_counter p q name = p.counters name
+
+abbrev pub in_trees : (Kind → List ℕ) → List Kind → Group → Group
+in_trees blocks [] p = p
+in_trees blocks (k ∷ ks) p = set_blocks k (blocks k) (in_trees blocks ks p)
+
+-- the group with its trees, list and limbo laid out so
+abbrev pub laid_out : List Kind → List Kind → (Kind → List ℕ) → List ℕ → List Owned → Group → Group
+laid_out left ks blocks list limbo p =
+    let q = owners_follow left p (record (in_trees blocks ks p) { free_list = list; limbo = limbo }) in
+    record q { counters = block_counter p q }
+
+-- all blocks of trees, list and limbo
+abbrev pub pool_of : Group → List ℕ
+pool_of p = p.free_list ++ flat_map (tree_blocks p) all_kinds ++ blocks_in p.limbo
+
+-- Which blocks may an edit move? From the front of the list into edited trees, and from these to the list's end, or into
+-- limbo; none comes or goes.
+pub record MovesBlocks (left ks : List Kind) (p q : Group) : Type 0 where
+  pub blocks : Kind → List ℕ
+  pub used : ℕ
+  pub freed : List ℕ
+  pub limbo : List Owned
+  pub is : q ≡ laid_out left ks blocks (drop used p.free_list ++ freed) limbo p
+  pub limbo_keeps : list_all (has_owned limbo) p.limbo ≡ true
+  pub none_lost : (b : ℕ) → times b (pool_of q) ≡ times b (pool_of p)
+
+-- where no tree is edited nothing moves
+abbrev pub Inside : List Kind → List Kind → Group → Group → Type 0
+Inside left [] p q = q ≡ p
+Inside left (k ∷ ks) p q = MovesBlocks left (k ∷ ks) p q
+
+-- ---- cores
+
+abbrev pub place_in : ℕ → Option (ℕ × ℕ) → (ℕ → Bool) → Bool
+place_in g None test = false
+place_in g (Some p) test = (p.0 == g) && test p.1
+
+-- a tree had the block or has it, or it left the reserve
+abbrev pub is_touched : Group → Group → ℕ → Bool
+is_touched p q b = list_any (λ k. is_in b (tree_blocks p k) || is_in b (tree_blocks q k)) all_kinds || is_in b (blocks_in p.reserve)
+
+-- What stays of inodes? All of other blocks, which chunks there are, and all of inodes in chunks; a fork that can't be
+-- read still can't.
+pub record InodesStay (g : ℕ) (a x b : State) : Type 0 where
+  pub untouched : (ino : ℕ) → place_in g (split_of a.geometry (ino / 8)) (is_touched (a.group g) (b.group g)) ≡ false → b.core ino ≡ x.core ino
+  pub chunks : (h u : ℕ) → is_chunk b h u ≡ is_chunk x h u
+  pub cores : (ino : ℕ) → is_inode x ino ≡ true → b.core ino ≡ x.core ino
+  pub forks : (ino : ℕ) (f : Fork) → is_inode x ino ≡ true → SameFork (x.fork ino f) (b.fork ino f)
+
+-- What is left open of an entry of the group that edits these trees, from state a, where it decides x? Only b's choice of
+-- blocks, and cores that nobody reads.
+pub record Loosely (g : ℕ) (left ks : List Kind) (a x b : State) : Type 0 where
+  pub geometry : b.geometry ≡ x.geometry
+  pub chains : b.chains ≡ x.chains
+  pub others : (h : ℕ) → (h ≡ g → ⊥) → b.group h ≡ x.group h
+  pub inside : Inside left ks (x.group g) (b.group g)
+  pub inodes : InodesStay g a x b

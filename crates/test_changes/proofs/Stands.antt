@@ -1,0 +1,121 @@
+-- A row's own state is one that its entry allows; counters are words, by a test.
+use Rattle.std.proofs.Common.{◌≡◌, ℕ, ◌<◌, ◌≤◌, ◌&&◌, ◌||◌, ◌^◌, Bool, true, false, nat_lt, nat_le, slice_get, length, List, [], ◌∷◌, refl, inl, Some, None}
+use Rattle.std.proofs.lemmas.Bool.{and_parts, ltb-true, leb-true}
+use Rattle.std.specs.List.{list_all, list_any}
+use Rattle.fs_model.specs.declared.entry.Entry.{Entry}
+use Rattle.fs_model.specs.declared.entry.Entry.TheVariants as entries
+use Rattle.fs_model.specs.declared.entry.Piece.{Piece}
+use Rattle.fs_model.specs.declared.fault.Counter.{Counter}
+use Rattle.fs_model.specs.declared.fault.Counter.TheVariants.{Count, Freecount, Iblocks, Fblocks, RmapBlocks, Freeblks, Longest, Btreeblks, RefcountBlocks}
+use Rattle.fs_model.specs.declared.fault.Fault.{Fault}
+use Rattle.fs_model.specs.declared.unit.Unit.{Unit as ScrubUnit}
+use Rattle.fs_model.specs.declared.verdict.Verdict.{Verdict}
+use Rattle.geom.specs.Layout.{fs_block_of}
+use Rattle.sblock.specs.declared.kind.Kind.{Kind}
+use Rattle.fs_state.specs.State.{State, Group}
+use Rattle.fs_state.specs.declared.intent.Intent.{Intent}
+use Rattle.fs_state.specs.declared.intent.IntentKind.TheVariants.{Free}
+use Rattle.fs_derive.specs.Contradiction.{evidence}
+use Rattle.fs_derive.specs.Faults.{kind_of_fault}
+use Rattle.fs_derive.specs.Kinds.{unit_of, kinds_of}
+use Rattle.fs_derive.specs.Lists.{numbers}
+use Rattle.fs_change.proofs.Stays.{decided_stands}
+use Rattle.fs_change.specs.Chains.{gives, takes, pending, is_quiet}
+use Rattle.fs_change.specs.Changes.{rmap_done, ref_done, freed, reserved, reaped, marked, judged, data_of}
+use Rattle.fs_change.specs.Choice.{extent}
+use Rattle.fs_change.specs.Laws.{AreWords}
+use Rattle.fs_change.specs.Records.{is_piece}
+use Rattle.fs_change.specs.Step.{Step, Row, IsNext, IsFirst, IsStretch, MayChange, AreRoots, is_ref, is_kept, is_mapping_of, group_of_entry}
+use Rattle.fs_change.specs.Switch.{need, switched, has_owned, owned_by}
+
+abbrev pub all_counters : List Counter
+all_counters = Count ∷ Freecount ∷ Iblocks ∷ Fblocks ∷ RmapBlocks ∷ Freeblks ∷ Longest ∷ Btreeblks ∷ RefcountBlocks ∷ []
+
+abbrev pub is_word : Group → Counter → Bool
+is_word p name = nat_lt (p.counters name) (2 ^ 32)
+
+abbrev pub are_words : Group → Bool
+are_words p = list_all (is_word p) all_counters
+
+-- the first test, and those behind it
+behind : (p : Group) (name : Counter) (names : List Counter) → list_all (is_word p) (name ∷ names) ≡ true → (is_word p name ≡ true) × (list_all (is_word p) names ≡ true)
+behind p name names h = and_parts (is_word p name) (list_all (is_word p) names) h
+
+words : (p : Group) → are_words p ≡ true → AreWords p
+words p h =
+    let w0 = behind p Count (Freecount ∷ Iblocks ∷ Fblocks ∷ RmapBlocks ∷ Freeblks ∷ Longest ∷ Btreeblks ∷ RefcountBlocks ∷ []) h in
+    let w1 = behind p Freecount (Iblocks ∷ Fblocks ∷ RmapBlocks ∷ Freeblks ∷ Longest ∷ Btreeblks ∷ RefcountBlocks ∷ []) w0.1 in
+    let w2 = behind p Iblocks (Fblocks ∷ RmapBlocks ∷ Freeblks ∷ Longest ∷ Btreeblks ∷ RefcountBlocks ∷ []) w1.1 in
+    let w3 = behind p Fblocks (RmapBlocks ∷ Freeblks ∷ Longest ∷ Btreeblks ∷ RefcountBlocks ∷ []) w2.1 in
+    let w4 = behind p RmapBlocks (Freeblks ∷ Longest ∷ Btreeblks ∷ RefcountBlocks ∷ []) w3.1 in
+    let w5 = behind p Freeblks (Longest ∷ Btreeblks ∷ RefcountBlocks ∷ []) w4.1 in
+    let w6 = behind p Longest (Btreeblks ∷ RefcountBlocks ∷ []) w5.1 in
+    let w7 = behind p Btreeblks (RefcountBlocks ∷ []) w6.1 in
+    let w8 = behind p RefcountBlocks [] w7.1 in
+    each p w0.0 w1.0 w2.0 w3.0 w4.0 w5.0 w6.0 w7.0 w8.0
+  where
+    each : (p : Group) → is_word p Count ≡ true → is_word p Freecount ≡ true → is_word p Iblocks ≡ true → is_word p Fblocks ≡ true → is_word p RmapBlocks ≡ true → is_word p Freeblks ≡ true → is_word p Longest ≡ true → is_word p Btreeblks ≡ true → is_word p RefcountBlocks ≡ true → AreWords p
+    each p a b c d e f g h i Count = ltb-true (p.counters Count) (2 ^ 32) a
+    each p a b c d e f g h i Freecount = ltb-true (p.counters Freecount) (2 ^ 32) b
+    each p a b c d e f g h i Iblocks = ltb-true (p.counters Iblocks) (2 ^ 32) c
+    each p a b c d e f g h i Fblocks = ltb-true (p.counters Fblocks) (2 ^ 32) d
+    each p a b c d e f g h i RmapBlocks = ltb-true (p.counters RmapBlocks) (2 ^ 32) e
+    each p a b c d e f g h i Freeblks = ltb-true (p.counters Freeblks) (2 ^ 32) f
+    each p a b c d e f g h i Longest = ltb-true (p.counters Longest) (2 ^ 32) g
+    each p a b c d e f g h i Btreeblks = ltb-true (p.counters Btreeblks) (2 ^ 32) h
+    each p a b c d e f g h i RefcountBlocks = ltb-true (p.counters RefcountBlocks) (2 ^ 32) i
+
+-- the entry leaves no tree, and the state is what it decides
+pub stands : (a x : State) (e : Entry) → Row a [] e x → are_words (x.group (group_of_entry a e)) ≡ true → Step a [] e x
+stands a x e row w = decided_stands a x [] e row refl (words (x.group (group_of_entry a e)) w)
+
+-- ---- steps of chain 0 over n blocks of group 0
+
+is_next : (a : State) (b n : ℕ) (i : Intent) (rest : List Intent) → a.chains 0 ≡ i ∷ rest → i.group ≡ 0 → i.block ≡ b → nat_lt 0 n ≡ true → nat_le n i.count ≡ true → IsNext a 0 0 b n i rest
+is_next a b n i rest next group block some count = record { next = next; group = group; block = block; some = ltb-true 0 n some; count = leb-true n i.count count }
+
+pub mapping_step : (a : State) (b n : ℕ) (i : Intent) (rest : List Intent) → a.chains 0 ≡ i ∷ rest → i.group ≡ 0 → i.block ≡ b → nat_lt 0 n ≡ true → nat_le n i.count ≡ true
+    → ((gives i.kind || takes i.kind) ≡ true) → i.ino ≡ 195 → i.count ≡ n → are_words ((rmap_done [] 0 i rest a).group 0) ≡ true → Step a [] (entries.RmapDone 0 195 0 b n) (rmap_done [] 0 i rest a)
+mapping_step a b n i rest next group block some count sort ino whole w =
+    stands a (rmap_done [] 0 i rest a) (entries.RmapDone 0 195 0 b n) (i, rest, is_next a b n i rest next group block some count, sort, ino, whole, refl) w
+
+pub count_step : (a : State) (b n : ℕ) (more : Bool) (i : Intent) (rest : List Intent) → a.chains 0 ≡ i ∷ rest → i.group ≡ 0 → i.block ≡ b → nat_lt 0 n ≡ true → nat_le n i.count ≡ true
+    → is_ref more i.kind ≡ true → IsStretch (a.group 0) b n → are_words ((ref_done [] 0 more (extent 0 b n) i rest a).group 0) ≡ true
+    → Step a [] (entries.RefDone 0 0 b n more) (ref_done [] 0 more (extent 0 b n) i rest a)
+count_step a b n more i rest next group block some count sort one w =
+    stands a (ref_done [] 0 more (extent 0 b n) i rest a) (entries.RefDone 0 0 b n more) (i, rest, is_next a b n i rest next group block some count, sort, one, refl) w
+
+pub free_step : (a : State) (b n : ℕ) (kept : Bool) (i : Intent) (rest : List Intent) → a.chains 0 ≡ i ∷ rest → i.group ≡ 0 → i.block ≡ b → nat_lt 0 n ≡ true → nat_le n i.count ≡ true
+    → i.kind ≡ Free → i.count ≡ n → kept ≡ is_kept a (extent 0 b n) → are_words ((freed [] 0 kept (extent 0 b n) rest a).group 0) ≡ true
+    → Step a [] (entries.Freed 0 0 b n kept) (freed [] 0 kept (extent 0 b n) rest a)
+free_step a b n kept i rest next group block some count sort whole owner w =
+    stands a (freed [] 0 kept (extent 0 b n) rest a) (entries.Freed 0 0 b n kept) (i, rest, is_next a b n i rest next group block some count, sort, whole, owner, refl) w
+
+-- ---- first events of chain 0
+
+pub first : (a : State) (ino : ℕ) → a.chains 0 ≡ [] → list_any (is_mapping_of ino) (pending a) ≡ false → IsFirst a 0 ino
+first a ino nothing none = record { open_chain = ltb-true 0 16 refl; owes_nothing = nothing; none_pending = none }
+
+pub changes : (a : State) (m : Piece) → m.chain ≡ 0 → nat_lt 0 m.count ≡ true → IsFirst a m.chain m.ino → is_piece m.offset (fs_block_of a.geometry m.group m.block) m.count (data_of a m.ino) ≡ true → MayChange a m
+changes a m chain some is_first there = record { some = ltb-true 0 m.count some; first = is_first; piece = there }
+
+-- ---- rebuilding
+
+pub reserve_step : (a : State) (unit : ScrubUnit) (b : ℕ) → slice_get (a.group 0).free_list 0 ≡ Some b → nat_lt 8 (length (a.group 0).free_list) ≡ true → are_words ((reserved [] 0 unit b false a).group 0) ≡ true
+    → Step a [] (entries.Reserved 0 unit b false) (reserved [] 0 unit b false a)
+reserve_step a unit b is_first many w = stands a (reserved [] 0 unit b false a) (entries.Reserved 0 unit b false) ((is_first, inl (ltb-true 8 (length (a.group 0).free_list) many)), refl) w
+
+pub switch_step : (a : State) (unit : ScrubUnit) (root second : ℕ) → is_quiet a 0 ≡ true → evidence a 0 unit ≡ None → nat_le (need a 0 unit) (length (a.group 0).reserve) ≡ true
+    → AreRoots (kinds_of unit) ((switched a 0 unit).group 0) root second → are_words ((switched a 0 unit).group 0) ≡ true → Step a [] (entries.Switched 0 unit root second) (switched a 0 unit)
+switch_step a unit root second quiet sound enough roots w =
+    stands a (switched a 0 unit) (entries.Switched 0 unit root second) (record { quiet = quiet; sound = sound; enough = leb-true (need a 0 unit) (length (a.group 0).reserve) enough }, roots, refl) w
+
+pub reap_step : (a : State) (owner b n : ℕ) → nat_lt 0 n ≡ true → list_all (λ c. has_owned (a.group 0).limbo (owned_by owner c)) (numbers b n) ≡ true → are_words ((reaped [] owner (extent 0 b n) a).group 0) ≡ true
+    → Step a [] (entries.Reaped (extent 0 b n)) (reaped [] owner (extent 0 b n) a)
+reap_step a owner b n some there w = stands a (reaped [] owner (extent 0 b n) a) (entries.Reaped (extent 0 b n)) (owner, record { some = ltb-true 0 n some; in_limbo = there }, refl) w
+
+pub fault_step : (a : State) (unit : ScrubUnit) (fault : Fault) → unit ≡ unit_of (kind_of_fault fault) → are_words ((marked 0 (kind_of_fault fault) a).group 0) ≡ true → Step a [] (entries.Fault 0 unit fault) (marked 0 (kind_of_fault fault) a)
+fault_step a unit fault is w = stands a (marked 0 (kind_of_fault fault) a) (entries.Fault 0 unit fault) (is, refl) w
+
+pub verdict_step : (a : State) (unit : ScrubUnit) (verdict : Verdict) → are_words ((judged 0 unit verdict a).group 0) ≡ true → Step a [] (entries.Verdict 0 unit verdict) (judged 0 unit verdict a)
+verdict_step a unit verdict w = stands a (judged 0 unit verdict a) (entries.Verdict 0 unit verdict) refl w

@@ -1,0 +1,13 @@
+use Rattle.std.specs.Prelude.{refl, [], ◌∷◌, true, false, Some, None}
+use Rattle.test_changes.proofs.Computing.{computing}
+use Rattle.std.proofs.Common.{ap, sym, ◌∙◌, ◌≡◌, ℕ, List, Bool, is_some, Option, length, subst}
+use Rattle.std.proofs.lemmas.Bool.{true≢false}
+use Rattle.std.proofs.Common.{arith, ◌<◌, ◌≤◌}
+use Rattle.test_changes.proofs.rows.not_to_be_freed.Goals as goal
+
+no_less : 0 < 0 → ⊥
+no_less h = omega arith
+
+pub returns : goal.returns
+unfolding computing
+returns c = (λ left b s. true≢false (sym s.row.5), λ left b s. no_less s.row.1.some, λ left b s. true≢false (sym s.row.1.in_limbo))

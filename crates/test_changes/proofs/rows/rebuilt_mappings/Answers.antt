@@ -1,0 +1,58 @@
+use Rattle.std.specs.Prelude.{refl, [], ◌∷◌, true, false, Some, None}
+use Rattle.test_changes.proofs.Computing.{computing}
+use Rattle.test_changes.proofs.Stands.{reserve_step, switch_step, reap_step, fault_step, verdict_step}
+use Rattle.test_changes.specs.Repairs.{free_reserved, free_rebuilt, free_reaped, rmap_reserved, rmap_rebuilt, rmap_reaped, ino_reserved, ino_rebuilt, ino_reaped}
+use Rattle.fs_change.specs.Changes.{marked, reserved}
+use Rattle.fs_change.specs.Switch.{switched}
+use Rattle.fs_model.specs.declared.fault.Fault.TheVariants.{Block, Missing}
+use Rattle.fs_model.specs.declared.«record».AnyRec.TheVariants as recs
+use Rattle.fs_model.specs.declared.unit.Unit.TheVariants as units
+use Rattle.fs_model.specs.declared.verdict.Verdict.TheVariants.{Rebuilt}
+use Rattle.sblock.specs.declared.block.BlockFault.TheVariants.{Checksum}
+use Rattle.sblock.specs.declared.kind.Kind.TheVariants.{Bno, Rmap, Ino}
+use Rattle.test_states.specs.Images.{mapped as owned, chunk, ag, inobt, inodes, mask}
+use Rattle.test_states.specs.Rows.{unread_free, short_rmap, short_ino}
+use Rattle.test_changes.proofs.rows.rebuilt_mappings.Goals as goal
+
+pub returns : goal.returns
+unfolding computing
+returns c = (
+  refl,
+  (
+    [],
+    marked 0 Rmap short_rmap,
+    fault_step short_rmap units.Rmap (Missing (recs.Rmap (owned 24 8 inodes 0))) refl refl,
+    tt,
+    (
+      [],
+      rmap_reserved,
+      reserve_step (marked 0 Rmap short_rmap) units.Rmap 7 refl refl refl,
+      tt,
+      (
+        [],
+        switched rmap_reserved 0 units.Rmap,
+        switch_step rmap_reserved units.Rmap 7 0 refl refl refl (refl, refl) refl,
+        tt,
+        (
+          [],
+          rmap_rebuilt,
+          verdict_step (switched rmap_reserved 0 units.Rmap) units.Rmap Rebuilt refl,
+          tt,
+          (
+            [],
+            rmap_reaped,
+            reap_step rmap_rebuilt ag 5 1 refl refl refl,
+            tt,
+            refl,
+          ),
+        ),
+      ),
+    ),
+  ),
+  refl,
+  refl,
+  refl,
+  refl,
+  refl,
+  refl,
+)

@@ -1,0 +1,14 @@
+use Rattle.std.specs.Prelude.{refl, [], ◌∷◌, true, false, Some, None}
+use Rattle.test_changes.proofs.Computing.{computing}
+use Rattle.std.proofs.Common.{ap, sym, ◌∙◌, ◌≡◌, ℕ, List, Bool, is_some, Option, length, subst}
+use Rattle.std.proofs.lemmas.Bool.{true≢false}
+use Rattle.std.proofs.Common.{arith}
+use Rattle.test_changes.proofs.rows.say_too_much.Goals as goal
+
+abbrev is_empty : {X : Type 0} → List X → Bool
+is_empty [] = true
+is_empty (x ∷ xs) = false
+
+pub returns : goal.returns
+unfolding computing
+returns c = (λ s. true≢false (ap (λ p. is_empty p.free_list) s.loosely.inside), λ s. true≢false (ap (λ p. is_empty p.free_list) (s.loosely.others 1 (λ e. e))))

@@ -1,0 +1,49 @@
+-- Entries that say too much, or too little: no step has them.
+use Rattle.std.specs.Prelude.{◌≡◌, ◌==◌, ℕ, Bool, true, false, List, [], ◌∷◌, if◌then◌else◌}
+use Rattle.fs_model.specs.declared.entry.Entry.{Entry}
+use Rattle.fs_model.specs.declared.entry.Entry.TheVariants as entries
+use Rattle.fs_model.specs.declared.fault.Cause.TheVariants.{Missing}
+use Rattle.fs_model.specs.declared.unit.Unit.TheVariants as units
+use Rattle.fs_model.specs.declared.verdict.Verdict.TheVariants.{Good}
+use Rattle.sblock.specs.declared.kind.Kind.{Kind}
+use Rattle.sblock.specs.declared.kind.Kind.TheVariants.{Bno, Rmap}
+use Rattle.fs_state.specs.State.{State}
+use Rattle.fs_change.specs.Changes.{judged, marked}
+use Rattle.fs_change.specs.Choice.{extent}
+use Rattle.fs_change.specs.Parts.{in_group}
+use Rattle.fs_change.specs.Step.{Step}
+use Rattle.test_states.specs.Images.{image_a}
+use Rattle.test_states.specs.Rows.{shared_forty, unread_free, on_heads, two}
+use Rattle.test_changes.specs.Files.{piece, with_owner}
+use Rattle.test_changes.specs.Repairs.{free_rebuilt, rmap_reserved}
+
+-- no state comes after this entry
+abbrev pub NoneAfter : State → Entry → Type 0
+NoneAfter a e = (left : List Kind) (b : State) → Step a left e b → ⊥
+
+-- a verdict that empties the free list; a mark that empties that of another group
+abbrev pub without_list : ℕ → State → State
+without_list g a = in_group g (λ p. record p { free_list = [] }) a
+
+abbrev pub SayTooMuch : Type 0
+SayTooMuch =
+    (Step image_a [] (entries.Verdict 0 units.Rmap Good) (without_list 0 (judged 0 units.Rmap Good image_a)) → ⊥)
+    × (Step two [] (entries.Marked 0 Bno Missing) (without_list 1 (marked 0 Bno two)) → ⊥)
+
+-- a step of a chain that owes nothing; a piece that isn't mapped there; a piece of no blocks
+abbrev pub NothingToDo : Type 0
+NothingToDo =
+    NoneAfter image_a (entries.RmapDone 0 195 0 40 1)
+    × NoneAfter shared_forty (entries.Unmapped (piece 5 41 1))
+    × NoneAfter shared_forty (entries.Unmapped (piece 5 40 0))
+
+-- a run that is freed though it has an owner; a reaped run of no blocks
+abbrev pub NotToBeFreed : Type 0
+NotToBeFreed = NoneAfter with_owner (entries.Freed 0 0 40 1 false) × NoneAfter free_rebuilt (entries.Reaped (extent 0 2 0)) × NoneAfter free_rebuilt (entries.Reaped (extent 0 2 2))
+
+-- a switch without a reserve; one of what contradicts itself; a block that isn't the list's first
+abbrev pub NotToBeSwitched : Type 0
+NotToBeSwitched =
+    NoneAfter unread_free (entries.Switched 0 units.Free 7 8)
+    × NoneAfter on_heads (entries.Switched 0 units.Rmap 7 0)
+    × NoneAfter unread_free (entries.Reserved 0 units.Free 8 false)

@@ -1,0 +1,83 @@
+ghost use Rattle.test_changes.specs.Files.{ConvertedPiece, CutUnmapping, GrowingFile, MappedHalfway, OwnerFound, SharedPieceRow, ShrinkingFile};
+ghost use Rattle.test_changes.specs.Refused.{NotToBeFreed, NotToBeSwitched, NothingToDo, SayTooMuch};
+ghost use Rattle.test_changes.specs.Repairs.{NoBlockLeft, RebuiltFreeSpace, RebuiltInodes, RebuiltMappings, TreeSizes};
+
+/// A file is made, and grows by six blocks and by one.
+pub fn growing_file()
+    ensures { GrowingFile }
+{}
+
+/// A mapping whose owner isn't told yet leaves the settled owners, and what a scan has seen.
+pub fn mapped_halfway()
+    ensures { MappedHalfway }
+{}
+
+/// A block that a file maps twice is unmapped once, and then again, and is free.
+pub fn shrinking_file()
+    ensures { ShrinkingFile }
+{}
+
+/// A run that still has an owner is kept, and reference counts are marked.
+pub fn owner_found()
+    ensures { OwnerFound }
+{}
+
+/// Half of an unwritten mapping is made written.
+pub fn converted_piece()
+    ensures { ConvertedPiece }
+{}
+
+/// A piece is mapped a second time, and counted.
+pub fn shared_piece()
+    ensures { SharedPieceRow }
+{}
+
+/// A crash after an unmapping's fork leaves its reverse mapping extra.
+pub fn cut_unmapping()
+    ensures { CutUnmapping }
+{}
+
+/// Free space is rebuilt in blocks 7 and 8, and its old roots are freed.
+pub fn rebuilt_free_space()
+    ensures { RebuiltFreeSpace }
+{}
+
+/// Reverse mappings are rebuilt in block 7, and the old root is freed.
+pub fn rebuilt_mappings()
+    ensures { RebuiltMappings }
+{}
+
+/// Both inode btrees are rebuilt in blocks 7 and 8, and the old roots are freed.
+pub fn rebuilt_inodes()
+    ensures { RebuiltInodes }
+{}
+
+/// A full group needs two blocks and has none.
+pub fn no_block_left()
+    ensures { NoBlockLeft }
+{}
+
+/// How many blocks a new tree of so many records has.
+pub fn tree_sizes()
+    ensures { TreeSizes }
+{}
+
+/// Entries that change more than they say are no steps.
+pub fn say_too_much()
+    ensures { SayTooMuch }
+{}
+
+/// Entries that do what isn't to be done are no steps.
+pub fn nothing_to_do()
+    ensures { NothingToDo }
+{}
+
+/// What has an owner isn't freed, and nothing that isn't in limbo is reaped.
+pub fn not_to_be_freed()
+    ensures { NotToBeFreed }
+{}
+
+/// Nothing is switched without a reserve, or against evidence, and blocks are taken in their order.
+pub fn not_to_be_switched()
+    ensures { NotToBeSwitched }
+{}
