@@ -1,14 +1,21 @@
 -- What follows from the definitions alone.
-use Rattle.std.specs.Prelude.{◌≡◌, ℕ, ◌<◌, ◌^◌, ◌==◌, false, true, Bool, List, [], ◌∷◌, ◌++◌, Option, Some, None, reverse}
+use Rattle.std.specs.Prelude.{◌≡◌, ℕ, ◌+◌, ◌<◌, ◌^◌, ◌==◌, ◌&&◌, ◌||◌, not, false, true, Bool, List, [], ◌∷◌, ◌++◌, filter, flat_map, map, Option, Some, None}
 use Rattle.std.specs.List.{list_all}
 use Rattle.fs_model.specs.declared.entry.Entry.{Entry}
 use Rattle.fs_model.specs.declared.entry.Entry.TheVariants as entries
 use Rattle.fs_model.specs.declared.fault.Counter.{Counter}
+use Rattle.rmap_recs.specs.Runs.{has}
+use Rattle.rmap_recs.specs.declared.tuples.Tuple.{Tuple}
 use Rattle.sblock.specs.declared.kind.Kind.{Kind}
 use Rattle.fs_state.specs.Group.{is_among}
 use Rattle.fs_state.specs.State.{State, Group}
-use Rattle.fs_change.specs.Forget.{Forget}
-use Rattle.fs_change.specs.Run.{Leads, Run, RunAll, RepliesFit}
+use Rattle.fs_state.specs.declared.intent.Intent.{Intent}
+use Rattle.fs_derive.specs.Claims.{fork_claims}
+use Rattle.fs_derive.specs.Own.{tuple_of, set_of}
+use Rattle.fs_change.specs.Chains.{most_chains, owed_gifts, owed_takings, given_by, taken_by, settled_by, settled_forks}
+use Rattle.fs_change.specs.Parts.{at_only}
+use Rattle.fs_change.specs.Run.{Leads, RunAll}
+use Rattle.fs_change.specs.Scan.{visited, held_tuples, shadow_of}
 use Rattle.fs_change.specs.Step.{Step, Row, may_leave, group_of_entry}
 
 -- ---- what an entry decides is allowed: all blocks may stay where they are
@@ -55,3 +62,110 @@ pub record StaysBeside (a : State) (e : Entry) (b : State) : Type 0 where
 
 abbrev pub ChangesOneGroup : Type 0
 ChangesOneGroup = (a b : State) (left : List Kind) (e : Entry) → Step a left e b → StaysBeside a e b
+
+-- ---- sets of owners
+
+-- two lists with the same members are the same set
+abbrev pub OneSet : Type 0
+OneSet = (ts us : List Tuple) → ((t : Tuple) → has ts t ≡ has us t) → set_of ts ≡ set_of us
+
+-- ---- a first event keeps the settled owners: what it does to forks is what its chain owes from then on. `more` and
+-- `plus` are what is owed then, `us` what forks have then.
+
+-- owners that forks gain, and that are still to be given
+abbrev pub GiftPending : Type 0
+GiftPending = (gifts more takings ts us new : List Tuple) → ((t : Tuple) → has us t ≡ (has ts t || has new t)) → ((t : Tuple) → has more t ≡ (has gifts t || has new t))
+    → ((t : Tuple) → has new t ≡ true → has ts t ≡ false) → settled_by more takings us ≡ settled_by gifts takings ts
+
+-- owners that forks lose, and that are still to be taken
+abbrev pub TakingPending : Type 0
+TakingPending = (gifts takings more ts us old : List Tuple) → ((t : Tuple) → has ts t ≡ (has us t || has old t)) → ((t : Tuple) → has more t ≡ (has takings t || has old t))
+    → ((t : Tuple) → has old t ≡ true → has gifts t ≡ false) → settled_by gifts more us ≡ settled_by gifts takings ts
+
+-- both at once: blocks that become written
+abbrev pub ChangePending : Type 0
+ChangePending = (gifts more takings plus ts us new old : List Tuple) → ((t : Tuple) → has us t ≡ ((has ts t && not (has old t)) || has new t))
+    → ((t : Tuple) → has more t ≡ (has gifts t || has new t)) → ((t : Tuple) → has plus t ≡ (has takings t || has old t))
+    → ((t : Tuple) → has new t ≡ true → has ts t ≡ false) → ((t : Tuple) → has old t ≡ true → has ts t ≡ true) → ((t : Tuple) → has old t ≡ true → has gifts t ≡ false)
+    → settled_by more plus us ≡ settled_by gifts takings ts
+
+-- ---- a finished step of reverse mappings changes them by its intent's owners, and by no others; `more` is what was owed
+-- before it
+
+abbrev pub GiftDone : Type 0
+GiftDone = (gifts more takings ts new : List Tuple) → ((t : Tuple) → has more t ≡ (has gifts t || has new t)) → ((t : Tuple) → has new t ≡ true → has ts t ≡ true) → ((t : Tuple) → has new t ≡ true → has gifts t ≡ false)
+    → settled_by gifts takings ts ≡ set_of (settled_by more takings ts ++ new)
+
+abbrev pub TakingDone : Type 0
+TakingDone = (gifts takings more ts old : List Tuple) → ((t : Tuple) → has more t ≡ (has takings t || has old t)) → ((t : Tuple) → has old t ≡ true → has ts t ≡ false) → ((t : Tuple) → has old t ≡ true → has takings t ≡ false)
+    → settled_by gifts takings ts ≡ set_of (filter (λ t. not (has old t)) (settled_by gifts more ts))
+
+-- ---- the same of states
+
+abbrev pub fork_owners : State → ℕ → List Tuple
+fork_owners a g = map tuple_of (fork_claims a g)
+
+abbrev pub all_given : ℕ → List Intent → List Tuple
+all_given g intents = flat_map (given_by g) intents
+
+abbrev pub all_taken : ℕ → List Intent → List Tuple
+all_taken g intents = flat_map (taken_by g) intents
+
+-- A first event puts intents into a chain that owes nothing, and forks gain the owners that these will give, and lose
+-- those that they will take: forks had none of the former and all of the latter, which nobody is still to be given.
+pub record BeginsChange (a b : State) (g c : ℕ) (intents : List Intent) : Type 0 where
+  pub below : c < most_chains
+  pub nothing : a.chains c ≡ []
+  pub chain : b.chains ≡ at_only c intents a.chains
+  pub forks : (t : Tuple) → has (fork_owners b g) t ≡ ((has (fork_owners a g) t && not (has (all_taken g intents) t)) || has (all_given g intents) t)
+  pub fresh : (t : Tuple) → has (all_given g intents) t ≡ true → has (fork_owners a g) t ≡ false
+  pub there : (t : Tuple) → has (all_taken g intents) t ≡ true → has (fork_owners a g) t ≡ true
+  pub apart : (t : Tuple) → has (all_taken g intents) t ≡ true → has (owed_gifts a g) t ≡ false
+
+-- so the settled owners of all forks are as they were
+abbrev pub FirstEventKeeps : Type 0
+FirstEventKeeps = (a b : State) (g c : ℕ) (intents : List Intent) → BeginsChange a b g c intents → settled_forks b g ≡ settled_forks a g
+
+-- A finished step takes the first intent off its chain, and leaves forks: they have what it gives and lack what it takes,
+-- and no other intent gives or takes the same.
+pub record EndsChange (a b : State) (g c : ℕ) (i : Intent) (rest : List Intent) : Type 0 where
+  pub below : c < most_chains
+  pub next : a.chains c ≡ i ∷ rest
+  pub chain : b.chains ≡ at_only c rest a.chains
+  pub forks : (t : Tuple) → has (fork_owners b g) t ≡ has (fork_owners a g) t
+  pub there : (t : Tuple) → has (given_by g i) t ≡ true → has (fork_owners a g) t ≡ true
+  pub given_once : (t : Tuple) → has (given_by g i) t ≡ true → has (owed_gifts b g) t ≡ false
+  pub gone : (t : Tuple) → has (taken_by g i) t ≡ true → has (fork_owners a g) t ≡ false
+  pub taken_once : (t : Tuple) → has (taken_by g i) t ≡ true → has (owed_takings b g) t ≡ false
+
+-- so the settled owners lose what it takes and gain what it gives
+abbrev pub StepMoves : Type 0
+StepMoves = (a b : State) (g c : ℕ) (i : Intent) (rest : List Intent) → EndsChange a b g c i rest
+    → settled_forks b g ≡ set_of (filter (λ t. not (has (taken_by g i) t)) (settled_forks a g) ++ given_by g i)
+
+-- ---- what a scan has seen
+
+-- a cursor that passes inodes without owners has seen nothing more
+abbrev pub CursorPasses : Type 0
+CursorPasses = (a : State) (g c d : ℕ) → ((t : Tuple) → has (settled_forks a g) t ≡ true → visited d t.owner ≡ visited c t.owner) → shadow_of a g d None 0 ≡ shadow_of a g c None 0
+
+-- an inode of which nothing was given yet adds nothing
+abbrev pub HoldBegins : Type 0
+HoldBegins = (a : State) (g c ino : ℕ) → shadow_of a g c (Some ino) 0 ≡ shadow_of a g c None 0
+
+-- an inode that was given whole is visited
+abbrev pub HoldEnds : Type 0
+HoldEnds = (a : State) (g c k : ℕ) → ((t : Tuple) → has (held_tuples a g (Some (c + 1)) k) t ≡ (has (settled_forks a g) t && (t.owner == c + 1)))
+    → shadow_of a g c (Some (c + 1)) k ≡ shadow_of a g (c + 1) None 0
+
+-- owners that settled ones gain, or lose, are the shadow's where the scan has visited their inode, and only there
+abbrev pub is_seen : ℕ → Tuple → Bool
+is_seen c t = visited c t.owner
+
+abbrev pub ShadowGains : Type 0
+ShadowGains = (a b : State) (g c k : ℕ) (held : Option ℕ) (new : List Tuple) → settled_forks b g ≡ set_of (settled_forks a g ++ new) → held_tuples b g held k ≡ held_tuples a g held k
+    → shadow_of b g c held k ≡ set_of (shadow_of a g c held k ++ filter (is_seen c) new)
+
+abbrev pub ShadowLoses : Type 0
+ShadowLoses = (a b : State) (g c k : ℕ) (held : Option ℕ) (old : List Tuple) → settled_forks b g ≡ set_of (filter (λ t. not (has old t)) (settled_forks a g)) → held_tuples b g held k ≡ held_tuples a g held k
+    → ((t : Tuple) → has old t ≡ true → has (held_tuples a g held k) t ≡ false) → shadow_of b g c held k ≡ set_of (filter (λ t. not (has old t && is_seen c t)) (shadow_of a g c held k))

@@ -1,4 +1,4 @@
-ghost use Rattle.fs_change.specs.Laws.{ChangesOneGroup, DecidedStands, LeadsCompose, SessionsCompose};
+ghost use Rattle.fs_change.specs.Laws.{ChangePending, ChangesOneGroup, CursorPasses, DecidedStands, FirstEventKeeps, GiftDone, GiftPending, HoldBegins, HoldEnds, LeadsCompose, OneSet, SessionsCompose, ShadowGains, ShadowLoses, StepMoves, TakingDone, TakingPending};
 
 /// A law: the state that an entry decides is one that the entry allows, where the counters are words:
 /// nothing forces a block to move.
@@ -19,4 +19,69 @@ pub fn sessions_compose()
 /// A law: an entry changes its own group and its own chain alone.
 pub fn changes_one_group()
     ensures { ChangesOneGroup }
+{}
+
+/// A law: two lists of owners with the same members are one set.
+pub fn one_set()
+    ensures { OneSet }
+{}
+
+/// A law: owners that forks gain while they are still to be given leave the settled owners as they were.
+pub fn gift_pending()
+    ensures { GiftPending }
+{}
+
+/// A law: owners that forks lose while they are still to be taken leave the settled owners as they were.
+pub fn taking_pending()
+    ensures { TakingPending }
+{}
+
+/// A law: so do owners that change while both is still to be done.
+pub fn change_pending()
+    ensures { ChangePending }
+{}
+
+/// A law: once owners were given, the settled owners have gained exactly these.
+pub fn gift_done()
+    ensures { GiftDone }
+{}
+
+/// A law: once owners were taken, the settled owners have lost exactly these.
+pub fn taking_done()
+    ensures { TakingDone }
+{}
+
+/// A law: a first event leaves the settled owners of all forks as they were.
+pub fn first_event_keeps()
+    ensures { FirstEventKeeps }
+{}
+
+/// A law: a finished step changes them by its intent's owners, and by no others.
+pub fn step_moves()
+    ensures { StepMoves }
+{}
+
+/// A law: a cursor that passes inodes without owners has seen nothing more.
+pub fn cursor_passes()
+    ensures { CursorPasses }
+{}
+
+/// A law: an inode that a scan takes hold of adds nothing, before a mapping of it was given.
+pub fn hold_begins()
+    ensures { HoldBegins }
+{}
+
+/// A law: an inode that was given whole is as good as visited.
+pub fn hold_ends()
+    ensures { HoldEnds }
+{}
+
+/// A law: owners that settled ones gain are the shadow's exactly where the scan has visited their inode.
+pub fn shadow_gains()
+    ensures { ShadowGains }
+{}
+
+/// A law: owners that settled ones lose leave the shadow exactly where the scan has visited their inode.
+pub fn shadow_loses()
+    ensures { ShadowLoses }
 {}

@@ -37,9 +37,9 @@ NothingToDo =
     × NoneAfter shared_forty (entries.Unmapped (piece 5 41 1))
     × NoneAfter shared_forty (entries.Unmapped (piece 5 40 0))
 
--- a run that is freed though it has an owner; a reaped run of no blocks
+-- a run that is freed though it has an owner; a reaped run of no blocks, and one that isn't in limbo
 abbrev pub NotToBeFreed : Type 0
-NotToBeFreed = NoneAfter with_owner (entries.Freed 0 0 40 1 false) × NoneAfter free_rebuilt (entries.Reaped (extent 0 2 0)) × NoneAfter free_rebuilt (entries.Reaped (extent 0 2 2))
+NotToBeFreed = NoneAfter with_owner (entries.Freed 0 0 40 1 false) × NoneAfter free_rebuilt (entries.Reaped (extent 0 2 0)) × NoneAfter free_rebuilt (entries.Reaped (extent 0 3 1))
 
 -- a switch without a reserve; one of what contradicts itself; a block that isn't the list's first
 abbrev pub NotToBeSwitched : Type 0

@@ -1,6 +1,5 @@
 use Rattle.std.specs.Prelude.{refl, [], ◌∷◌, true, false, Some, None}
 use Rattle.test_changes.proofs.Computing.{computing}
-use Rattle.std.proofs.Common.{inl}
 use Rattle.test_changes.proofs.Stands.{stands, first, mapping_step}
 use Rattle.fs_model.specs.declared.entry.Entry.TheVariants as entries
 use Rattle.fs_change.specs.Changes.{mapped, unmapped, converted, shared, taken, marked}
@@ -16,7 +15,7 @@ returns c = (
   (
     [],
     file_made,
-    stands image_a file_made (entries.Taken 1 195 7 None) (195, (λ g. true, refl, inl refl), refl, refl) refl,
+    stands image_a file_made (entries.Taken 1 195 7 None) (195, (λ g. true, refl, (0, ltb-true 0 1 refl, refl)), refl, refl) refl,
     tt,
     (
       [],

@@ -9,6 +9,12 @@ abbrev is_empty : {X : Type 0} → List X → Bool
 is_empty [] = true
 is_empty (x ∷ xs) = false
 
+no_one : 1 ≡ 0 → ⊥
+no_one e = omega arith
+
 pub returns : goal.returns
 unfolding computing
-returns c = (λ s. true≢false (ap (λ p. is_empty p.free_list) s.loosely.inside), λ s. true≢false (ap (λ p. is_empty p.free_list) (s.loosely.others 1 (λ e. e))))
+returns c = (
+  λ s. true≢false (ap (λ p. is_empty p.free_list) s.loosely.inside ∙ ap (λ y. is_empty (y.group 0).free_list) s.row),
+  λ s. true≢false (ap (λ p. is_empty p.free_list) (s.loosely.others 1 no_one) ∙ ap (λ y. is_empty (y.group 1).free_list) s.row.1),
+)

@@ -1,0 +1,5 @@
+use Rattle.fs_change.proofs.Shadow as lemmas
+use Rattle.fs_change.proofs.laws.hold_ends.Goals as goal
+
+pub returns : goal.returns
+returns c = lemmas.hold_ends
