@@ -9,7 +9,7 @@ abbrev is_empty : {X : Type 0} → List X → Bool
 is_empty [] = true
 is_empty (x ∷ xs) = false
 
-no_one : 1 ≡ 0 → ⊥
+no_one : ◌≡◌ {A = ℕ} 1 0 → ⊥
 no_one e = omega arith
 
 pub returns : goal.returns
