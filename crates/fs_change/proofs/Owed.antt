@@ -96,7 +96,7 @@ begun F a b c intents t below nothing chain =
     ∙ ap (λ is. has (flat_map F intents) t || has (flat_map F is) t) (sym nothing))
 
 pub first_event_keeps : FirstEventKeeps
-unfolding settled_forks owed_gifts owed_takings pending
+unfolding settled_forks pending
 first_event_keeps a b g c intents s =
     change_pending (owed_gifts a g) (owed_gifts b g) (owed_takings a g) (owed_takings b g) (fork_owners a g) (fork_owners b g) (all_given g intents) (all_taken g intents)
     s.forks
@@ -142,7 +142,7 @@ moves ts us gifts more takings plus new old u m p there once gone twice =
     by_cases false false false false true f g h k = refl
 
 pub step_moves : StepMoves
-unfolding settled_forks owed_gifts owed_takings pending
+unfolding settled_forks pending
 step_moves a b g c i rest s =
     one_set (filter (λ t. not (has (owed_gifts b g) t)) (fork_owners b g) ++ owed_takings b g) (filter (λ t. not (has (taken_by g i) t)) (settled_forks a g) ++ given_by g i) (λ t.
     in_settled (owed_gifts b g) (owed_takings b g) (fork_owners b g) t

@@ -1,22 +1,28 @@
 -- What follows from the definitions alone.
 use Rattle.std.specs.Prelude.{◌≡◌, ℕ, ◌+◌, ◌<◌, ◌^◌, ◌==◌, ◌&&◌, ◌||◌, not, false, true, Bool, List, [], ◌∷◌, ◌++◌, filter, flat_map, map, Option, Some, None}
 use Rattle.std.specs.List.{list_all}
+use Rattle.dinode_core.specs.declared.mapping.Fork.{Fork}
 use Rattle.fs_model.specs.declared.entry.Entry.{Entry}
 use Rattle.fs_model.specs.declared.entry.Entry.TheVariants as entries
 use Rattle.fs_model.specs.declared.fault.Counter.{Counter}
 use Rattle.rmap_recs.specs.Runs.{has}
 use Rattle.rmap_recs.specs.declared.tuples.Tuple.{Tuple}
 use Rattle.sblock.specs.declared.kind.Kind.{Kind}
+use Rattle.sblock.specs.declared.kind.Kind.TheVariants.{Rmap}
+use Rattle.fs_state.specs.Apart.{is_inode}
+use Rattle.fs_state.specs.Frame.{SameFork}
 use Rattle.fs_state.specs.Group.{is_among}
 use Rattle.fs_state.specs.State.{State, Group}
 use Rattle.fs_state.specs.declared.intent.Intent.{Intent}
 use Rattle.fs_derive.specs.Claims.{fork_claims}
+use Rattle.fs_derive.specs.Faults.{kind_of_fault}
+use Rattle.fs_derive.specs.Kinds.{kinds_of}
 use Rattle.fs_derive.specs.Own.{tuple_of, set_of}
 use Rattle.fs_change.specs.Chains.{most_chains, owed_gifts, owed_takings, given_by, taken_by, settled_by, settled_forks}
-use Rattle.fs_change.specs.Parts.{at_only}
+use Rattle.fs_change.specs.Parts.{at_only, stands_in}
 use Rattle.fs_change.specs.Run.{Leads, RunAll}
 use Rattle.fs_change.specs.Scan.{visited, held_tuples, shadow_of}
-use Rattle.fs_change.specs.Step.{Step, Row, may_leave, group_of_entry}
+use Rattle.fs_change.specs.Step.{Step, Row, may_leave, edited_kinds, group_of_entry, group_of_inode}
 
 -- ---- what an entry decides is allowed: all blocks may stay where they are
 
@@ -62,6 +68,41 @@ pub record StaysBeside (a : State) (e : Entry) (b : State) : Type 0 where
 
 abbrev pub ChangesOneGroup : Type 0
 ChangesOneGroup = (a b : State) (left : List Kind) (e : Entry) → Step a left e b → StaysBeside a e b
+
+-- the trees that an entry may change: those that it edits, with reverse mappings, which follow where blocks of trees get
+-- another owner; and those of which it says what is known
+abbrev pub with_owners : List Kind → List Kind
+with_owners [] = []
+with_owners (k ∷ ks) = Rmap ∷ k ∷ ks
+
+abbrev pub changed_kinds : Entry → List Kind
+changed_kinds (entries.Marked g k cause) = k ∷ []
+changed_kinds (entries.Fault g unit fault) = kind_of_fault fault ∷ []
+changed_kinds (entries.Verdict g unit verdict) = kinds_of unit
+changed_kinds (entries.Switched g unit root second) = kinds_of unit
+changed_kinds e = with_owners (edited_kinds e)
+
+-- all other trees are as they were, blocks, records and trust
+abbrev pub KeepsOtherTrees : Type 0
+KeepsOtherTrees = (a b : State) (left : List Kind) (e : Entry) → Step a left e b → (k : Kind) → is_among k (changed_kinds e) ≡ false
+    → (b.group (group_of_entry a e)).tree k ≡ (a.group (group_of_entry a e)).tree k
+
+-- the inodes whose core or fork an entry changes: its own, those of a new chunk, and what a reserved block held
+abbrev pub changes_inode : State → Entry → ℕ → Bool
+changes_inode a (entries.Mapped m) ino = ino == m.ino
+changes_inode a (entries.Unmapped m) ino = ino == m.ino
+changes_inode a (entries.Converted m) ino = ino == m.ino
+changes_inode a (entries.Shared m) ino = (ino == m.from) || (ino == m.to)
+changes_inode a (entries.Taken writer own uid None) ino = ino == own
+changes_inode a (entries.Taken writer own uid (Some b)) ino = (ino == own) || stands_in a (group_of_inode a own) b 8 ino
+changes_inode a (entries.Given writer own) ino = ino == own
+changes_inode a (entries.Reserved g unit b spare) ino = stands_in a g b 1 ino
+changes_inode a e ino = false
+
+-- all other inodes in chunks are as they were; a fork that couldn't be read still can't
+abbrev pub KeepsOtherInodes : Type 0
+KeepsOtherInodes = (a b : State) (left : List Kind) (e : Entry) → Step a left e b → (ino : ℕ) → changes_inode a e ino ≡ false → is_inode b ino ≡ true
+    → (b.core ino ≡ a.core ino) × ((f : Fork) → SameFork (a.fork ino f) (b.fork ino f))
 
 -- ---- sets of owners
 

@@ -1,4 +1,4 @@
-ghost use Rattle.fs_change.specs.Laws.{ChangePending, ChangesOneGroup, CursorPasses, DecidedStands, FirstEventKeeps, GiftDone, GiftPending, HoldBegins, HoldEnds, LeadsCompose, OneSet, SessionsCompose, ShadowGains, ShadowLoses, StepMoves, TakingDone, TakingPending};
+ghost use Rattle.fs_change.specs.Laws.{ChangePending, ChangesOneGroup, CursorPasses, DecidedStands, FirstEventKeeps, GiftDone, GiftPending, HoldBegins, HoldEnds, KeepsOtherInodes, KeepsOtherTrees, LeadsCompose, OneSet, SessionsCompose, ShadowGains, ShadowLoses, StepMoves, TakingDone, TakingPending};
 
 /// A law: the state that an entry decides is one that the entry allows, where the counters are words:
 /// nothing forces a block to move.
@@ -84,4 +84,14 @@ pub fn shadow_gains()
 /// A law: owners that settled ones lose leave the shadow exactly where the scan has visited their inode.
 pub fn shadow_loses()
     ensures { ShadowLoses }
+{}
+
+/// A law: an entry leaves the trees that it neither edits nor judges, blocks, records and trust.
+pub fn keeps_other_trees()
+    ensures { KeepsOtherTrees }
+{}
+
+/// A law: an entry leaves the inodes of chunks that it doesn't name, cores and forks.
+pub fn keeps_other_inodes()
+    ensures { KeepsOtherInodes }
 {}

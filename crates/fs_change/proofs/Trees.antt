@@ -1,0 +1,327 @@
+-- An entry leaves the trees that it neither edits nor judges.
+use Rattle.std.proofs.Common.{◌≡◌, ℕ, ◌==◌, ◌&&◌, ◌||◌, Bool, true, false, not, cond, List, [], ◌∷◌, ◌++◌, filter, sym, ap, subst, refl, ◌∙◌, Option, Some, None, eq-eqb, drop, take, length}
+use Rattle.std.proofs.lemmas.Bool.{true≢false, false≢true}
+use Rattle.std.specs.Prelude.{if◌then◌else◌}
+use Rattle.fs_model.specs.declared.entry.Entry.{Entry}
+use Rattle.fs_model.specs.declared.entry.Entry.TheVariants as entries
+use Rattle.fs_model.specs.declared.entry.Extent.{Extent}
+use Rattle.fs_model.specs.declared.entry.Piece.{Piece}
+use Rattle.fs_model.specs.declared.entry.SharedPiece.{SharedPiece}
+use Rattle.fs_model.specs.declared.unit.Trust.{Trust}
+use Rattle.fs_model.specs.declared.unit.Trust.TheVariants as trusts
+use Rattle.fs_model.specs.declared.unit.Unit.{Unit as ScrubUnit}
+use Rattle.fs_model.specs.declared.unit.Unit.TheVariants as units
+use Rattle.fs_model.specs.declared.verdict.Verdict.{Verdict}
+use Rattle.fs_model.specs.declared.verdict.Verdict.TheVariants as verdicts
+use Rattle.rmap_recs.specs.Owners.{number_of}
+use Rattle.rmap_recs.specs.declared.owner.Owner.TheVariants.{Ag, Inodes}
+use Rattle.sblock.specs.declared.kind.Kind.{Kind}
+use Rattle.sblock.specs.declared.kind.Kind.TheVariants.{Bno, Cnt, Rmap, Refc, Ino, Fino}
+use Rattle.fs_state.specs.Edits.{number_of as kind_number}
+use Rattle.fs_state.specs.Group.{is_among}
+use Rattle.fs_state.specs.Kinds.{RecOf}
+use Rattle.fs_state.specs.State.{State, Group, Index, Reading, Readable, Unreadable, recs_of, blocks_of, blocks_in}
+use Rattle.fs_state.specs.declared.intent.Intent.{Intent}
+use Rattle.fs_derive.specs.Derive.{derive}
+use Rattle.fs_derive.specs.Faults.{kind_of_fault}
+use Rattle.fs_derive.specs.Kinds.{kinds_of}
+use Rattle.fs_derive.specs.Lists.{numbers}
+use Rattle.fs_change.proofs.Beside.{elsewhere}
+use Rattle.fs_change.specs.Changes.{mapped, unmapped, converted, shared, rmap_done, ref_done, freed, taken, given, refilled, trimmed, marked, judged, judge, reserved, released, reaped, space_edit, take_free, give_free, give_owner, take_owner, extent_of, data_of, do_mapping, new_count, inodes_follow, turn, list_chunk, chunk_extent, make_chunk, is_in_extent, own_new, leave, block_extent, leave_limbo, reap_in, is_anothers, by_count, known_spans, plain_run, free_chunk}
+use Rattle.fs_change.specs.Laws.{KeepsOtherTrees, changed_kinds, with_owners}
+use Rattle.fs_change.specs.Loose.{Loosely, Inside, MovesBlocks, laid_out, in_trees, owners_follow, owners_in, lost_to, give_each, take_each}
+use Rattle.fs_change.specs.Parts.{at_only, in_group, tree_only, change_tree, in_blocks, with_recs, set_blocks, set_trust, set_trusts, edit, is_edited, sick_in, records_in}
+use Rattle.fs_change.specs.Records.{is_unwritten_at, set_count, span, by_start, take_span, give_span, give_mapping, take_mapping, put_chunk, turn_inode, follow_inode}
+use Rattle.fs_change.specs.Step.{Step, Row, edited_kinds, edited_in, group_of_entry, group_of_inode}
+use Rattle.fs_change.specs.Switch.{switched, moved, move_blocks, derived_in, hold, exact_counters, unit_owner, owned_by, join_limbo, lay_trees, limbo_of, kind_need}
+
+-- ---- one tree
+
+first_false : (a b : Bool) → (a || b) ≡ false → a ≡ false
+first_false true b h = h
+first_false false b h = refl
+
+rest_false : (a b : Bool) → (a || b) ≡ false → b ≡ false
+rest_false true b h = absurd (true≢false h)
+rest_false false b h = h
+
+-- k isn't j
+abbrev Not : Kind → Kind → Type 0
+Not j k = (kind_number k == kind_number j) ≡ false
+
+is_first : (j k : Kind) (ks : List Kind) → is_among j (k ∷ ks) ≡ false → Not j k
+is_first j k ks h = first_false (kind_number k == kind_number j) (is_among j ks) h
+
+in_rest : (j k : Kind) (ks : List Kind) → is_among j (k ∷ ks) ≡ false → is_among j ks ≡ false
+in_rest j k ks h = rest_false (kind_number k == kind_number j) (is_among j ks) h
+
+only : (k j : Kind) (i : Index (RecOf k)) (f : (l : Kind) → Index (RecOf l)) → Not j k → tree_only k i f j ≡ f j
+only Bno Bno i f h = absurd (true≢false h)
+only Cnt Cnt i f h = absurd (true≢false h)
+only Rmap Rmap i f h = absurd (true≢false h)
+only Refc Refc i f h = absurd (true≢false h)
+only Ino Ino i f h = absurd (true≢false h)
+only Fino Fino i f h = absurd (true≢false h)
+only k j i f h = refl
+
+changed : (k j : Kind) (g : Index (RecOf k) → Index (RecOf k)) (p : Group) → Not j k → (change_tree k g p).tree j ≡ p.tree j
+changed k j g p h = only k j (g (p.tree k)) p.tree h
+
+by_cond : (j : Kind) (b : Bool) (p q r : Group) → p.tree j ≡ r.tree j → q.tree j ≡ r.tree j → (cond b p q).tree j ≡ r.tree j
+by_cond j true p q r h i = h
+by_cond j false p q r h i = i
+
+edited : (left : List Kind) (k j : Kind) (f : List (RecOf k) → List (RecOf k)) (p : Group) → Not j k → (edit left k f p).tree j ≡ p.tree j
+edited left k j f p h = by_cond j (is_edited left p k) (change_tree k (λ i. record i { reading = with_recs (f (recs_of i.reading)) i.reading }) p) p p (changed k j (λ i. record i { reading = with_recs (f (recs_of i.reading)) i.reading }) p h) refl
+
+-- ---- several
+
+in_place : (j : Kind) (blocks : Kind → List ℕ) (ks : List Kind) (p : Group) → is_among j ks ≡ false → (in_trees blocks ks p).tree j ≡ p.tree j
+in_place j blocks [] p h = refl
+in_place j blocks (k ∷ ks) p h = changed k j (λ i. record i { reading = in_blocks (blocks k) i.reading }) (in_trees blocks ks p) (is_first j k ks h) ∙ in_place j blocks ks p (in_rest j k ks h)
+
+trusted : (j : Kind) (t : Trust) (ks : List Kind) (p : Group) → is_among j ks ≡ false → (set_trusts t ks p).tree j ≡ p.tree j
+trusted j t [] p h = refl
+trusted j t (k ∷ ks) p h = changed k j (λ i. record i { trust = t }) (set_trusts t ks p) (is_first j k ks h) ∙ trusted j t ks p (in_rest j k ks h)
+
+held : (j : Kind) (recs : (k : Kind) → List (RecOf k)) (ks : List Kind) (p : Group) → is_among j ks ≡ false → (hold recs ks p).tree j ≡ p.tree j
+held j recs [] p h = refl
+held j recs (k ∷ ks) p h = changed k j (λ i. record { reading = Readable (recs k) (blocks_of i.reading); trust = trusts.Good }) (hold recs ks p) (is_first j k ks h) ∙ held j recs ks p (in_rest j k ks h)
+
+laid : (j : Kind) (needs : Kind → ℕ) (ks : List Kind) (bs : List ℕ) (p : Group) → is_among j ks ≡ false → (lay_trees needs ks bs p).tree j ≡ p.tree j
+laid j needs [] bs p h = refl
+laid j needs (k ∷ ks) bs p h = changed k j (λ i. record i { reading = in_blocks (take (needs k) bs) i.reading }) (lay_trees needs ks (drop (needs k) bs) p) (is_first j k ks h) ∙ laid j needs ks (drop (needs k) bs) p (in_rest j k ks h)
+
+-- ---- free space and owners
+
+spaced : (left : List Kind) (j : Kind) (e : Extent) (p : Group) → Not j Bno → Not j Cnt → (take_free left e p).tree j ≡ p.tree j
+spaced left j e p b c =
+    edited left Cnt j (take_span by_count (known_spans p) (span e.block e.count)) (edit left Bno (take_span by_start (records_in p Bno) (span e.block e.count)) p) c
+    ∙ edited left Bno j (take_span by_start (records_in p Bno) (span e.block e.count)) p b
+
+given_space : (left : List Kind) (j : Kind) (e : Extent) (p : Group) → Not j Bno → Not j Cnt → (give_free left e p).tree j ≡ p.tree j
+given_space left j e p b c =
+    edited left Cnt j (give_span by_count (known_spans p) (span e.block e.count)) (edit left Bno (give_span by_start (records_in p Bno) (span e.block e.count)) p) c
+    ∙ edited left Bno j (give_span by_start (records_in p Bno) (span e.block e.count)) p b
+
+given_owner : (left : List Kind) (owner : ℕ) (e : Extent) (j : Kind) (p : Group) → Not j Rmap → (give_owner left owner e p).tree j ≡ p.tree j
+given_owner left owner e j p h = edited left Rmap j (give_mapping (plain_run owner e)) p h
+
+taken_owner : (left : List Kind) (owner : ℕ) (e : Extent) (j : Kind) (p : Group) → Not j Rmap → (take_owner left owner e p).tree j ≡ p.tree j
+taken_owner left owner e j p h = edited left Rmap j (take_mapping (plain_run owner e)) p h
+
+followed : (left : List Kind) (p q : Group) (j : Kind) → Not j Rmap → (owners_follow left p q).tree j ≡ q.tree j
+followed left p q j h = edited left Rmap j (λ recs. give_each (lost_to (owners_in q) (owners_in p)) (take_each (lost_to (owners_in p) (owners_in q)) recs)) q h
+
+-- the group itself
+pub in_itself : (g : ℕ) (f : Group → Group) (a : State) → (in_group g f a).group g ≡ f (a.group g)
+in_itself g f a = ap (λ b. cond b (f (a.group g)) (a.group g)) (eq-eqb g g refl)
+
+own : (g : ℕ) (f : Group → Group) (a : State) (j : Kind) → ((p : Group) → (f p).tree j ≡ p.tree j) → ((in_group g f a).group g).tree j ≡ (a.group g).tree j
+own g f a j keeps = ap (λ (p : Group). p.tree j) (in_itself g f a) ∙ keeps (a.group g)
+
+-- ---- rows
+
+-- of the kinds of free space and reverse mappings in this order none is j
+no_space : (j k : Kind) (ks : List Kind) → is_among j (k ∷ Bno ∷ Cnt ∷ ks) ≡ false → (Not j Bno) × (Not j Cnt)
+no_space j k ks h = let h1 = in_rest j k (Bno ∷ Cnt ∷ ks) h in (is_first j Bno (Cnt ∷ ks) h1, is_first j Cnt ks (in_rest j Bno (Cnt ∷ ks) h1))
+
+abbrev Keeps : State → State → ℕ → Kind → Type 0
+Keeps a x g j = (x.group g).tree j ≡ (a.group g).tree j
+
+by_mapped : (m : Piece) (a : State) (j : Kind) → is_among j (Rmap ∷ Bno ∷ Cnt ∷ []) ≡ false → Keeps a (mapped m a) m.group j
+unfolding mapped
+by_mapped m a j h = let n = no_space j Rmap [] h in own m.group (take_free [] (extent_of m)) a j (λ p. spaced [] j (extent_of m) p n.0 n.1)
+
+by_unmapped : (m : Piece) (a : State) (j : Kind) → Keeps a (unmapped m a) m.group j
+unfolding unmapped
+by_unmapped m a j = refl
+
+by_shared_tree : (m : SharedPiece) (a : State) (j : Kind) → Keeps a (shared m a) m.group j
+unfolding shared
+by_shared_tree m a j = refl
+
+kept_if : (b : Bool) (x y a : State) (g : ℕ) (j : Kind) → Keeps a x g j → Keeps a y g j → Keeps a (if b then x else y) g j
+kept_if true x y a g j h i = h
+kept_if false x y a g j h i = i
+
+by_converted : (m : Piece) (a : State) (j : Kind) → Keeps a (converted m a) m.group j
+unfolding converted
+by_converted m a j = kept_if (is_unwritten_at m.offset (data_of a m.ino)) _ a a m.group j refl refl
+
+by_rmap : (left : List Kind) (c g : ℕ) (i : Intent) (rest : List Intent) (a : State) (j : Kind) → i.group ≡ g → Not j Rmap → Keeps a (rmap_done left c i rest a) g j
+unfolding rmap_done
+by_rmap left c g i rest a j at h = subst (λ (k : ℕ). Keeps a (in_group i.group (edit left Rmap (do_mapping i.kind i)) a) k j) at (own i.group (edit left Rmap (do_mapping i.kind i)) a j (λ p. edited left Rmap j (do_mapping i.kind i) p h))
+
+by_ref : (left : List Kind) (c g b n : ℕ) (more : Bool) (i : Intent) (rest : List Intent) (a : State) (j : Kind) → Not j Refc → Keeps a (ref_done left c more (record { group = g; block = b; count = n }) i rest a) g j
+unfolding ref_done
+by_ref left c g b n more i rest a j h = own g (edit left Refc (λ recs. set_count b n (new_count more recs b) recs)) a j (λ p. edited left Refc j (λ recs. set_count b n (new_count more recs b) recs) p h)
+
+by_freed : (left : List Kind) (c g b n : ℕ) (rest : List Intent) (a : State) (j : Kind) → Not j Bno → Not j Cnt → Keeps a (freed left c false (record { group = g; block = b; count = n }) rest a) g j
+unfolding freed
+by_freed left c g b n rest a j hb hc = own g (give_free left (record { group = g; block = b; count = n })) a j (λ p. given_space left j (record { group = g; block = b; count = n }) p hb hc)
+
+by_kept : (left : List Kind) (c g b n : ℕ) (rest : List Intent) (a : State) (j : Kind) → Keeps a (freed left c true (record { group = g; block = b; count = n }) rest a) g j
+unfolding freed
+by_kept left c g b n rest a j = refl
+
+by_chunk : (g : ℕ) (chunk : Option ℕ) (a : State) (j : Kind) → Not j Bno → Not j Cnt → Not j Rmap → Not j Ino → Not j Fino → Keeps a (make_chunk g chunk a) g j
+by_chunk g None a j hb hc hr hi hf = refl
+by_chunk g (Some b) a j hb hc hr hi hf =
+    own g (λ p. list_chunk b (give_owner [] (number_of Inodes) (chunk_extent g b) (take_free [] (chunk_extent g b) p))) a j (λ p.
+    edited [] Fino j (put_chunk (free_chunk b)) (edit [] Ino (put_chunk (free_chunk b)) (give_owner [] (number_of Inodes) (chunk_extent g b) (take_free [] (chunk_extent g b) p))) hf
+    ∙ edited [] Ino j (put_chunk (free_chunk b)) (give_owner [] (number_of Inodes) (chunk_extent g b) (take_free [] (chunk_extent g b) p)) hi
+    ∙ given_owner [] (number_of Inodes) (chunk_extent g b) j (take_free [] (chunk_extent g b) p) hr
+    ∙ spaced [] j (chunk_extent g b) p hb hc)
+
+turned_tree : (to_free : Bool) (i : ℕ) (j : Kind) (p : Group) → Not j Ino → Not j Fino → (turn to_free i p).tree j ≡ p.tree j
+turned_tree to_free i j p hi hf = edited [] Fino j (follow_inode i (turn_inode to_free i (records_in p Ino))) (edit [] Ino (turn_inode to_free i) p) hf ∙ edited [] Ino j (turn_inode to_free i) p hi
+
+by_taken : (g i ino uid : ℕ) (chunk : Option ℕ) (a : State) (j : Kind) → Not j Bno → Not j Cnt → Not j Rmap → Not j Ino → Not j Fino → Keeps a (taken g i ino uid chunk a) g j
+unfolding taken
+by_taken g i ino uid chunk a j hb hc hr hi hf =
+    own g (λ q. inodes_follow (a.group g) (turn false i q)) (make_chunk g chunk a) j (λ p. turned_tree false i j p hi hf) ∙ by_chunk g chunk a j hb hc hr hi hf
+
+by_given : (g i ino : ℕ) (a : State) (j : Kind) → Not j Ino → Not j Fino → Keeps a (given g i ino a) g j
+unfolding given
+by_given g i ino a j hi hf = own g (λ p. inodes_follow p (turn true i p)) a j (λ p. turned_tree true i j p hi hf)
+
+by_refilled : (e : Extent) (a : State) (j : Kind) → Not j Bno → Not j Cnt → Not j Rmap → Keeps a (refilled e a) e.group j
+unfolding refilled
+by_refilled e a j hb hc hr =
+    own e.group (λ p. give_owner [] (number_of Ag) e (take_free [] e (record p { free_list = p.free_list ++ numbers e.block e.count }))) a j (λ p.
+    given_owner [] (number_of Ag) e j (take_free [] e (record p { free_list = p.free_list ++ numbers e.block e.count })) hr ∙ spaced [] j e (record p { free_list = p.free_list ++ numbers e.block e.count }) hb hc)
+
+by_trimmed : (e : Extent) (a : State) (j : Kind) → Not j Bno → Not j Cnt → Not j Rmap → Keeps a (trimmed e a) e.group j
+unfolding trimmed
+by_trimmed e a j hb hc hr =
+    own e.group (λ p. give_free [] e (take_owner [] (number_of Ag) e (record p { free_list = filter (λ b. not (is_in_extent e b)) p.free_list }))) a j (λ p.
+    given_space [] j e (take_owner [] (number_of Ag) e (record p { free_list = filter (λ b. not (is_in_extent e b)) p.free_list })) hb hc ∙ taken_owner [] (number_of Ag) e j (record p { free_list = filter (λ b. not (is_in_extent e b)) p.free_list }) hr)
+
+by_marked : (g : ℕ) (k : Kind) (a : State) (j : Kind) → Not j k → Keeps a (marked g k a) g j
+unfolding marked
+by_marked g k a j h = own g (set_trust trusts.Sick k) a j (λ p. changed k j (λ i. record i { trust = trusts.Sick }) p h)
+
+judged_tree : (verdict : Verdict) (unit : ScrubUnit) (j : Kind) (p : Group) → is_among j (kinds_of unit) ≡ false → (judge verdict unit p).tree j ≡ p.tree j
+judged_tree verdicts.Good unit j p h = trusted j trusts.Good (kinds_of unit) p h
+judged_tree v unit j p h = refl
+
+by_judged : (g : ℕ) (unit : ScrubUnit) (verdict : Verdict) (a : State) (j : Kind) → is_among j (kinds_of unit) ≡ false → Keeps a (judged g unit verdict a) g j
+unfolding judged
+by_judged g unit verdict a j h = own g (judge verdict unit) a j (λ p. judged_tree verdict unit j p h)
+
+left_tree : (left : List Kind) (unit : ScrubUnit) (e : Extent) (spare : Bool) (j : Kind) (p : Group) → Not j Bno → Not j Cnt → (leave left unit e spare p).tree j ≡ p.tree j
+left_tree left unit e false j p hb hc = refl
+left_tree left units.Free e true j p hb hc = refl
+left_tree left units.Inode e true j p hb hc = spaced left j e p hb hc
+left_tree left units.Rmap e true j p hb hc = spaced left j e p hb hc
+left_tree left units.Refc e true j p hb hc = spaced left j e p hb hc
+
+owned_tree : (left : List Kind) (unit : ScrubUnit) (e : Extent) (spare : Bool) (j : Kind) (p : Group) → Not j Rmap → (own_new left unit e spare p).tree j ≡ p.tree j
+owned_tree left units.Rmap e spare j p h = refl
+owned_tree left units.Free e false j p h = refl
+owned_tree left units.Free e true j p h = given_owner left (unit_owner units.Free) e j p h
+owned_tree left units.Inode e true j p h = given_owner left (unit_owner units.Inode) e j p h
+owned_tree left units.Refc e true j p h = given_owner left (unit_owner units.Refc) e j p h
+owned_tree left units.Inode e false j p h = given_owner left (unit_owner units.Inode) e j (take_owner left (number_of Ag) e p) h ∙ taken_owner left (number_of Ag) e j p h
+owned_tree left units.Refc e false j p h = given_owner left (unit_owner units.Refc) e j (take_owner left (number_of Ag) e p) h ∙ taken_owner left (number_of Ag) e j p h
+
+by_reserved : (left : List Kind) (g b : ℕ) (unit : ScrubUnit) (spare : Bool) (a : State) (j : Kind) → Not j Bno → Not j Cnt → Not j Rmap → Keeps a (reserved left g unit b spare a) g j
+unfolding reserved
+by_reserved left g b unit spare a j hb hc hr =
+    own g (λ p. own_new left unit (block_extent g b) spare (leave left unit (block_extent g b) spare (record p { reserve = p.reserve ++ owned_by (unit_owner unit) b ∷ [] }))) a j (λ p.
+    owned_tree left unit (block_extent g b) spare j (leave left unit (block_extent g b) spare (record p { reserve = p.reserve ++ owned_by (unit_owner unit) b ∷ [] })) hr
+    ∙ left_tree left unit (block_extent g b) spare j (record p { reserve = p.reserve ++ owned_by (unit_owner unit) b ∷ [] }) hb hc)
+
+by_released : (g : ℕ) (a : State) (j : Kind) → Keeps a (released g a) g j
+unfolding released
+by_released g a j = own g (λ p. record p { reserve = []; limbo = join_limbo p.reserve p.limbo }) a j (λ p. refl)
+
+by_switched : (g : ℕ) (unit : ScrubUnit) (a : State) (j : Kind) → is_among j (kinds_of unit) ≡ false → Keeps a (switched a g unit) g j
+unfolding switched moved
+by_switched g unit a j h =
+    let m : State = moved a g unit in
+    let d : State = derived_in m g unit in
+    own g (λ p. record p { counters = exact_counters d g unit }) d j (λ p. refl)
+    ∙ own g (hold (derive m g) (kinds_of unit)) m j (λ p. held j (derive m g) (kinds_of unit) p h)
+    ∙ own g (move_blocks a g unit) a j (λ p. laid j (kind_need a g unit) (kinds_of unit) (blocks_in (a.group g).reserve) p h)
+
+by_reaped : (left : List Kind) (owner : ℕ) (e : Extent) (a : State) (j : Kind) → Not j Bno → Not j Cnt → Not j Rmap → Keeps a (reaped left owner e a) e.group j
+unfolding reaped
+by_reaped left owner e a j hb hc hr = own e.group (reap_in left owner e) a j (λ p.
+    by_cond j (sick_in p Bno || sick_in p Cnt || is_anothers owner e (records_in p Rmap)) (take_owner left owner e (leave_limbo owner e p)) (give_free left e (take_owner left owner e (leave_limbo owner e p))) p
+    (taken_owner left owner e j (leave_limbo owner e p) hr)
+    (given_space left j e (take_owner left owner e (leave_limbo owner e p)) hb hc ∙ taken_owner left owner e j (leave_limbo owner e p) hr))
+
+as_is : (a x y : State) (g : ℕ) (j : Kind) → x ≡ y → Keeps a y g j → Keeps a x g j
+as_is a x y g j same k = subst (λ (s : State). Keeps a s g j) (sym same) k
+
+-- Rmap ∷ Bno ∷ Cnt ∷ Rmap ∷ .. : what none of these is
+no_three : (j : Kind) (ks : List Kind) → is_among j (Rmap ∷ Bno ∷ Cnt ∷ ks) ≡ false → (Not j Bno) × (Not j Cnt) × (Not j Rmap)
+no_three j ks h = let n = no_space j Rmap ks h in (n.0, n.1, is_first j Rmap (Bno ∷ Cnt ∷ ks) h)
+
+decided : (a x : State) (left : List Kind) (e : Entry) → Row a left e x → (j : Kind) → is_among j (changed_kinds e) ≡ false → Keeps a x (group_of_entry a e) j
+decided a x left (entries.Mapped m) r j h = as_is a x _ _ j r.1 (by_mapped m a j h)
+decided a x left (entries.Unmapped m) r j h = as_is a x _ _ j r.1 (by_unmapped m a j)
+decided a x left (entries.Converted m) r j h = as_is a x _ _ j r.1 (by_converted m a j)
+decided a x left (entries.Shared m) r j h = as_is a x (shared m a) m.group j r.1 (by_shared_tree m a j)
+decided a x left (entries.RmapDone c ino g b n) r j h = as_is a x _ _ j r.6 (by_rmap left c g r.0 r.1 a j r.2.group (is_first j Rmap (Rmap ∷ []) h))
+decided a x left (entries.RefDone c g b n more) r j h = as_is a x _ _ j r.5 (by_ref left c g b n more r.0 r.1 a j (is_first j Refc (Rmap ∷ []) (in_rest j Rmap (Refc ∷ Rmap ∷ []) h)))
+decided a x left (entries.Freed c g b n true) r j h = as_is a x _ _ j r.6 (by_kept left c g b n r.1 a j)
+decided a x left (entries.Freed c g b n false) r j h = let s = no_space j Rmap [] h in as_is a x _ _ j r.6 (by_freed left c g b n r.1 a j s.0 s.1)
+decided a x left (entries.Taken writer ino uid chunk) r j h =
+    let s = no_three j (Rmap ∷ Ino ∷ Fino ∷ []) h in
+    let k = in_rest j Rmap (Ino ∷ Fino ∷ []) (in_rest j Cnt (Rmap ∷ Ino ∷ Fino ∷ []) (in_rest j Bno (Cnt ∷ Rmap ∷ Ino ∷ Fino ∷ []) (in_rest j Rmap (Bno ∷ Cnt ∷ Rmap ∷ Ino ∷ Fino ∷ []) h))) in
+    as_is a x _ _ j r.3 (by_taken (group_of_inode a ino) r.0 ino uid chunk a j s.0 s.1 s.2 (is_first j Ino (Fino ∷ []) k) (is_first j Fino [] (in_rest j Ino (Fino ∷ []) k)))
+decided a x left (entries.Given writer ino) r j h =
+    let k = in_rest j Rmap (Ino ∷ Fino ∷ []) (in_rest j Rmap (Rmap ∷ Ino ∷ Fino ∷ []) h) in
+    as_is a x _ _ j r.3 (by_given (group_of_inode a ino) r.0 ino a j (is_first j Ino (Fino ∷ []) k) (is_first j Fino [] (in_rest j Ino (Fino ∷ []) k)))
+decided a x left (entries.Refilled e) r j h = let s = no_three j (Rmap ∷ []) h in as_is a x _ _ j r.1 (by_refilled e a j s.0 s.1 s.2)
+decided a x left (entries.Trimmed e) r j h = let s = no_three j (Rmap ∷ []) h in as_is a x _ _ j r.1 (by_trimmed e a j s.0 s.1 s.2)
+decided a x left (entries.Marked g k cause) r j h = as_is a x _ _ j r.1 (by_marked g k a j (is_first j k [] h))
+decided a x left (entries.Reserved g unit b spare) r j h = let s = no_three j (Rmap ∷ []) h in as_is a x _ _ j r.1 (by_reserved left g b unit spare a j s.0 s.1 s.2)
+decided a x left (entries.Released g unit) r j h = as_is a x _ _ j r (by_released g a j)
+decided a x left (entries.Fault g unit fault) r j h = as_is a x _ _ j r.1 (by_marked g (kind_of_fault fault) a j (is_first j (kind_of_fault fault) [] h))
+decided a x left (entries.Verdict g unit verdict) r j h = as_is a x _ _ j r (by_judged g unit verdict a j h)
+decided a x left (entries.Switched g unit root second) r j h = as_is a x _ _ j r.2 (by_switched g unit a j h)
+decided a x left (entries.Reaped e) r j h = let s = no_three j (Rmap ∷ []) h in as_is a x _ _ j r.2 (by_reaped left r.0 e a j s.0 s.1 s.2)
+decided a x left (entries.Reply writer line code done refused begun) r j h = as_is a x _ _ j r refl
+
+-- ---- what is left open
+
+filtered : (j : Kind) (test : Kind → Bool) (ks : List Kind) → is_among j ks ≡ false → is_among j (filter test ks) ≡ false
+filtered j test [] h = refl
+filtered j test (k ∷ ks) h = elim (test k) as (λ b. is_among j (cond b (k ∷ filter test ks) (filter test ks)) ≡ false) [
+  | true ↦ ap (λ b. b || is_among j (filter test ks)) (is_first j k ks h) ∙ filtered j test ks (in_rest j k ks h)
+  | false ↦ filtered j test ks (in_rest j k ks h)
+]
+
+moved_tree : (left ks : List Kind) (p q : Group) (j : Kind) → MovesBlocks left ks p q → is_among j ks ≡ false → Not j Rmap → q.tree j ≡ p.tree j
+moved_tree left ks p q j m h r =
+    ap (λ (s : Group). s.tree j) m.is
+    ∙ followed left p (record (in_trees m.blocks ks p) { free_list = drop m.used p.free_list ++ m.freed; limbo = m.limbo }) j r
+    ∙ in_place j m.blocks ks p h
+
+inside_tree : (left ks : List Kind) (p q : Group) (j : Kind) → Inside left ks p q → is_among j ks ≡ false → Not j Rmap → q.tree j ≡ p.tree j
+inside_tree left [] p q j i h r = ap (λ (s : Group). s.tree j) i
+inside_tree left (k ∷ ks) p q j i h r = moved_tree left (k ∷ ks) p q j i h r
+
+-- an entry that edits trees says so of reverse mappings too
+open_tree : (left : List Kind) (test : Kind → Bool) (ks : List Kind) (p q : Group) (j : Kind) → Inside left (filter test ks) p q → is_among j (with_owners ks) ≡ false → q.tree j ≡ p.tree j
+open_tree left test [] p q j i h = ap (λ (s : Group). s.tree j) i
+open_tree left test (k ∷ ks) p q j i h = inside_tree left (filter test (k ∷ ks)) p q j i (filtered j test (k ∷ ks) (in_rest j Rmap (k ∷ ks) h)) (is_first j Rmap (k ∷ ks) h)
+
+edits_only : (e : Entry) (j : Kind) → is_among j (changed_kinds e) ≡ false → is_among j (with_owners (edited_kinds e)) ≡ false
+edits_only (entries.Marked g k cause) j h = refl
+edits_only (entries.Fault g unit fault) j h = refl
+edits_only (entries.Verdict g unit verdict) j h = refl
+edits_only (entries.Switched g unit root second) j h = refl
+edits_only (entries.Freed c g b n true) j h = refl
+edits_only (entries.Freed c g b n false) j h = h
+edits_only e j h = h
+
+pub keeps_other_trees : KeepsOtherTrees
+keeps_other_trees a b left e s j h =
+    let g : ℕ = group_of_entry a e in
+    open_tree left (is_edited left (a.group g)) (edited_kinds e) (s.decided.group g) (b.group g) j s.loosely.inside (edits_only e j h)
+    ∙ decided a s.decided left e s.row j h
