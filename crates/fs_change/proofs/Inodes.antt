@@ -165,7 +165,7 @@ decided a x left (entries.RmapDone c own g b n) r ino h = as_is a x _ ino r.6 (b
 decided a x left (entries.RefDone c g b n more) r ino h = as_is a x _ ino r.5 (by_ref left c more (record { group = g; block = b; count = n }) r.0 r.1 a ino)
 decided a x left (entries.Freed c g b n kept) r ino h = as_is a x _ ino r.6 (by_freed left c kept (record { group = g; block = b; count = n }) r.1 a ino)
 decided a x left (entries.Taken writer own uid chunk) r ino h = as_is a x _ ino r.3 (by_taken writer own uid r.0 chunk a ino h)
-decided a x left (entries.Given writer own) r ino h = as_is a x _ ino r.3 (by_given (group_of_inode a own) r.0 own a ino h)
+decided a x left (entries.Given writer own) r ino h = as_is a x _ ino r.4 (by_given (group_of_inode a own) r.0 own a ino h)
 decided a x left (entries.Refilled e) r ino h = as_is a x _ ino r.1 (by_refilled e a ino)
 decided a x left (entries.Trimmed e) r ino h = as_is a x _ ino r.1 (by_trimmed e a ino)
 decided a x left (entries.Marked g k cause) r ino h = as_is a x _ ino r.1 (by_marked g k a ino)

@@ -1,3 +1,4 @@
+mod Again
 mod Beside
 mod Compose
 mod Inodes

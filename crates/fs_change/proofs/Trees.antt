@@ -275,7 +275,7 @@ decided a x left (entries.Taken writer ino uid chunk) r j h =
     as_is a x _ _ j r.3 (by_taken (group_of_inode a ino) r.0 ino uid chunk a j s.0 s.1 s.2 (is_first j Ino (Fino ∷ []) k) (is_first j Fino [] (in_rest j Ino (Fino ∷ []) k)))
 decided a x left (entries.Given writer ino) r j h =
     let k = in_rest j Rmap (Ino ∷ Fino ∷ []) (in_rest j Rmap (Rmap ∷ Ino ∷ Fino ∷ []) h) in
-    as_is a x _ _ j r.3 (by_given (group_of_inode a ino) r.0 ino a j (is_first j Ino (Fino ∷ []) k) (is_first j Fino [] (in_rest j Ino (Fino ∷ []) k)))
+    as_is a x _ _ j r.4 (by_given (group_of_inode a ino) r.0 ino a j (is_first j Ino (Fino ∷ []) k) (is_first j Fino [] (in_rest j Ino (Fino ∷ []) k)))
 decided a x left (entries.Refilled e) r j h = let s = no_three j (Rmap ∷ []) h in as_is a x _ _ j r.1 (by_refilled e a j s.0 s.1 s.2)
 decided a x left (entries.Trimmed e) r j h = let s = no_three j (Rmap ∷ []) h in as_is a x _ _ j r.1 (by_trimmed e a j s.0 s.1 s.2)
 decided a x left (entries.Marked g k cause) r j h = as_is a x _ _ j r.1 (by_marked g k a j (is_first j k [] h))

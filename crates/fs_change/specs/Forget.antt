@@ -47,6 +47,13 @@ pub record Forget (a b : State) : Type 0 where
   pub forks : (ino : ℕ) (f : Fork) (list : ForkList) → is_inode a ino ≡ true → a.fork ino f ≡ Ok list → b.fork ino f ≡ Ok list
   pub chains : (c : ℕ) → b.chains c ≡ []
 
+-- The state less all that is forgotten: one that a new session may begin with.
+abbrev pub forgotten_group : Group → Group
+forgotten_group p = record p { tree = λ k. record (p.tree k) { trust = fresh_trust (p.tree k).reading }; reserve = []; limbo = [] }
+
+abbrev pub forgotten : State → State
+forgotten a = record a { group = λ g. forgotten_group (a.group g); chains = λ c. [] }
+
 -- ---- after a crash
 
 -- the state that a session finds which opens this image

@@ -5,6 +5,8 @@ use Rattle.dinode_core.specs.declared.mapping.Fork.{Fork}
 use Rattle.fs_model.specs.declared.entry.Entry.{Entry}
 use Rattle.fs_model.specs.declared.entry.Entry.TheVariants as entries
 use Rattle.fs_model.specs.declared.fault.Counter.{Counter}
+use Rattle.fs_model.specs.declared.unit.Unit.{Unit as ScrubUnit}
+use Rattle.fs_model.specs.declared.unit.Unit.TheVariants as units
 use Rattle.rmap_recs.specs.Runs.{has}
 use Rattle.rmap_recs.specs.declared.tuples.Tuple.{Tuple}
 use Rattle.sblock.specs.declared.kind.Kind.{Kind}
@@ -15,14 +17,18 @@ use Rattle.fs_state.specs.Group.{is_among}
 use Rattle.fs_state.specs.State.{State, Group}
 use Rattle.fs_state.specs.declared.intent.Intent.{Intent}
 use Rattle.fs_derive.specs.Claims.{fork_claims}
+use Rattle.fs_derive.specs.Derive.{derive}
 use Rattle.fs_derive.specs.Faults.{kind_of_fault}
 use Rattle.fs_derive.specs.Kinds.{kinds_of}
+use Rattle.fs_derive.specs.Laws.{EachTree}
 use Rattle.fs_derive.specs.Own.{tuple_of, set_of}
 use Rattle.fs_change.specs.Chains.{most_chains, owed_gifts, owed_takings, given_by, taken_by, settled_by, settled_forks}
-use Rattle.fs_change.specs.Parts.{at_only, stands_in}
+use Rattle.fs_change.specs.Forget.{Forget, forgotten}
+use Rattle.fs_change.specs.Parts.{at_only, stands_in, records_in}
 use Rattle.fs_change.specs.Run.{Leads, RunAll}
 use Rattle.fs_change.specs.Scan.{visited, held_tuples, shadow_of}
 use Rattle.fs_change.specs.Step.{Step, Row, may_leave, edited_kinds, group_of_entry, group_of_inode}
+use Rattle.fs_change.specs.Switch.{switched}
 
 -- ---- what an entry decides is allowed: all blocks may stay where they are
 
@@ -42,6 +48,10 @@ LeadsCompose = (a b c : State) (js ks : List Entry) → Leads a js b → Leads b
 -- sessions in front of others
 abbrev pub SessionsCompose : Type 0
 SessionsCompose = (a b c : State) (js ks : List (List Entry)) → RunAll a js b → RunAll b ks c → RunAll a (js ++ ks) c
+
+-- there is always a state to begin with, and what was forgotten isn't missed a second time
+abbrev pub SessionsBegin : Type 0
+SessionsBegin = (a : State) → Forget a (forgotten a) × Forget (forgotten a) (forgotten a)
 
 -- ---- a step changes only what its row says
 
@@ -103,6 +113,16 @@ changes_inode a e ino = false
 abbrev pub KeepsOtherInodes : Type 0
 KeepsOtherInodes = (a b : State) (left : List Kind) (e : Entry) → Step a left e b → (ino : ℕ) → changes_inode a e ino ≡ false → is_inode b ino ≡ true
     → (b.core ino ≡ a.core ino) × ((f : Fork) → SameFork (a.fork ino f) (b.fork ino f))
+
+-- ---- a switch
+
+-- the unit's trees hold what is derived from the state that the switch reaches
+abbrev pub DerivedAgain : State → ℕ → ScrubUnit → Type 0
+DerivedAgain a g unit = EachTree (λ k. records_in ((switched a g unit).group g) k ≡ derive (switched a g unit) g k) (kinds_of unit)
+
+-- so do those of free space and of reference counts, whatever these were before
+abbrev pub SpaceDerivedAgain : Type 0
+SpaceDerivedAgain = (a : State) (g : ℕ) → DerivedAgain a g units.Free × DerivedAgain a g units.Refc
 
 -- ---- sets of owners
 

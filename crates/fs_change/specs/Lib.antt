@@ -10,3 +10,4 @@ pub mod Run
 pub mod Scan
 pub mod Step
 pub mod Switch
+pub mod Worked

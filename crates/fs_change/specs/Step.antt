@@ -24,6 +24,7 @@ use Rattle.fs_state.specs.declared.intent.Intent.{Intent}
 use Rattle.fs_state.specs.declared.intent.IntentKind.{IntentKind}
 use Rattle.fs_state.specs.declared.intent.IntentKind.TheVariants.{RmapAdd, RmapRemove, RmapChange, RefMore, RefLess, Free}
 use Rattle.fs_derive.specs.Contradiction.{evidence}
+use Rattle.fs_derive.specs.Derive.{is_free}
 use Rattle.fs_derive.specs.Faults.{kind_of_fault}
 use Rattle.fs_derive.specs.Kinds.{unit_of, kinds_of, all_kinds}
 use Rattle.fs_derive.specs.Claims.{fork_of}
@@ -33,7 +34,7 @@ use Rattle.fs_change.specs.Changes.{extent_of, data_of, mapped, unmapped, conver
 use Rattle.fs_change.specs.Choice.{is_guarded, chosen, chosen_of, spare_block, free_inode, chunk_run, inode_of, group_or_first}
 use Rattle.fs_change.specs.Loose.{Loosely, tree_blocks}
 use Rattle.fs_change.specs.Parts.{sick_in, records_in, is_edited}
-use Rattle.fs_change.specs.Records.{holder_of, span, is_stretch, has_inode, is_piece, is_unmapped, is_unwritten_at}
+use Rattle.fs_change.specs.Records.{holder_of, has_span, span, is_stretch, has_inode, is_piece, is_unmapped, is_unwritten_at}
 use Rattle.fs_change.specs.Switch.{has_owned, owned_by, need, switched}
 
 -- ---- first events
@@ -55,9 +56,9 @@ is_owned a e = is_guarded (records_in (a.group e.group) Rmap) e.block e.count
 abbrev pub IsChosen : State → ℕ → Extent → Type 0
 IsChosen a ino e = (gates : ℕ → Bool) × (count : ℕ) × (chosen a gates count ino ≡ Some e)
 
--- the run is part of a record of free space by start
+-- the run is part of a record of free space, which both indexes have
 abbrev pub IsListed : State → Extent → Type 0
-IsListed a e = (r : SpanRec) × (holder_of (records_in (a.group e.group) Bno) (span e.block e.count) ≡ Some r)
+IsListed a e = (r : SpanRec) × (holder_of (records_in (a.group e.group) Bno) (span e.block e.count) ≡ Some r) × (has_span (records_in (a.group e.group) Cnt) r ≡ true)
 
 pub record MayMap (a : State) (m : Piece) : Type 0 where
   pub some : 0 < m.count
@@ -116,7 +117,7 @@ HasSame inos (r ∷ rs) = Contains inos r
 
 -- the lowest free inode; or there is none, and it is the first of a new chunk
 abbrev pub IsTaken : State → ℕ → ℕ → Option ℕ → Type 0
-IsTaken a g i None = (gates : ℕ → Bool) × (free_inode a gates ≡ Some (g, i)) × HasSame (records_in (a.group g) Ino) (records_in (a.group g) Fino)
+IsTaken a g i None = (gates : ℕ → Bool) × (free_inode a gates ≡ Some (g, i)) × HasSame (records_in (a.group g) Ino) (records_in (a.group g) Fino) × (is_free (a.core (inode_of a g i)) ≡ true)
 IsTaken a g i (Some b) =
     let e : Extent = record { group = g; block = b; count = 8 } in
     (gates : ℕ → Bool) × (free_inode a gates ≡ None) × (chunk_run a gates ≡ Some e) × (i ≡ 8 * b) × IsListed a e × (is_owned a e ≡ false)
@@ -191,7 +192,7 @@ Row a left (entries.Freed c g b n kept) x =
 Row a left (entries.Taken writer ino uid chunk) x =
     (i : ℕ) × IsTaken a (group_of_inode a ino) i chunk × (ino ≡ inode_of a (group_of_inode a ino) i) × (x ≡ taken (group_of_inode a ino) i ino uid chunk a)
 Row a left (entries.Given writer ino) x =
-    (i : ℕ) × MayGive a ino × (ino ≡ inode_of a (group_of_inode a ino) i) × (x ≡ given (group_of_inode a ino) i ino a)
+    (i : ℕ) × MayGive a ino × (list_any (has_inode i) (records_in (a.group (group_of_inode a ino)) Ino) ≡ true) × (ino ≡ inode_of a (group_of_inode a ino) i) × (x ≡ given (group_of_inode a ino) i ino a)
 Row a left (entries.Refilled e) x = MayRefill a e × (x ≡ refilled e a)
 Row a left (entries.Trimmed e) x = MayTrim a e × (x ≡ trimmed e a)
 Row a left (entries.Marked g k cause) x = MayMark a g cause × (x ≡ marked g k a)

@@ -17,7 +17,7 @@ use Rattle.sblock.specs.declared.kind.Kind.{Kind}
 use Rattle.sblock.specs.declared.kind.Kind.TheVariants.{Bno, Rmap}
 use Rattle.fs_state.specs.Apart.{is_free}
 use Rattle.fs_state.specs.Kinds.{RecOf}
-use Rattle.fs_state.specs.State.{State, Group, Index, Owned, Reading, Readable, Unreadable, recs_of, blocks_of, is_readable, blocks_in}
+use Rattle.fs_state.specs.State.{State, Group, Index, Owned, Reading, Readable, Unreadable, recs_of, blocks_of, is_readable, blocks_in, pairs_of}
 use Rattle.fs_derive.specs.Claims.{Claimed, claims}
 use Rattle.fs_derive.specs.Derive.{derive}
 use Rattle.fs_derive.specs.Faults.{wanted}
@@ -43,16 +43,9 @@ is_same_owned o p = (o.block == p.block) && (o.owner == p.owner)
 abbrev pub has_owned : List Owned → Owned → Bool
 has_owned os o = list_any (is_same_owned o) os
 
-abbrev pub put_owned : Owned → List Owned → List Owned
-put_owned o [] = o ∷ []
-put_owned o (p ∷ ps) =
-    if nat_lt o.block p.block || ((o.block == p.block) && nat_lt o.owner p.owner) then o ∷ p ∷ ps
-    else if is_same_owned o p then p ∷ ps else p ∷ put_owned o ps
-
 -- What is limbo after these blocks joined it?
 abbrev pub join_limbo : List Owned → List Owned → List Owned
-join_limbo [] limbo = limbo
-join_limbo (o ∷ os) limbo = put_owned o (join_limbo os limbo)
+join_limbo more limbo = pairs_of (more ++ limbo)
 
 -- ---- need
 

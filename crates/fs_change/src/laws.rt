@@ -1,4 +1,5 @@
-ghost use Rattle.fs_change.specs.Laws.{ChangePending, ChangesOneGroup, CursorPasses, DecidedStands, FirstEventKeeps, GiftDone, GiftPending, HoldBegins, HoldEnds, KeepsOtherInodes, KeepsOtherTrees, LeadsCompose, OneSet, SessionsCompose, ShadowGains, ShadowLoses, StepMoves, TakingDone, TakingPending};
+ghost use Rattle.fs_change.specs.Laws.{ChangePending, ChangesOneGroup, CursorPasses, DecidedStands, FirstEventKeeps, GiftDone, GiftPending, HoldBegins, HoldEnds, KeepsOtherInodes, KeepsOtherTrees, LeadsCompose, OneSet, SessionsBegin, SessionsCompose, ShadowGains, ShadowLoses, SpaceDerivedAgain, StepMoves, TakingDone, TakingPending};
+ghost use Rattle.fs_change.specs.Worked.{Worked};
 
 /// A law: the state that an entry decides is one that the entry allows, where the counters are words:
 /// nothing forces a block to move.
@@ -94,4 +95,20 @@ pub fn keeps_other_trees()
 /// A law: an entry leaves the inodes of chunks that it doesn't name, cores and forks.
 pub fn keeps_other_inodes()
     ensures { KeepsOtherInodes }
+{}
+
+/// A law: what a switch of free space, or of reference counts, puts in is what is derived again from the
+/// state that it reaches.
+pub fn space_derived_again()
+    ensures { SpaceDerivedAgain }
+{}
+
+/// Edits of small lists of records, worked: they pin what the definitions mean where no law does.
+pub fn worked_records()
+    ensures { Worked }
+{}
+
+/// A law: there is always a state with which a new session may begin: the last one less what is forgotten.
+pub fn sessions_begin()
+    ensures { SessionsBegin }
 {}

@@ -11,7 +11,7 @@ use Rattle.fs_model.specs.declared.fault.Fault.{Fault}
 use Rattle.fs_model.specs.declared.unit.Unit.{Unit as ScrubUnit}
 use Rattle.fs_model.specs.declared.verdict.Verdict.{Verdict}
 use Rattle.geom.specs.Layout.{fs_block_of}
-use Rattle.sblock.specs.declared.kind.Kind.{Kind}
+use Rattle.sblock.specs.declared.kind.Kind.TheVariants.{Rmap}
 use Rattle.fs_state.specs.State.{State, Group}
 use Rattle.fs_state.specs.declared.intent.Intent.{Intent}
 use Rattle.fs_state.specs.declared.intent.IntentKind.TheVariants.{Free}
@@ -119,3 +119,10 @@ fault_step a unit fault is w = stands a (marked 0 (kind_of_fault fault) a) (entr
 
 pub verdict_step : (a : State) (unit : ScrubUnit) (verdict : Verdict) → are_words ((judged 0 unit verdict a).group 0) ≡ true → Step a [] (entries.Verdict 0 unit verdict) (judged 0 unit verdict a)
 verdict_step a unit verdict w = stands a (judged 0 unit verdict a) (entries.Verdict 0 unit verdict) refl w
+
+-- a step that leaves reverse mappings
+pub leaves_one : (a : State) (b n : ℕ) (i : Intent) (rest : List Intent) → a.chains 0 ≡ i ∷ rest → i.group ≡ 0 → i.block ≡ b → nat_lt 0 n ≡ true → nat_le n i.count ≡ true
+    → ((gives i.kind || takes i.kind) ≡ true) → i.ino ≡ 195 → i.count ≡ n → are_words ((rmap_done (Rmap ∷ []) 0 i rest a).group 0) ≡ true
+    → Step a (Rmap ∷ []) (entries.RmapDone 0 195 0 b n) (rmap_done (Rmap ∷ []) 0 i rest a)
+leaves_one a b n i rest next group block some count sort ino whole w =
+    decided_stands a (rmap_done (Rmap ∷ []) 0 i rest a) (Rmap ∷ []) (entries.RmapDone 0 195 0 b n) (i, rest, is_next a b n i rest next group block some count, sort, ino, whole, refl) refl (words ((rmap_done (Rmap ∷ []) 0 i rest a).group 0) w)

@@ -1,3 +1,4 @@
 pub mod Files
+pub mod Lists
 pub mod Refused
 pub mod Repairs

@@ -8,13 +8,13 @@ use Rattle.fs_model.specs.declared.verdict.Verdict.TheVariants.{Good}
 use Rattle.sblock.specs.declared.kind.Kind.{Kind}
 use Rattle.sblock.specs.declared.kind.Kind.TheVariants.{Bno, Rmap}
 use Rattle.fs_state.specs.State.{State}
-use Rattle.fs_change.specs.Changes.{judged, marked}
+use Rattle.fs_change.specs.Changes.{judged, marked, give_owner}
 use Rattle.fs_change.specs.Choice.{extent}
 use Rattle.fs_change.specs.Parts.{in_group}
 use Rattle.fs_change.specs.Step.{Step}
-use Rattle.test_states.specs.Images.{image_a}
+use Rattle.test_states.specs.Images.{image_a, inodes}
 use Rattle.test_states.specs.Rows.{shared_forty, unread_free, on_heads, two}
-use Rattle.test_changes.specs.Files.{piece, with_owner}
+use Rattle.test_changes.specs.Files.{piece, file_made, with_owner}
 use Rattle.test_changes.specs.Repairs.{free_rebuilt, rmap_reserved}
 
 -- no state comes after this entry
@@ -47,3 +47,10 @@ NotToBeSwitched =
     NoneAfter unread_free (entries.Switched 0 units.Free 7 8)
     × NoneAfter on_heads (entries.Switched 0 units.Rmap 7 0)
     × NoneAfter unread_free (entries.Reserved 0 units.Free 8 false)
+
+-- a run of free space that reverse mappings give to somebody isn't taken
+abbrev pub owned_space : State
+owned_space = in_group 0 (give_owner [] inodes (extent 0 19 5)) file_made
+
+abbrev pub NotToBeTaken : Type 0
+NotToBeTaken = NoneAfter owned_space (entries.Mapped (piece 0 19 3))

@@ -5,7 +5,8 @@
 mod rows;
 
 pub use rows::{
-    converted_piece, cut_unmapping, growing_file, mapped_halfway, no_block_left, not_to_be_freed,
-    not_to_be_switched, nothing_to_do, owner_found, rebuilt_free_space, rebuilt_inodes,
+    chunk_made, converted_piece, cut_unmapping, forgotten_limbo, growing_file, left_alone,
+    list_moves, mapped_halfway, need_grows, no_block_left, not_to_be_freed, not_to_be_switched,
+    not_to_be_taken, nothing_to_do, owner_found, rebuilt_free_space, rebuilt_inodes,
     rebuilt_mappings, say_too_much, shared_piece, shrinking_file, tree_sizes,
 };

@@ -1,5 +1,6 @@
 ghost use Rattle.test_changes.specs.Files.{ConvertedPiece, CutUnmapping, GrowingFile, MappedHalfway, OwnerFound, SharedPieceRow, ShrinkingFile};
-ghost use Rattle.test_changes.specs.Refused.{NotToBeFreed, NotToBeSwitched, NothingToDo, SayTooMuch};
+ghost use Rattle.test_changes.specs.Lists.{ChunkMade, Forgotten, LeftAlone, ListMoves, NeedGrows};
+ghost use Rattle.test_changes.specs.Refused.{NotToBeFreed, NotToBeSwitched, NotToBeTaken, NothingToDo, SayTooMuch};
 ghost use Rattle.test_changes.specs.Repairs.{NoBlockLeft, RebuiltFreeSpace, RebuiltInodes, RebuiltMappings, TreeSizes};
 
 /// A file is made, and grows by six blocks and by one.
@@ -80,4 +81,34 @@ pub fn not_to_be_freed()
 /// Nothing is switched without a reserve, or against evidence, and blocks are taken in their order.
 pub fn not_to_be_switched()
     ensures { NotToBeSwitched }
+{}
+
+/// A short list takes a run of free space, and a long one gives one back.
+pub fn list_moves()
+    ensures { ListMoves }
+{}
+
+/// A new chunk, where no inode is free.
+pub fn chunk_made()
+    ensures { ChunkMade }
+{}
+
+/// A need that grows with the first block of its reserve.
+pub fn need_grows()
+    ensures { NeedGrows }
+{}
+
+/// A step that leaves reverse mappings as they were, and their mark.
+pub fn left_alone()
+    ensures { LeftAlone }
+{}
+
+/// What a new session finds of limbo, and of a chain that was cut off.
+pub fn forgotten_limbo()
+    ensures { Forgotten }
+{}
+
+/// A run that has an owner isn't taken, though free space lists it.
+pub fn not_to_be_taken()
+    ensures { NotToBeTaken }
 {}

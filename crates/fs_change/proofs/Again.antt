@@ -1,0 +1,60 @@
+-- What a switch puts in is derived again from the state that it reaches.
+use Rattle.std.proofs.Common.{◌≡◌, ℕ, List, [], ◌∷◌, sym, ap, refl, ◌∙◌}
+use Rattle.derive_defs.specs.ByCount.{ordered_by_count}
+use Rattle.derive_defs.specs.Free.{free_space}
+use Rattle.derive_defs.specs.Shared.{shared_space}
+use Rattle.fs_model.specs.declared.unit.Unit.{Unit as ScrubUnit}
+use Rattle.fs_model.specs.declared.unit.Unit.TheVariants as units
+use Rattle.geom.specs.Layout.{group_len_of}
+use Rattle.sblock.specs.declared.kind.Kind.{Kind}
+use Rattle.sblock.specs.declared.kind.Kind.TheVariants.{Bno, Cnt, Rmap, Refc}
+use Rattle.fs_state.specs.State.{State, Group}
+use Rattle.fs_derive.specs.Derive.{derive, mappings, bno_of, cnt_of, refc_of}
+use Rattle.fs_derive.specs.Kinds.{kinds_of}
+use Rattle.fs_change.proofs.Trees.{in_itself}
+use Rattle.fs_change.specs.Laws.{SpaceDerivedAgain}
+use Rattle.fs_change.specs.Parts.{in_group, records_in}
+use Rattle.fs_change.specs.Switch.{switched, moved, derived_in, hold, exact_counters}
+
+-- the group after a switch holds what was derived from the moved blocks
+abbrev held_in : State → ℕ → ScrubUnit → Group
+held_in a g unit =
+    record (hold (derive (moved a g unit) g) (kinds_of unit) ((moved a g unit).group g)) { counters = exact_counters (derived_in (moved a g unit) g unit) g unit }
+
+reached : (a : State) (g : ℕ) (unit : ScrubUnit) → (switched a g unit).group g ≡ held_in a g unit
+unfolding switched
+reached a g unit =
+    let m : State = moved a g unit in
+    let d : State = derived_in m g unit in
+    in_itself g (λ p. record p { counters = exact_counters d g unit }) d
+    ∙ ap (λ (p : Group). record p { counters = exact_counters d g unit }) (in_itself g (hold (derive m g) (kinds_of unit)) m)
+
+-- neither switch changes the reverse mappings
+free_mappings : (a : State) (g : ℕ) → mappings (switched a g units.Free) g ≡ mappings (moved a g units.Free) g
+free_mappings a g = ap (λ (p : Group). records_in p Rmap) (reached a g units.Free)
+
+refc_mappings : (a : State) (g : ℕ) → mappings (switched a g units.Refc) g ≡ mappings (moved a g units.Refc) g
+refc_mappings a g = ap (λ (p : Group). records_in p Rmap) (reached a g units.Refc)
+
+same_bno : (a : State) (g : ℕ) → bno_of (moved a g units.Free) g ≡ bno_of (switched a g units.Free) g
+unfolding bno_of switched moved
+same_bno a g = ap (free_space (group_len_of a.geometry g)) (sym (free_mappings a g))
+
+same_refc : (a : State) (g : ℕ) → refc_of (moved a g units.Refc) g ≡ refc_of (switched a g units.Refc) g
+unfolding refc_of
+same_refc a g = ap shared_space (sym (refc_mappings a g))
+
+bno_again : (a : State) (g : ℕ) → records_in ((switched a g units.Free).group g) Bno ≡ derive (switched a g units.Free) g Bno
+unfolding derive
+bno_again a g = ap (λ (p : Group). records_in p Bno) (reached a g units.Free) ∙ same_bno a g
+
+cnt_again : (a : State) (g : ℕ) → records_in ((switched a g units.Free).group g) Cnt ≡ derive (switched a g units.Free) g Cnt
+unfolding derive cnt_of
+cnt_again a g = ap (λ (p : Group). records_in p Cnt) (reached a g units.Free) ∙ ap ordered_by_count (same_bno a g)
+
+refc_again : (a : State) (g : ℕ) → records_in ((switched a g units.Refc).group g) Refc ≡ derive (switched a g units.Refc) g Refc
+unfolding derive
+refc_again a g = ap (λ (p : Group). records_in p Refc) (reached a g units.Refc) ∙ same_refc a g
+
+pub space_derived_again : SpaceDerivedAgain
+space_derived_again a g = ((bno_again a g, (cnt_again a g, tt)), (refc_again a g, tt))

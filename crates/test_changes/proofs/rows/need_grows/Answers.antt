@@ -1,0 +1,8 @@
+use Rattle.std.specs.Prelude.{refl, [], ◌∷◌, true, false, Some, None}
+use Rattle.test_changes.proofs.Computing.{computing}
+use Rattle.bulk_load.specs.Shapes.{count, items, share}
+use Rattle.test_changes.proofs.rows.need_grows.Goals as goal
+
+pub returns : goal.returns
+unfolding computing count items share
+returns c = (refl, refl, refl, refl, refl, refl, refl, refl)
