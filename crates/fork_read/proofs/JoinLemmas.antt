@@ -22,7 +22,7 @@ use Rattle.fork_read.proofs.NextLemmas.{Begins, Came, Waits, next_begins}
 use Rattle.fork_read.proofs.ResumeLemmas.{Resumed, resume}
 use Rattle.fork_read.proofs.RiseLemmas.{Clears, all_before, all_behind, bad_behind, cancel, clears_of, each_kept, filter_both, good_back, none_kept}
 use Rattle.fork_read.proofs.RunLemmas.{Along, AlongAll, Known, Same, UpTo, along, along_all, first_read, grows, middle, nothing_more, one_way, read_alike}
-use Rattle.fork_read.proofs.StandLemmas.{Deep, Holds, Stands, deep_on, each_back, each_front, each_weaker, stands_on}
+use Rattle.fork_read.proofs.StandLemmas.{Deep, Holds, Stands, deep_on, each_back, each_front, each_weaker, leaf_begins, stands_on, took}
 use Rattle.fork_read.proofs.WalkLemmas.{border_leaves, leaves_join}
 use Rattle.fork_read.proofs.WholeLemmas.{all_kept, pruned_same}
 
@@ -282,10 +282,26 @@ module _ (at : Layout) (image : Image) (core : Core3) (fork : Fork) where
   pub record Edge (from : ℕ) (ms : List Mapping) (bs : List ℕ) (ys : List Task) (v : Trail) : Type 0 where
     pub view : View from ms bs ys v
     pub border : IsBorder at image core 0 (first_tasks core fork 0) start view.count ys view.trail
+    pub before : List Mapping
+    pub first : Mapping
+    pub after : List Mapping
+    pub grown : view.trail.mappings ≡ ms ++ (before ++ first ∷ after)
+
+  -- a leaf adds a mapping
+  pub leaf_adds : (skip level key block : ℕ) (xs ys : List Task) (t u : Trail) → level ≡ 0 → IsRead at image core skip (record { level = level; key = key; block = block }) xs t ys u → (m : Mapping) × (rest : List Mapping) × (u.mappings ≡ t.mappings ++ m ∷ rest)
+  leaf_adds skip zero key block xs ys t u low r =
+      let x : Task = record { level = zero; key = key; block = block } in
+      let one = took at image core skip x xs ys t u r in
+      let first = leaf_begins at image core (entry_of x) one.reading.place r.bytes one.reading.right in
+      (first.0, first.1, one.mappings ∙ ap (λ zs. t.mappings ++ zs) first.2)
+  leaf_adds skip (suc level) key block xs ys t u low r = absurd (omega (arith, low))
 
   pub edge_first : (ys : List Task) (v : Trail) (n : ℕ) → IsBorder at image core 0 (first_tasks core fork 0) start n ys v → Edge 0 [] [] ys v
   unfolding view_first
-  edge_first ys v n b = record { view = view_first ys v n (border_leaves at image core 0 (first_tasks core fork 0) ys start v n b); border = b }
+  edge_first ys v n b =
+      let y = b.read.task in
+      let adds = leaf_adds 0 y.level y.key y.block b.read.rest ys b.read.trail v b.leaf b.read.read in
+      record { view = view_first ys v n (border_leaves at image core 0 (first_tasks core fork 0) ys start v n b); border = b; before = b.read.trail.mappings; first = adds.0; after = adds.1; grown = adds.2 }
 
   pub edge : (from : ℕ) (ms : List Mapping) (bs : List ℕ) (c : Come from ms bs) (ys : List Task) (v : Trail) (n : ℕ) → suc top < n → IsBorder at image core from (first_tasks core fork from) start n ys v → Edge from ms bs ys v
   unfolding view
@@ -307,4 +323,13 @@ module _ (at : Layout) (image : Image) (core : Core3) (fork : Fork) where
       let count : c.count + (b.before - suc top) + 1 ≡ c.count + (n - suc top) = omega (arith, late, steps) in
       let here = subst (λ k. IsBorder at image core 0 (first_tasks core fork 0) start k ys one.trail) count next in
       let same = one_way at image core 0 (first_tasks core fork 0) ys ys start one.trail w.trail w.count (border_leaves at image core 0 (first_tasks core fork 0) ys start one.trail w.count here) w.leaves in
-      record { view = w; border = subst (λ u. IsBorder at image core 0 (first_tasks core fork 0) start w.count ys u) same.1 here }
+      let adds = leaf_adds 0 y.level y.key y.block zs ys all.trail one.trail b.leaf one.read in
+      let ahead = grows at image core 0 (c.task ∷ c.rest) (y ∷ zs) c.trail all.trail (b.before - suc top) all.leaves in
+      record {
+        view = w;
+        border = subst (λ u. IsBorder at image core 0 (first_tasks core fork 0) start w.count ys u) same.1 here;
+        before = ahead.0;
+        first = adds.0;
+        after = adds.1;
+        grown = ap (λ (u : Trail). u.mappings) (sym same.1) ∙ adds.2 ∙ ap (λ ns. ns ++ adds.0 ∷ adds.1) (ahead.1 ∙ ap (λ ns. ns ++ ahead.0) c.mappings) ∙ append_assoc ms ahead.0 (adds.0 ∷ adds.1);
+      }

@@ -1,7 +1,7 @@
 -- Pieces one after another are the whole fork, or end in its first fault.
-use Rattle.std.proofs.Common.{◌≡◌, ℕ, zero, suc, ◌+◌, ◌-◌, ◌<◌, ◌≤◌, Bool, true, false, List, [], ◌∷◌, ◌++◌, map, filter, Option, Some, None, Result, Ok, Err, refl, ap, sym, subst, ◌∙◌, inl, inr, append-nil, arith}
+use Rattle.std.proofs.Common.{◌≡◌, ℕ, zero, suc, ◌+◌, ◌-◌, ◌<◌, ◌≤◌, Bool, true, false, List, [], ◌∷◌, ◌++◌, length, map, filter, Option, Some, None, Result, Ok, Err, refl, ap, sym, subst, ◌∙◌, inl, inr, append-nil, arith}
 use Rattle.std.specs.Prelude.{⊤, ◌⊎◌, ◌&&◌, nat_le}
-use Rattle.std.proofs.lemmas.Bool.{cases_Bool}
+use Rattle.std.proofs.lemmas.Bool.{cases_Bool, false≢true}
 use Rattle.std.proofs.lemmas.Bool.Decides.{nat_tests}
 use Rattle.std.proofs.lemmas.List.{append_assoc}
 use Rattle.geom.specs.Layout.{Layout}
@@ -17,22 +17,23 @@ use Rattle.fork_read.specs.declared.fault.ForkPiece.{ForkPiece}
 use Rattle.fork_read.specs.declared.tasks.Task.{Task}
 use Rattle.fork_read.specs.declared.walk.Stop.{Stop as Way}
 use Rattle.fork_read.specs.declared.walk.Stop.TheVariants.{Bad, Whole, Left, Long, Fallen}
-use Rattle.fork_read.specs.Answers.{IsPiece, judged, may_stop, next_of}
+use Rattle.fork_read.specs.Answers.{IsPiece, given_of, judged, may_stop, next_of}
 use Rattle.fork_read.specs.Parts.{Each}
 use Rattle.fork_read.specs.Pieces.{Ends, IsForkFault, IsForkPiece, IsTreeFault, IsTreePiece}
-use Rattle.fork_read.specs.Stuck.{EndsLeaf, IsBorder}
+use Rattle.fork_read.specs.Stuck.{EndsLeaf, IsBehind, IsBorder, IsStuck}
 use Rattle.fork_read.specs.Walk.{Leaves, first_tasks, walk_all, walk_tasks}
-use Rattle.fork_read.specs.Whole.{Follow, IsCut, IsWhole, all_blocks, all_mappings}
+use Rattle.fork_read.specs.Whole.{Follow, IsCut, IsUnseen, IsWhole, LastBad, all_blocks, all_mappings}
+use Rattle.fork_read.proofs.BadLemmas.{last_of, may_end_here}
 use Rattle.fork_read.proofs.FirstLemmas.{or_none, shown_first}
-use Rattle.fork_read.proofs.JoinLemmas.{Come, Edge, Stop, View, again, bad_there, edge, edge_first, goes_there, none_before, stops, view, view_first}
+use Rattle.fork_read.proofs.JoinLemmas.{Come, Edge, Stop, View, again, bad_there, edge, edge_first, goes_there, leaf_adds, none_before, stops, view, view_first}
 use Rattle.fork_read.proofs.PieceLemmas.{form_none}
-use Rattle.fork_read.proofs.RestLemmas.{FromKey, met_by, rest_adds}
-use Rattle.fork_read.proofs.RiseLemmas.{Clears, bad_stays}
+use Rattle.fork_read.proofs.RestLemmas.{FromKey, met_by, rest_adds, tasks_add}
+use Rattle.fork_read.proofs.RiseLemmas.{Clears, all_before, bad_stays, cancel, good_front, inner_or_last, none_bad, none_kept}
 use Rattle.fork_read.proofs.RootLemmas.{root_facts}
 use Rattle.fork_read.proofs.RunLemmas.{walked}
 use Rattle.fork_read.proofs.StandLemmas.{each_back}
 use Rattle.fork_read.proofs.NextLemmas.{Begins}
-use Rattle.fork_read.proofs.WalkLemmas.{bad_block, border_leaves, none_popped}
+use Rattle.fork_read.proofs.WalkLemmas.{bad_block, border_leaves, leaves_join, none_popped}
 use Rattle.fork_read.proofs.WholeLemmas.{all_kept, else_parts, some_none, tree_same}
 
 -- the same last blocks end alike
@@ -81,10 +82,9 @@ module _ (at : Layout) (image : Image) (core : Core3) (fork : Fork) where
         | inr late ↦ grind (arith, nat_tests, late)
       ]
 
-  any_edge : (from : ℕ) (ms : List Mapping) (bs : List ℕ) (task : Task) (rest : List Task) (v : Trail) → from_there from ms bs → EndsLeaf at image core from (first_tasks core fork from) start (task ∷ rest) v → may_stop from v.mappings task rest ≡ true → Edge at image core fork from ms bs (task ∷ rest) v
-  any_edge from ms bs task rest v (inl c) b may =
-      edge at image core fork from ms bs c (task ∷ rest) v b.count (past from ms bs c task rest v b.count (border_leaves at image core from (first_tasks core fork from) (task ∷ rest) start v b.count b.border) may) b.border
-  any_edge from ms bs task rest v (inr e) b may =
+  any_edge : (from : ℕ) (ms : List Mapping) (bs : List ℕ) (task : Task) (rest : List Task) (v : Trail) → from_there from ms bs → (b : EndsLeaf at image core from (first_tasks core fork from) start (task ∷ rest) v) → ((c : Come at image core fork from ms bs) → suc top < b.count) → Edge at image core fork from ms bs (task ∷ rest) v
+  any_edge from ms bs task rest v (inl c) b far = edge at image core fork from ms bs c (task ∷ rest) v b.count (far c) b.border
+  any_edge from ms bs task rest v (inr e) b far =
       let first = edge_first at image core fork (task ∷ rest) v b.count (subst (λ k. IsBorder at image core k (first_tasks core fork k) start b.count (task ∷ rest) v) e.0 b.border) in
       subst (λ k. Edge at image core fork k ms bs (task ∷ rest) v) (sym e.0) (subst (λ xs. Edge at image core fork 0 xs bs (task ∷ rest) v) (sym e.1) (subst (λ xs. Edge at image core fork 0 [] xs (task ∷ rest) v) (sym e.2) first))
 
@@ -162,7 +162,7 @@ module _ (at : Layout) (image : Image) (core : Core3) (fork : Fork) where
         by_way (Left task) e good given =
             let may = e.stopped.1 in
             let fine = (else_parts (first_bad at fork p.trail.mappings) None good).0 in
-            let d = any_edge from ms bs task e.rest p.trail c e.reached may in
+            let d = any_edge from ms bs task e.rest p.trail c e.reached (λ k. past from ms bs k task e.rest p.trail e.reached.count (border_leaves at image core from (first_tasks core fork from) (task ∷ e.rest) start p.trail e.reached.count e.reached.border) may) in
             subst (λ o. EndOf o (ms ++ piece.mappings.items) (bs ++ piece.tree_blocks.items)) (sym given.next) (inl (left_come from ms bs task e.rest p.trail piece d may fine given))
         by_way (Long task) e good given = absurd (some_none faults.Order (else_parts (first_bad at fork p.trail.mappings) (Some faults.Order) good).1)
         by_way Fallen e good given = absurd (some_none faults.Order (else_parts (first_bad at fork p.trail.mappings) (Some faults.Order) good).1)
@@ -194,6 +194,112 @@ module _ (at : Layout) (image : Image) (core : Core3) (fork : Fork) where
         by_more (Err u) more e own (inl none) = subst (λ zs. first_bad at fork zs ≡ Some fault) (sym (e ∙ ap (λ zs. (s.front ++ s.last ∷ []) ++ zs) none ∙ append-nil (s.front ++ s.last ∷ []))) own
         by_more (Err u) more e own (inr b) = subst (λ zs. first_bad at fork zs ≡ Some fault) (sym e) (key_begins more s.last s.front b s.below s.ended own)
 
+    good_walk : (r : Result Trail Trail) → walk_tree at image core fork ≡ r → walk_fault at image core fork ≡ None → (w : Trail) × (r ≡ Ok w) × (first_bad at fork w.mappings ≡ None)
+    good_walk (Ok t) h good = (t, refl, (else_parts (first_bad at fork t.mappings) (block_fault (ends (root_level (area_of core fork)) t)) (sym (fault_at t (or_else (first_bad at fork t.mappings) (block_fault (ends (root_level (area_of core fork)) t))) h refl) ∙ good)).0)
+    good_walk (Err t) h good = absurd (some_none faults.Block (else_parts (first_bad at fork t.mappings) (Some faults.Block) (sym (fault_bad t (or_else (first_bad at fork t.mappings) (Some faults.Block)) h refl) ∙ good)).1)
+
+    -- a piece that is stuck has come behind the place where it began
+    stuck_past : (from : ℕ) (ms : List Mapping) (bs : List ℕ) (c : Come at image core fork from ms bs) (ys : List Task) (v : Trail) (n : ℕ) → Leaves at image core from (first_tasks core fork from) start n ys v → (90 ≤ n) ⊎ (261 < given_of from v.mappings) → suc top < n
+    stuck_past from ms bs c ys v n h (inl many) = let root = root_facts core fork form tree in omega (arith, many, root.high)
+    stuck_past from ms bs c ys v n h (inr enough) =
+        elim (cases_Bool (nat_le n (suc top))) [
+          | inl early ↦
+              let few : n ≤ suc top = grind (arith, nat_tests, early) in
+              let none = ap length (none_kept from v.mappings (none_before at image core fork from ms bs c ys v n few h)) in
+              absurd (omega (arith, none, enough))
+          | inr late ↦ grind (arith, nat_tests, late)
+        ]
+
+    not_none : (before after : List Mapping) (m : Mapping) → before ++ m ∷ after ≡ [] → ⊥
+    not_none [] after m e = cc
+    not_none (x ∷ before) after m e = cc
+
+    -- the last mapping is one of the piece
+    last_own : (from : ℕ) (ms : List Mapping) (bs : List ℕ) (ys : List Task) (v : Trail) (d : Edge at image core fork from ms bs ys v) (front : List Mapping) (last : Mapping) → v.mappings ≡ front ++ last ∷ [] → first_bad at fork v.mappings ≡ None → from ≤ last.offset
+    last_own from ms bs ys v d front last split good =
+        elim (cases_Bool (nat_le from last.offset)) [
+          | inl above ↦ grind (arith, nat_tests, above)
+          | inr before ↦
+              let low : last.offset < from = grind (arith, nat_tests, before) in
+              let all = subst (Each (λ (m : Mapping). m.offset < from)) (sym split) (all_before at fork from front last (subst (λ zs. first_bad at fork zs ≡ None) split good) low) in
+              let none = d.view.given good ∙ ap (λ zs. ms ++ zs) (none_kept from v.mappings all) in
+              absurd (not_none d.before d.after d.first (cancel ms (d.before ++ d.first ∷ d.after) [] (sym d.grown ∙ none)))
+        ]
+
+    -- where no piece can begin, the walk meets a bad block or a bad mapping
+    stuck_clash : (from : ℕ) (ms : List Mapping) (bs : List ℕ) (ys : List Task) (v : Trail) → from_there from ms bs → IsStuck at image core from (first_tasks core fork from) start ys v → (u : Trail) → walk_tree at image core fork ≡ Ok u → first_bad at fork u.mappings ≡ None → ⊥
+    stuck_clash from ms bs [] v c s u walk good = absurd (false≢true (sym s.stays))
+    stuck_clash from ms bs (x ∷ xs) v c s u walk good =
+        let h = border_leaves at image core from (first_tasks core fork from) (x ∷ xs) start v s.count s.border in
+        let d = any_edge from ms bs x xs v c (record { count = s.count; border = s.border }) (λ k. stuck_past from ms bs k (x ∷ xs) v s.count h s.late) in
+        let w = d.view in
+        let r = walk_tasks at image core 0 (x ∷ xs) w.trail in
+        let same : r ≡ Ok u = sym (whole_walk r (x ∷ xs) w.trail w.count w.leaves refl) ∙ walk in
+        let y = s.border.read.task in
+        let adds = leaf_adds at image core fork from y.level y.key y.block s.border.read.rest (x ∷ xs) s.border.read.trail v s.border.leaf s.border.read.read in
+        let last = last_of s.border.read.trail.mappings adds.1 adds.0 in
+        let split = adds.2 ∙ last.2 in
+        let met = w.same.mappings ∙ ap (λ zs. w.front ++ zs) split ∙ sym (append_assoc w.front last.0 (last.1 ∷ [])) in
+        let more = rest_adds at image core x xs w.trail in
+        let fine = good_front at fork w.trail.mappings more.more (subst (λ zs. first_bad at fork zs ≡ None) (ap met_by (sym same) ∙ more.split) good) in
+        false≢true (sym s.stays ∙ may_end_here at fork image core from x xs w.trail u v.mappings last.0 (w.front ++ last.0) last.1 split met (last_own from ms bs (x ∷ xs) v d last.0 last.1 split (sym w.bad ∙ fine)) same good)
+
+    stuck_bad : (from : ℕ) (ms : List Mapping) (bs : List ℕ) (ys : List Task) (v : Trail) → from_there from ms bs → IsStuck at image core from (first_tasks core fork from) start ys v → walk_fault at image core fork ≡ None → ⊥
+    stuck_bad from ms bs ys v c s good =
+        let whole = good_walk (walk_tree at image core fork) refl good in
+        stuck_clash from ms bs ys v c s whole.0 whole.1 whole.2
+
+    -- what is met behind a place where no piece can begin
+    behind_view : (from : ℕ) (ms : List Mapping) (bs : List ℕ) (ys zs : List Task) (v w : Trail) (n : ℕ) → from_there from ms bs → IsStuck at image core from (first_tasks core fork from) start ys v → Leaves at image core from ys v n zs w → View at image core fork from ms bs zs w
+    behind_view from ms bs ys zs v w n c s h =
+        let first = border_leaves at image core from (first_tasks core fork from) ys start v s.count s.border in
+        let all = leaves_join at image core from (first_tasks core fork from) ys zs start v w s.count n first h in
+        any_view from ms bs zs w (s.count + n) c (λ k. let far = stuck_past from ms bs k ys v s.count first s.late in omega (arith, far)) all
+
+    none_clash : (o : Option ForkFault) (fault : ForkFault) → (o ≡ None → ⊥) → or_else o (Some faults.Order) ≡ Some fault → o ≡ Some fault
+    none_clash None fault n h = absurd (n refl)
+    none_clash (Some f) fault n h = h
+
+    -- the end behind such a place shows the fork's first fault
+    fallen_first : (from : ℕ) (ms : List Mapping) (bs : List ℕ) (ys : List Task) (v w : Trail) (n : ℕ) (fault : ForkFault) → from_there from ms bs → IsStuck at image core from (first_tasks core fork from) start ys v → Leaves at image core from ys v n [] w → or_else (first_bad at fork w.mappings) (Some faults.Order) ≡ Some fault → walk_fault at image core fork ≡ Some fault
+    fallen_first from ms bs ys v w n fault c s h found =
+        let d = behind_view from ms bs ys [] v w n c s h in
+        let tree_walk = whole_walk (Ok d.trail) [] d.trail d.count d.leaves (none_popped at image core 0 [] d.trail refl) in
+        let own = none_clash (first_bad at fork w.mappings) fault (λ none. stuck_clash from ms bs ys v c s d.trail tree_walk (d.bad ∙ none)) found in
+        met_fault (Ok d.trail) fault tree_walk (d.bad ∙ own)
+
+    -- a bad mapping that was met there, the last one aside, is the fork's first fault
+    inner_first : (from : ℕ) (ms : List Mapping) (bs : List ℕ) (ys zs : List Task) (v w : Trail) (n : ℕ) (fault : ForkFault) (front : List Mapping) (last : Mapping) → from_there from ms bs → IsStuck at image core from (first_tasks core fork from) start ys v → Leaves at image core from ys v n zs w → w.mappings ≡ front ++ last ∷ [] → first_bad at fork w.mappings ≡ Some fault → (walk_fault at image core fork ≡ Some fault) ⊎ LastBad at fork w.mappings fault
+    inner_first from ms bs ys zs v w n fault front last c s h split found =
+        let d = behind_view from ms bs ys zs v w n c s h in
+        let r = walk_tasks at image core 0 zs d.trail in
+        let more = tasks_add at image core zs d.trail in
+        let met = d.same.mappings ∙ ap (λ xs. d.front ++ xs) split ∙ sym (append_assoc d.front front (last ∷ [])) in
+        let own = subst (λ xs. first_bad at fork xs ≡ Some fault) met (d.bad ∙ found) in
+        let whole = more.split ∙ ap (λ xs. xs ++ more.more) met ∙ append_assoc (d.front ++ front) (last ∷ []) more.more in
+        elim (inner_or_last at fork (d.front ++ front) last fault own) [
+          | inl inner ↦ inl (met_fault r fault (whole_walk r zs d.trail d.count d.leaves refl) (subst (λ xs. first_bad at fork xs ≡ Some fault) (sym whole) (inner more.more)))
+          | inr alone ↦ inr (record { front = front; last = last; split = split; own = alone })
+        ]
+
+    long_first : (from : ℕ) (ms : List Mapping) (bs : List ℕ) (ys zs : List Task) (v w : Trail) (n : ℕ) (fault : ForkFault) → from_there from ms bs → IsStuck at image core from (first_tasks core fork from) start ys v → Leaves at image core from ys v n zs w → (o : Option ForkFault) → first_bad at fork w.mappings ≡ o → or_else o (Some faults.Order) ≡ Some fault → (walk_fault at image core fork ≡ Some fault) ⊎ IsUnseen at fork w.mappings fault
+    long_first from ms bs ys zs v w n fault c s h None e found =
+        let order : fault ≡ faults.Order = cc in
+        inr (inl (e, order))
+    long_first from ms bs ys zs v w n fault c s h (Some f) e found = by_list w.mappings refl
+      where
+        as_unseen : (walk_fault at image core fork ≡ Some fault) ⊎ LastBad at fork w.mappings fault → (walk_fault at image core fork ≡ Some fault) ⊎ IsUnseen at fork w.mappings fault
+        as_unseen (inl x) = inl x
+        as_unseen (inr x) = inr (inr x)
+
+        by_list : (xs : List Mapping) → w.mappings ≡ xs → (walk_fault at image core fork ≡ Some fault) ⊎ IsUnseen at fork w.mappings fault
+        by_list [] same =
+            let none = sym (none_bad at fork) ∙ ap (first_bad at fork) (sym same) ∙ e in
+            absurd (some_none f (sym none))
+        by_list (m ∷ rest) same =
+            let last = last_of [] rest m in
+            as_unseen (inner_first from ms bs ys zs v w n fault last.0 last.1 c s h (same ∙ last.2) (e ∙ found))
+
     -- a refusal is the fork's first fault, or no piece can begin there
     fault_on : (from : ℕ) (ms : List Mapping) (bs : List ℕ) (fault : ForkFault) → from_there from ms bs → IsTreeFault at image core fork from fault → (walk_fault at image core fork ≡ Some fault) ⊎ IsCut at image core fork from fault
     fault_on from ms bs fault c p = by_way p.stop p.walked p.found
@@ -210,7 +316,7 @@ module _ (at : Layout) (image : Image) (core : Core3) (fork : Fork) where
             inl (whole_end from ms bs p.trail (Some fault) w found).1
         by_way (Left task) e found =
             let may = e.stopped.1 in
-            let d = any_edge from ms bs task e.rest p.trail c e.reached may in
+            let d = any_edge from ms bs task e.rest p.trail c e.reached (λ k. past from ms bs k task e.rest p.trail e.reached.count (border_leaves at image core from (first_tasks core fork from) (task ∷ e.rest) start p.trail e.reached.count e.reached.border) may) in
             let s = (stops from p.trail.mappings task e.rest may).clears in
             let own = clears_in d.view s in
             inl (left_fault task e.rest d.view.trail d.view.count from fault d.view.leaves own (d.view.bad ∙ sym (or_none (first_bad at fork p.trail.mappings)) ∙ found))
@@ -224,8 +330,14 @@ module _ (at : Layout) (image : Image) (core : Core3) (fork : Fork) where
               below = s.below;
               ended = s.ended;
             }
-        by_way (Long task) e found = inr (record { rest = e.reached.rest; met = e.reached.met; stuck = e.reached.stuck; after = p.trail; found = found })
-        by_way Fallen e found = inr (record { rest = e.reached.rest; met = e.reached.met; stuck = e.reached.stuck; after = p.trail; found = found })
+        by_way (Long task) e found =
+            let b = e.reached in
+            as_cut b (long_first from ms bs b.rest (task ∷ e.rest) b.met p.trail 28 fault c b.stuck b.read (first_bad at fork p.trail.mappings) refl found)
+          where
+            as_cut : (b : IsBehind at image core from (first_tasks core fork from) start (task ∷ e.rest) p.trail) → (walk_fault at image core fork ≡ Some fault) ⊎ IsUnseen at fork p.trail.mappings fault → (walk_fault at image core fork ≡ Some fault) ⊎ IsCut at image core fork from fault
+            as_cut b (inl x) = inl x
+            as_cut b (inr x) = inr (record { left = task ∷ e.rest; after = p.trail; behind = b; unseen = x; bad = stuck_bad from ms bs b.rest b.met c b.stuck })
+        by_way Fallen e found = inl (fallen_first from ms bs e.reached.rest e.reached.met p.trail e.reached.read.count fault c e.reached.stuck e.reached.read.leaves found)
 
   inline_whole : (piece : ForkPiece) → inline_fault at core fork ≡ None → is_tree core fork ≡ false → IsPiece 0 (inline_mappings core fork) [] None piece → IsWhole at image core fork piece.mappings.items piece.tree_blocks.items
   unfolding walk_fault met_of inline_fault

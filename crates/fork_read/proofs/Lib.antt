@@ -1,3 +1,4 @@
+pub mod BadLemmas
 pub mod EndLemmas
 pub mod FirstLemmas
 pub mod JoinLemmas

@@ -1,8 +1,9 @@
 -- Answers for a fork, from what was found of it.
 use Rattle.std.proofs.Common.{◌≡◌, ℕ, true, false, List, [], ◌∷◌, ◌++◌, map, Option, Some, None, Result, Ok, Err, refl, ap, sym, subst, ◌∙◌, inl, inr, append-nil}
-use Rattle.std.specs.Prelude.{IfOk, IfErr}
+use Rattle.std.specs.Prelude.{IfOk, IfErr, IfSome}
 use Rattle.std.proofs.lemmas.Bool.{false≢true}
-use Rattle.geom.specs.Layout.{Layout}
+use Rattle.blk_cache.specs.declared.cache.BlkCache.{BlkCache}
+use Rattle.geom.specs.Layout.{Layout, device_block_of}
 use Rattle.dinode_core.specs.declared.inode.Core3.{Core3}
 use Rattle.dinode_core.specs.declared.mapping.Fork.{Fork}
 use Rattle.dinode_core.specs.declared.mapping.ForkError.{ForkError}
@@ -19,7 +20,7 @@ use Rattle.fork_read.specs.declared.seen.BlockRead.{BlockRead}
 use Rattle.fork_read.specs.declared.tasks.Task.{Task}
 use Rattle.fork_read.specs.declared.walk.Stop.{Stop}
 use Rattle.fork_read.specs.Answers.{IsJudgedFault, IsOutside, IsPiece, IsStopped, judged, next_of}
-use Rattle.fork_read.specs.Pieces.{Ends, IsAnswer, IsCore, IsForkAnswer, IsRefused, IsTreeAnswer, inode_bytes}
+use Rattle.fork_read.specs.Pieces.{CachesAt, Ends, IsAnswer, IsCore, IsForkAnswer, IsRefused, IsTreeAnswer, inode_bytes}
 use Rattle.fork_read.specs.Stuck.{HasCome}
 use Rattle.fork_read.specs.Walk.{block_of, first_tasks, walk_all, walk_tasks}
 
@@ -34,6 +35,10 @@ form_none at core fork h = first_none (form_fault core fork) (first_bad at fork 
     first_none : (o x : Option ForkFault) → or_else o x ≡ None → o ≡ None
     first_none None x h = refl
     first_none (Some f) x h = cc
+
+pub caches_inode : (at : Layout) (o : Option (ℕ × ℕ)) (p : ℕ × ℕ) (d : ℕ) (old new : BlkCache) → o ≡ Some p → d ≡ device_block_of at p.0 p.1 → CachesAt d old new → IfSome o (λ place. CachesAt (device_block_of at place.0 place.1) old new)
+caches_inode at o p d old new h e k =
+    subst (λ (x : Option (ℕ × ℕ)). IfSome x (λ place. CachesAt (device_block_of at place.0 place.1) old new)) (sym h) (subst (λ n. CachesAt n old new) e k)
 
 module _ (at : Layout) (image : Image) (core : Core3) (fork : Fork) (from : ℕ) where
   pub ends_of : (xs rest : List Task) (t u : Trail) (stop : Stop) → xs ≡ first_tasks core fork from ++ [] → t ≡ start → HasCome at image core from xs t stop rest u → IsStopped (walk_tasks at image core from xs t) (walk_tasks at image core from) from stop rest u → Ends at image core fork from stop u

@@ -1,6 +1,6 @@
 -- Mappings without a fault rise, and two lists of them that overlap are one.
 use Rattle.std.proofs.Common.{◌≡◌, ℕ, zero, suc, ◌+◌, ◌-◌, ◌<◌, ◌≤◌, Bool, true, false, List, [], ◌∷◌, ◌++◌, filter, length, Option, Some, None, refl, ap, sym, subst, ◌∙◌, inl, inr, arith}
-use Rattle.std.specs.Prelude.{◌&&◌, nat_le, nat_lt}
+use Rattle.std.specs.Prelude.{◌⊎◌, ◌&&◌, nat_le, nat_lt}
 use Rattle.std.specs.List.{slice_get}
 use Rattle.std.proofs.lemmas.Bool.{and_parts, cases_Bool, false≢true}
 use Rattle.std.proofs.lemmas.Bool.Decides.{nat_tests}
@@ -105,6 +105,22 @@ module _ (at : Layout) (fork : Fork) where
       let own = good_parts x (y ∷ xs ++ m ∷ ms) h in
       rw (sym (same_fault x y (xs ++ m ∷ ms) (xs ++ m ∷ more)) ∙ own.0) (bad_behind (y ∷ xs) m ms more own.1)
 
+  alone : (m n : Mapping) (ms : List Mapping) → mapping_fault at fork m (n ∷ ms) ≡ None → mapping_fault at fork m [] ≡ None
+  unfolding mapping_fault rises clears
+  alone m n ms h =
+      let pass = all_pass (mapping_tests at fork m (n ∷ ms)) h in
+      none_fails (mapping_tests at fork m []) (refl, (refl, (pass.1.1.0, tt)))
+
+  -- the front of good mappings is good
+  pub good_front : (xs more : List Mapping) → first_bad at fork (xs ++ more) ≡ None → first_bad at fork xs ≡ None
+  unfolding first_bad
+  good_front [] more h = refl
+  good_front (m ∷ []) [] h = h
+  good_front (m ∷ []) (n ∷ more) h = rw (alone m n more (good_parts m (n ∷ more) h).0) refl
+  good_front (m ∷ n ∷ xs) more h =
+      let parts = good_parts m (n ∷ xs ++ more) h in
+      rw (sym (same_fault m n (xs ++ more) xs) ∙ parts.0) (good_front (n ∷ xs) more parts.1)
+
   clear_fault : (m n : Mapping) (ms : List Mapping) → m.offset < n.offset → m.offset + m.count ≤ n.offset → mapping_fault at fork m (n ∷ ms) ≡ mapping_fault at fork m []
   unfolding mapping_fault rises clears
   clear_fault m n ms r c =
@@ -128,6 +144,36 @@ module _ (at : Layout) (fork : Fork) where
       or_more (mapping_fault at fork x (last ∷ n ∷ more)) (first_bad at fork (last ∷ [])) (first_bad at fork (last ∷ n ∷ more)) fault (bad_stays [] last n more fault r c) (rw (same_fault x last (n ∷ more) []) h)
   bad_stays (x ∷ y ∷ front) last n more fault r c h =
       or_more (mapping_fault at fork x (y ∷ front ++ last ∷ n ∷ more)) (first_bad at fork (y ∷ front ++ last ∷ [])) (first_bad at fork (y ∷ front ++ last ∷ n ∷ more)) fault (bad_stays (y ∷ front) last n more fault r c) (rw (same_fault x y (front ++ last ∷ n ∷ more) (front ++ last ∷ [])) h)
+
+  bad_cons : (m : Mapping) (ms : List Mapping) (f : ForkFault) → mapping_fault at fork m ms ≡ Some f → first_bad at fork (m ∷ ms) ≡ Some f
+  unfolding first_bad
+  bad_cons m ms f e = rw e refl
+
+  bad_skip : (m : Mapping) (ms : List Mapping) → mapping_fault at fork m ms ≡ None → first_bad at fork (m ∷ ms) ≡ first_bad at fork ms
+  unfolding first_bad
+  bad_skip m ms e = rw e refl
+
+  pub none_bad : first_bad at fork [] ≡ None
+  unfolding first_bad
+  none_bad = refl
+
+  -- the fault is that of a mapping before the last one, and stays whatever follows, or the last one's own
+  pub inner_or_last : (front : List Mapping) (last : Mapping) (fault : ForkFault) → first_bad at fork (front ++ last ∷ []) ≡ Some fault → ((more : List Mapping) → first_bad at fork (front ++ last ∷ more) ≡ Some fault) ⊎ (first_bad at fork (last ∷ []) ≡ Some fault)
+  inner_or_last [] last fault h = inr h
+  inner_or_last (x ∷ []) last fault h = by_own (mapping_fault at fork x (last ∷ [])) refl
+    where
+      by_own : (o : Option ForkFault) → mapping_fault at fork x (last ∷ []) ≡ o → ((more : List Mapping) → first_bad at fork (x ∷ last ∷ more) ≡ Some fault) ⊎ (first_bad at fork (last ∷ []) ≡ Some fault)
+      by_own (Some f) e = inl (λ more. bad_cons x (last ∷ more) f (same_fault x last more [] ∙ e) ∙ (sym (bad_cons x (last ∷ []) f e) ∙ h))
+      by_own None e = inr (sym (bad_skip x (last ∷ []) e) ∙ h)
+  inner_or_last (x ∷ y ∷ front) last fault h = by_own (mapping_fault at fork x (y ∷ front ++ last ∷ [])) refl (inner_or_last (y ∷ front) last fault)
+    where
+      by_own : (o : Option ForkFault) → mapping_fault at fork x (y ∷ front ++ last ∷ []) ≡ o → (first_bad at fork (y ∷ front ++ last ∷ []) ≡ Some fault → ((more : List Mapping) → first_bad at fork (y ∷ front ++ last ∷ more) ≡ Some fault) ⊎ (first_bad at fork (last ∷ []) ≡ Some fault)) → ((more : List Mapping) → first_bad at fork (x ∷ y ∷ front ++ last ∷ more) ≡ Some fault) ⊎ (first_bad at fork (last ∷ []) ≡ Some fault)
+      by_own (Some f) e rest = inl (λ more. bad_cons x (y ∷ front ++ last ∷ more) f (same_fault x y (front ++ last ∷ more) (front ++ last ∷ []) ∙ e) ∙ (sym (bad_cons x (y ∷ front ++ last ∷ []) f e) ∙ h))
+      by_own None e rest =
+          elim (rest (sym (bad_skip x (y ∷ front ++ last ∷ []) e) ∙ h)) [
+            | inl g ↦ inl (λ more. bad_skip x (y ∷ front ++ last ∷ more) (same_fault x y (front ++ last ∷ more) (front ++ last ∷ []) ∙ e) ∙ g more)
+            | inr l ↦ inr l
+          ]
 
 -- what the piece gives of these mappings
 pub none_kept : (from : ℕ) (ms : List Mapping) → Each (λ (m : Mapping). m.offset < from) ms → filter (λ m. nat_le from m.offset) ms ≡ []

@@ -1,5 +1,8 @@
 -- What a piece of a fork is, by the bytes of an image.
-use Rattle.std.specs.Prelude.{◌≡◌, ℕ, ◌*◌, ◌/◌, ◌%◌, ◌<◌, ◌≤◌, length, true, false, List, [], map, take, drop, Option, Some, None, Result, Ok, Err, ◌⊎◌, ⊤}
+use Rattle.std.specs.Prelude.{◌≡◌, ℕ, ◌*◌, ◌/◌, ◌%◌, ◌<◌, ◌≤◌, length, true, false, List, [], map, take, drop, Option, Some, None, Result, Ok, Err, IfSome, ◌⊎◌, ⊤}
+use Rattle.blk_cache.specs.Cache.{Keeps, Stays}
+use Rattle.blk_cache.specs.declared.cache.BlkCache.{BlkCache}
+use Rattle.byte_fields.specs.declared.block.Block.{Block}
 use Rattle.geom.specs.Layout.{Layout, device_block_of, split_of}
 use Rattle.dinode_core.specs.declared.inode.Core3.{Core3}
 use Rattle.dinode_core.specs.declared.mapping.Fork.{Fork}
@@ -107,3 +110,11 @@ IsAnswer at image ino fork from (Err (IsFork fault)) =
 IsAnswer at image ino fork from (Err (IsCoreFault fault)) = core_fault (inode_bytes at image ino) ino at.uuid ≡ Some fault
 IsAnswer at image ino fork from (Err Failed) = ⊤
 IsAnswer at image ino fork from (Err Memory) = ⊤
+
+-- a cache keeps what it kept, but for the block at this place, which may be in front now
+abbrev pub CachesAt : ℕ → BlkCache → BlkCache → Type 0
+CachesAt at old new = Stays old new ⊎ ((block : Block) × Keeps at block old new)
+
+-- no other block than the inode's is put into the cache
+abbrev pub CachesInode : Layout → ℕ → BlkCache → BlkCache → Type 0
+CachesInode at ino old new = IfSome (split_of at (ino / 8)) (λ place. CachesAt (device_block_of at place.0 place.1) old new)

@@ -6,13 +6,13 @@ use Rattle.dinode_core.specs.declared.mapping.Mapping.{Mapping}
 use Rattle.dinode_core.specs.declared.mapping.Fork.{Fork}
 use Rattle.dinode_core.specs.declared.mapping.ForkFault.{ForkFault}
 use Rattle.dinode_core.specs.declared.mapping.ForkFault.TheVariants as faults
-use Rattle.dinode_core.specs.Inline.{first_bad, or_else}
+use Rattle.dinode_core.specs.Inline.{first_bad}
 use Rattle.dinode_core.specs.ForkTree.{Image, Trail, met_of, start, walk_fault}
 use Rattle.fork_read.specs.declared.fault.ForkPiece.{ForkPiece}
 use Rattle.fork_read.specs.declared.tasks.Task.{Task}
 use Rattle.fork_read.specs.Parts.{IsPart}
 use Rattle.fork_read.specs.Pieces.{IsForkFault, IsForkPiece}
-use Rattle.fork_read.specs.Stuck.{IsStuck}
+use Rattle.fork_read.specs.Stuck.{IsBehind}
 use Rattle.fork_read.specs.Walk.{first_tasks}
 
 -- pieces one after another, each from where the one before leaves something, and what the last one leaves
@@ -36,14 +36,25 @@ pub record IsWhole (at : Layout) (image : Image) (core : Core3) (fork : Fork) (m
   pub mappings_are : mappings ≡ (met_of at image core fork).mappings
   pub blocks_are : blocks ≡ map (λ b. b.block) (met_of at image core fork).blocks
 
--- a piece from this offset on came to a subtree where none can begin, and met no bad block behind it: the fault is
--- the first bad mapping that it met, or Order
+-- the last of these mappings has this fault by itself, whatever follows it
+pub record LastBad (at : Layout) (fork : Fork) (mappings : List Mapping) (fault : ForkFault) : Type 0 where
+  pub front : List Mapping
+  pub last : Mapping
+  pub split : mappings ≡ front ++ last ∷ []
+  pub own : first_bad at fork (last ∷ []) ≡ Some fault
+
+-- none of these mappings is bad, and the fault is Order, or the last one has this fault by itself
+abbrev pub IsUnseen : Layout → Fork → List Mapping → ForkFault → Type 0
+IsUnseen at fork mappings fault = ((first_bad at fork mappings ≡ None) × (fault ≡ faults.Order)) ⊎ LastBad at fork mappings fault
+
+-- a piece from this offset on came to a subtree where none can begin, so that the fork has a fault, and 28 sound
+-- blocks behind it don't show the first one
 pub record IsCut (at : Layout) (image : Image) (core : Core3) (fork : Fork) (from : ℕ) (fault : ForkFault) : Type 0 where
-  pub rest : List Task
-  pub met : Trail
-  pub stuck : IsStuck at image core from (first_tasks core fork from) start rest met
+  pub left : List Task
   pub after : Trail
-  pub found : or_else (first_bad at fork after.mappings) (Some faults.Order) ≡ Some fault
+  pub behind : IsBehind at image core from (first_tasks core fork from) start left after
+  pub unseen : IsUnseen at fork after.mappings fault
+  pub bad : walk_fault at image core fork ≡ None → ⊥
 
 -- pieces from 0 on, one after another until nothing is left, are in sum the whole fork
 abbrev pub PiecesJoin : Layout → Core3 → Fork → Type 0

@@ -8,7 +8,7 @@ ghost use Rattle.geom.specs.Layout.{split_of};
 ghost use Rattle.geom.specs.Places.{layout};
 ghost use Rattle.dinode_core.specs.Core.{core_fault, core_of};
 ghost use Rattle.fork_read.specs.Answers.{is_failed};
-ghost use Rattle.fork_read.specs.Pieces.{inode_bytes, slot_bytes, IsCore};
+ghost use Rattle.fork_read.specs.Pieces.{inode_bytes, slot_bytes, CachesAt, CachesInode, IsCore};
 
 use crate::fault::ReadFault;
 use blk_cache::BlkCache;
@@ -44,6 +44,7 @@ fn load<D: Device, L: Ledger>(
     ensures reading { OnlyRead D.Device dev.old dev.new steps.old steps.new }
     ensures cause { HasCauseBy is_failed (D.faults dev.old) (D.faults dev.new) result }
     ensures agrees { AgreesTold cache.new (D.content dev.new) }
+    ensures cached { CachesAt at cache.old cache.new }
     ensures one { steps.new.reads ≡ steps.old.reads + 1 }
 {
     let mut block = Block::zeroed();
@@ -69,6 +70,7 @@ pub fn load_core<D: Device, L: Ledger>(
     ensures reading { OnlyRead D.Device dev.old dev.new steps.old steps.new }
     ensures cause { HasCauseBy is_failed (D.faults dev.old) (D.faults dev.new) result }
     ensures agrees { AgreesTold cache.new (D.content dev.new) }
+    ensures cached { CachesInode (layout geo.now) ino cache.old cache.new }
     ensures few { steps.new.reads ≤ steps.old.reads + 1 }
 {
     let Some(place) = geo.split_fs_block(ino / 8) else {

@@ -13,8 +13,9 @@ pub fn pieces_join(core: &Core3, fork: Fork, geo: &Geometry)
 {}
 
 /// The fault for which such a piece is refused is the fork's first one. The one exception is a piece
-/// that came to a subtree where none can begin, read 28 blocks behind it and met no bad block: its fault
-/// is the first bad mapping that it met, or Order. (XFS Algorithms and Data Structures, "Data Fork".)
+/// that came to a subtree where none can begin, so that the fork has a fault, and read 28 sound blocks
+/// behind it without a bad mapping but maybe the last one: its fault is Order, or that mapping's own.
+/// (XFS Algorithms and Data Structures, "Data Fork".)
 pub fn refusal_is_first(core: &Core3, fork: Fork, geo: &Geometry)
     ensures { RefusalsAreFirst (layout geo.now) core.now fork }
 {}

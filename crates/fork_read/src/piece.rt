@@ -10,7 +10,7 @@ ghost use Rattle.dinode_core.specs.ForkTree.{entries, is_tree};
 ghost use Rattle.dinode_core.specs.Inline.{form_fault, key_room, root_keys, root_level};
 ghost use Rattle.dinode_core.specs.Shape.{size_of};
 ghost use Rattle.fork_read.specs.Answers.{is_failed};
-ghost use Rattle.fork_read.specs.Pieces.{IsAnswer, IsForkAnswer, IsRefused, IsSized, IsTreeAnswer};
+ghost use Rattle.fork_read.specs.Pieces.{CachesInode, IsAnswer, IsForkAnswer, IsRefused, IsSized, IsTreeAnswer};
 ghost use Rattle.fork_read.specs.Walk.{pruned, tasks_of};
 
 use crate::fault::{ForkPiece, ReadFault};
@@ -157,6 +157,7 @@ pub fn fork_piece<D: Device, L: Ledger>(
     ensures reading { OnlyRead D.Device dev.old dev.new steps.old steps.new }
     ensures cause { HasCauseBy is_failed (D.faults dev.old) (D.faults dev.new) result }
     ensures agrees { AgreesTold cache.new (D.content dev.new) }
+    ensures cached { CachesInode (layout geo.now) ino cache.old cache.new }
     ensures few { steps.new.reads ≤ steps.old.reads + 129 }
 {
     let core = match load_core(dev, cache, geo, ino, steps) {
