@@ -1,17 +1,15 @@
 -- As many pieces end a run as begin one: each piece that goes on from another does so from one alone.
-use Rattle.std.proofs.Common.{◌≡◌, ◌<◌, ◌≤◌, ◌+◌, ◌-◌, ◌^◌, ℕ, zero, suc, Bool, true, false, not, cond, ◌||◌, List, [], ◌∷◌, ◌++◌, get_or, take, length, map, All, Contains, filter, refl, sym, ap, ◌∙◌, subst, inl, inr, arith}
+use Rattle.std.proofs.Common.{◌≡◌, ◌<◌, ◌≤◌, ◌+◌, ◌-◌, ℕ, zero, suc, Bool, true, false, not, cond, ◌||◌, List, [], ◌∷◌, ◌++◌, get_or, take, length, map, Contains, filter, refl, sym, ap, ◌∙◌, arith}
 use Rattle.std.specs.Prelude.{if◌then◌else◌}
 use Rattle.std.specs.List.{list_any}
-use Rattle.std.proofs.lemmas.Bool.{false≢true}
 use Rattle.std.proofs.lemmas.List.{append-nil, length-append, length-map}
 use Rattle.std.proofs.lemmas.List.Elements.{filter_more}
 use Rattle.sblock.specs.Lists.{Rises}
 use Rattle.rmap_recs.specs.Rmap.{can_join, key_of}
 use Rattle.rmap_recs.specs.Runs.{goes_on, tuple_at}
 use Rattle.rmap_recs.specs.declared.records.RmapRec.{RmapRec}
-use Rattle.rmap_recs.specs.declared.tuples.Tuple.{Tuple}
 use Rattle.rmap_recs.proofs.RisingLemmas.{any_here, before_rest, false_by, in_front, in_rest}
-use Rattle.run_edits.specs.Edits.{HasRoom, is_before}
+use Rattle.run_edits.specs.Edits.{is_before}
 use Rattle.run_edits.specs.Pieces.{ArePieces, is_followed, is_last, joined_pieces, run_of}
 use Rattle.run_edits.proofs.ChainLemmas.{in_row, join_is, only_ahead}
 use Rattle.run_edits.proofs.FitLemmas.{has_room_at}
