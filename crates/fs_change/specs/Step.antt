@@ -152,10 +152,11 @@ MayMark a g causes.Owner = Unit {0}
 
 -- ---- rebuilding
 
--- the list's first block while it has more than 8, else the lowest spare block, else the list's first
-abbrev pub MayReserve : State → ℕ → ScrubUnit → ℕ → Bool → Type 0
-MayReserve a g unit b true = (length (a.group g).free_list ≤ 8) × (spare_block a g unit ≡ Some b)
-MayReserve a g unit b false = (slice_get (a.group g).free_list 0 ≡ Some b) × ((8 < length (a.group g).free_list) ⊎ (spare_block a g unit ≡ None))
+-- the list's first block while it has more than 8, else the lowest spare block, else the list's first; a spare block is
+-- noted by free space or by reverse mappings at least
+abbrev pub MayReserve : State → List Kind → ℕ → ScrubUnit → ℕ → Bool → Type 0
+MayReserve a left g unit b true = (length (a.group g).free_list ≤ 8) × (spare_block a g unit ≡ Some b) × ((is_among Bno left && is_among Rmap left) ≡ false)
+MayReserve a left g unit b false = (slice_get (a.group g).free_list 0 ≡ Some b) × ((8 < length (a.group g).free_list) ⊎ (spare_block a g unit ≡ None))
 
 -- nothing is pending, nothing contradicts the derivation, and the reserve has as many blocks as are needed
 pub record MaySwitch (a : State) (g : ℕ) (unit : ScrubUnit) : Type 0 where
@@ -196,7 +197,7 @@ Row a left (entries.Given writer ino) x =
 Row a left (entries.Refilled e) x = MayRefill a e × (x ≡ refilled e a)
 Row a left (entries.Trimmed e) x = MayTrim a e × (x ≡ trimmed e a)
 Row a left (entries.Marked g k cause) x = MayMark a g cause × (x ≡ marked g k a)
-Row a left (entries.Reserved g unit b spare) x = MayReserve a g unit b spare × (x ≡ reserved left g unit b spare a)
+Row a left (entries.Reserved g unit b spare) x = MayReserve a left g unit b spare × (x ≡ reserved left g unit b spare a)
 Row a left (entries.Released g unit) x = x ≡ released g a
 Row a left (entries.Fault g unit fault) x = (unit ≡ unit_of (kind_of_fault fault)) × (x ≡ marked g (kind_of_fault fault) a)
 Row a left (entries.Verdict g unit verdict) x = x ≡ judged g unit verdict a
