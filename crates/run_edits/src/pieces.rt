@@ -38,7 +38,7 @@ fn place_of(pieces: &[RmapRec], next: &RmapRec) -> usize
     pieces.partition_point(|other| is_before(other, next))
 }
 
-// The place of the piece that goes on behind the run.
+/// The place of the piece that goes on behind the run, where there is one.
 pub fn place_behind(pieces: &[RmapRec], run: &RmapRec) -> Option<usize>
     requires sorted { Rises is_before_of pieces.now }
     requires room { run.now.start + run.now.count < 2 ^ 32 }

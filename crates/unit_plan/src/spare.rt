@@ -18,7 +18,8 @@ pub struct SpaceTrust {
     pub rmap: Trust,
 }
 
-// How far a walk has come: the first block that isn't passed, and how many of each are.
+/// How far a walk has come: the first block that isn't passed, and how many spans, mappings and
+/// pieces are.
 #[derive(Clone, Copy)]
 pub struct Place {
     pub from: u64,
