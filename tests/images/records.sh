@@ -236,15 +236,20 @@ same_lines() {
   verdict "made: $1" $? "expected status $2, found $ended" "$(cat differ.txt stderr)" "$(tail -n 3 found.txt)"
 }
 
-# A journal holds 1,048,576 entries: faults and verdicts.
+# No unit begins where the journal has 1,048,576 entries or more; one that has begun is shown whole.
 full_journal() {
   local pieces=524285 length=1320000
-  build 'a full journal' --blocks "$length" --pieces "$pieces" --bare
+  build 'a journal that is nearly full' --blocks "$length" --pieces "$pieces" --bare
   make_image sound.img --on --tree 0:rmap
   { missing $((31 + ${#printed[@]})) "$pieces" "$length" && lines '0 refc good'; } >wanted.txt
-  same_lines 'as many entries as a journal holds' 1
+  same_lines 'one entry more, and it is full' 1
   make_image sound.img --on --head 0:agf:refcntblocks:4
-  { sed '$d' wanted.txt && lines '0 refc counter refcount_blocks 4 1' 'journal full'; } >longer.txt
+  { sed '$d' wanted.txt && lines '0 refc counter refcount_blocks 4 1' '0 refc faulty 1'; } >longer.txt
   mv longer.txt wanted.txt
-  same_lines 'one entry more' 7
+  same_lines 'a unit that has begun is shown whole' 1
+  ((pieces++))
+  build 'a full journal' --blocks "$length" --pieces "$pieces" --bare
+  make_image sound.img --on --tree 0:rmap
+  { missing $((31 + ${#printed[@]})) "$pieces" "$length" && lines 'journal full'; } >wanted.txt
+  same_lines 'no unit begins' 7
 }

@@ -1,6 +1,5 @@
-pub mod AddsLemmas
-pub mod CauseLemmas
 pub mod EndLemmas
+pub mod EventLemmas
 pub mod GroupLemmas
 pub mod HeadLemmas
 pub mod ReadLemmas

@@ -1,19 +1,23 @@
--- How the check of all groups ends, as the image decides it: its heads, then its units.
-use Rattle.std.specs.Prelude.{◌≡◌, ⊤, ℕ, zero, suc, ◌+◌, nat_le, if◌then◌else◌, List, [], ◌∷◌, ◌++◌, length, take, Option, Some, None, Result, Ok, Err}
+-- What a check of all groups does and how it ends, as the image decides it: its heads, then its units.
+use Rattle.std.specs.Prelude.{◌≡◌, ◌<◌, ℕ, zero, suc, ◌+◌, nat_lt, if◌then◌else◌, List, [], ◌∷◌, ◌++◌, length, Option, Some, None, Result, Ok, Err}
 use Rattle.std.specs.Global.{Vec}
 use Rattle.ag_headers.specs.Agf.{agf_fault, agf_of}
 use Rattle.ag_headers.specs.Agfl.{agfl_fault}
 use Rattle.ag_headers.specs.Agi.{agi_fault}
 use Rattle.ag_headers.specs.declared.agf.Agf.{Agf as SpaceHead}
 use Rattle.ag_headers.specs.declared.fault.HeadFault.{HeadFault}
-use Rattle.blk_device.specs.Causes.{Rose}
+use Rattle.blk_device.specs.Causes.{HasCauseBy}
+use Rattle.blk_device.specs.Taken.{IsFront}
 use Rattle.fs_model.specs.declared.entry.Entry.{Entry}
 use Rattle.fs_model.specs.declared.unit.Head.{Head}
 use Rattle.fs_model.specs.declared.unit.Head.TheVariants.{Agf, Agi, Agfl}
 use Rattle.geom.specs.Layout.{Layout, device_block_of}
-use Rattle.space_check.specs.Groups.{group_entries}
-use Rattle.space_check.specs.declared.stop.Stop.{Stop}
-use Rattle.space_check.specs.declared.stop.Stop.TheVariants as stops
+use Rattle.space_check.specs.Events.{Event, Moment, moment, most_entries, AreDone, StopsIn}
+use Rattle.space_check.specs.Groups.{group_events}
+use Rattle.space_check.specs.Progress.{is_failed}
+use Rattle.space_check.specs.declared.halt.Halt.{Halt}
+use Rattle.space_check.specs.declared.halt.Halt.TheVariants as halts
+use Rattle.space_check.specs.declared.stop.CheckStop.{CheckStop}
 
 -- of two tests the first that fails
 abbrev pub or_else : {A : Type 0} → Option A → Option A → Option A
@@ -28,16 +32,31 @@ of_head head (Some fault) = Some (head, fault)
 unfoldable pub bad_head : Layout → ℕ → List ℕ → Option (Head × HeadFault)
 bad_head at g block = or_else (of_head Agf (agf_fault at g block)) (or_else (of_head Agi (agi_fault at g block)) (of_head Agfl (agfl_fault at g block)))
 
--- a journal holds so many entries at most
-unfoldable pub most_entries : ℕ
-most_entries = 1048576
+-- a look at the heads of a group: one block, and nothing to tell where they pass
+abbrev pub look : Event
+look = record { reads = 1; entries = [] }
+
+abbrev pub looks : ℕ → List Event
+looks zero = []
+looks (suc n) = look ∷ looks n
 
 -- An image is refused for a head; or it is judged, by these entries; or the journal was full before
--- all of them were in it.
+-- the last event.
 pub data Checked : Type 0 where
   RefusedHead : (g : ℕ) (head : Head) (fault : HeadFault) → Checked
   Judged : (entries : List Entry) → Checked
   Filled : (entries : List Entry) → Checked
+
+-- the journal that a check has in the end
+abbrev pub journal_of : Checked → List Entry
+journal_of (RefusedHead g head fault) = []
+journal_of (Judged entries) = entries
+journal_of (Filled entries) = entries
+
+-- these events one after the other, each only where the journal has room
+abbrev pub recorded : List Entry → List Event → Checked
+recorded journal [] = Judged journal
+recorded journal (e ∷ es) = if nat_lt (length journal) most_entries then recorded (journal ++ e.entries) es else Filled journal
 
 module _ (at : Layout) (image : ℕ → List ℕ) where
   -- the block with a group's heads
@@ -58,39 +77,82 @@ module _ (at : Layout) (image : ℕ → List ℕ) where
   agfs_from g zero = []
   agfs_from g (suc n) = agf_of (heads_at g) ∷ agfs_from (g + 1) n
 
-  -- the entries of n groups from g on
-  unfoldable pub entries_from : ℕ → ℕ → List Entry
-  entries_from g zero = []
-  entries_from g (suc n) = group_entries at image g (agf_of (heads_at g)) ++ entries_from (g + 1) n
+  -- the units of n groups from g on
+  unfoldable pub events_from : ℕ → ℕ → List Event
+  events_from g zero = []
+  events_from g (suc n) = group_events at image g (agf_of (heads_at g)) ++ events_from (g + 1) n
 
-  abbrev pub kept : List Entry → Checked
-  kept entries = if nat_le (length entries) most_entries then Judged entries else Filled (take most_entries entries)
+  -- how many groups' heads are looked at: all, or those up to the first that is refused
+  unfoldable pub looked_at : ℕ
+  looked_at =
+      elim (bad_head_from 0 at.agcount) [
+        | Some bad ↦ bad.0 + 1
+        | None ↦ at.agcount
+      ]
 
+  -- the units of all groups, where no head is refused
+  unfoldable pub units_events : List Event
+  units_events =
+      elim (bad_head_from 0 at.agcount) [
+        | Some bad ↦ []
+        | None ↦ events_from 0 at.agcount
+      ]
+
+  -- what a check of the image does: the heads of all groups first, and then the units group by group
+  unfoldable pub check_events : List Event
+  check_events = looks looked_at ++ units_events
+
+  -- how a check of the image ends that nothing stops
   unfoldable pub checked : Checked
   checked =
       elim (bad_head_from 0 at.agcount) [
         | Some bad ↦ RefusedHead bad.0 bad.1.0 bad.1.1
-        | None ↦ kept (entries_from 0 at.agcount)
+        | None ↦ recorded [] check_events
       ]
 
--- an answer is what the image decides; a device that failed and want of memory have other causes
-abbrev pub MeetsStop : Checked → Stop → Type 0
-MeetsStop decided (stops.Head g head fault) = decided ≡ RefusedHead g head fault
-MeetsStop decided (stops.Full journal) = decided ≡ Filled journal.items
-MeetsStop decided stops.Failed = ⊤
-MeetsStop decided stops.Memory = ⊤
+  -- ---- the answer of a check, and how many blocks were counted as read before and after it
 
-abbrev pub MeetsCheck : Checked → Result (Vec Entry) Stop → Type 0
+  -- a head is refused once the heads up to it were looked at; else an event ended the check
+  abbrev pub StopsFor : Halt → (before after : Moment) → Type 0
+  StopsFor (halts.Head g head fault) before after = (bad_head_from 0 at.agcount ≡ Some (g, (head, fault))) × AreDone check_events before after
+  StopsFor halts.Full before after = StopsIn halts.Full check_events before after
+  StopsFor halts.Failed before after = StopsIn halts.Failed check_events before after
+  StopsFor halts.Memory before after = StopsIn halts.Memory check_events before after
+
+  abbrev pub IsCheck : (before after : ℕ) → Result (Vec Entry) CheckStop → Type 0
+  IsCheck before after (Ok journal) = (bad_head_from 0 at.agcount ≡ None) × AreDone check_events (moment [] before) (moment journal.items after)
+  IsCheck before after (Err stop) = StopsFor stop.cause (moment [] before) (moment stop.journal.items after)
+
+-- an answer is what the image decides; one that was stopped has a front of that journal
+abbrev pub MeetsHalt : Checked → Halt → (journal : List Entry) → Type 0
+MeetsHalt decided (halts.Head g head fault) journal = (decided ≡ RefusedHead g head fault) × (journal ≡ [])
+MeetsHalt decided halts.Full journal = decided ≡ Filled journal
+MeetsHalt decided halts.Failed journal = IsFront journal (journal_of decided)
+MeetsHalt decided halts.Memory journal = IsFront journal (journal_of decided)
+
+abbrev pub MeetsCheck : Checked → Result (Vec Entry) CheckStop → Type 0
 MeetsCheck decided (Ok journal) = decided ≡ Judged journal.items
-MeetsCheck decided (Err stop) = MeetsStop decided stop
+MeetsCheck decided (Err stop) = MeetsHalt decided stop.cause stop.journal.items
 
 -- a failed device is told only where its count rose, and no other answer moves the count
-abbrev pub StopCause : ℕ → ℕ → Stop → Type 0
-StopCause before now (stops.Head g head fault) = now ≡ before
-StopCause before now (stops.Full journal) = now ≡ before
-StopCause before now stops.Failed = Rose before now
-StopCause before now stops.Memory = now ≡ before
+abbrev pub CheckCause : ℕ → ℕ → Result (Vec Entry) CheckStop → Type 0
+CheckCause before now result = HasCauseBy (λ stop. is_failed stop.cause) before now result
 
-abbrev pub CheckCause : ℕ → ℕ → Result (Vec Entry) Stop → Type 0
-CheckCause before now (Ok journal) = now ≡ before
-CheckCause before now (Err stop) = StopCause before now stop
+-- ---- steps of the check
+
+module _ (at : Layout) (image : ℕ → List ℕ) where
+  -- the heads of all groups pass, or this is the first that is refused; or a look at them was cut off
+  abbrev pub HaltsInHeads : (before after : ℕ) → Halt → Type 0
+  HaltsInHeads before after (halts.Head g head fault) = (bad_head_from at image 0 at.agcount ≡ Some (g, (head, fault))) × (after ≡ before + (g + 1))
+  HaltsInHeads before after halts.Full = ⊥
+  HaltsInHeads before after halts.Failed = (i : ℕ) × (i < looked_at at image) × (after ≡ before + (i + 1))
+  HaltsInHeads before after halts.Memory = (i : ℕ) × (i < looked_at at image) × (after ≡ before + (i + 1))
+
+  abbrev pub LooksAtHeads : {T : Type 0} → (before after : ℕ) → Result T Halt → Type 0
+  LooksAtHeads before after (Ok done) = (bad_head_from at image 0 at.agcount ≡ None) × (after ≡ before + at.agcount)
+  LooksAtHeads before after (Err halt) = HaltsInHeads before after halt
+
+  -- how a check that began at `before` with an empty journal ends
+  abbrev pub EndsCheck : {T : Type 0} → (before after : Moment) → Result T Halt → Type 0
+  EndsCheck before after (Ok done) = (bad_head_from at image 0 at.agcount ≡ None) × AreDone (check_events at image) before after
+  EndsCheck before after (Err halt) = StopsFor at image halt before after

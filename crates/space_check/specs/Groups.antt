@@ -1,5 +1,5 @@
--- What the check of a group's free space and reference counts adds to the journal.
-use Rattle.std.specs.Prelude.{ℕ, ◌==◌, if◌then◌else◌, List, [], ◌∷◌, ◌++◌, length, map, Ok, Err}
+-- What the check of a group's free space and reference counts reads, and adds to the journal.
+use Rattle.std.specs.Prelude.{ℕ, ◌+◌, ◌==◌, if◌then◌else◌, List, [], ◌∷◌, ◌++◌, length, map, Ok, Err}
 use Rattle.ag_headers.specs.declared.agf.Agf.{Agf}
 use Rattle.fs_model.specs.declared.entry.Entry.{Entry}
 use Rattle.fs_model.specs.declared.entry.Entry.TheVariants as entries
@@ -16,6 +16,8 @@ use Rattle.span_recs.specs.Refcounts.{refc_form}
 use Rattle.span_recs.specs.Spans.{bno_form, cnt_form}
 use Rattle.tree_defs.specs.Sites.{site_of, group_blocks}
 use Rattle.tree_defs.specs.Tree.{read_tree}
+use Rattle.tree_defs.specs.Walked.{walked}
+use Rattle.space_check.specs.Events.{Event}
 use Rattle.space_check.specs.Faults.{Reading, free_faults, shared_faults}
 
 -- good where there is no fault, else faulty with their number
@@ -26,14 +28,26 @@ verdict_of n = if n == 0 then Good else Faulty n
 unfoldable pub unit_entries : ℕ → Unit → List Fault → List Entry
 unit_entries g unit faults = map (entries.Fault g unit) faults ++ entries.Verdict g unit (verdict_of (length faults)) ∷ []
 
--- both units of a group whose reverse mappings can't be read
-unfoldable pub skipped_entries : ℕ → List Entry
-skipped_entries g = entries.Verdict g units.Free (Skipped g units.Rmap) ∷ entries.Verdict g units.Refc (Skipped g units.Rmap) ∷ []
+-- a unit of a group whose reverse mappings can't be read
+abbrev pub skipped_entries : ℕ → Unit → List Entry
+skipped_entries g unit = entries.Verdict g unit (Skipped g units.Rmap) ∷ []
+
+abbrev pub event : ℕ → List Entry → Event
+event reads entries = record { reads = reads; entries = entries }
+
+-- Both units of such a group, where n blocks of the reverse mapping btree are read before its fault
+-- is found.
+abbrev pub skipped_events : (g n : ℕ) → List Event
+skipped_events g n = event n (skipped_entries g units.Free) ∷ event 0 (skipped_entries g units.Refc) ∷ []
 
 module _ (at : Layout) (image : ℕ → List ℕ) (g : ℕ) where
   -- a tree of the group, as it is read
   unfoldable pub tree_of : {R K : Type 0} → Form R K → ℕ → ℕ → Reading R
   tree_of form root levels = read_tree form (site_of at g) (group_blocks (site_of at g) image) root levels
+
+  -- how many blocks are read for that
+  unfoldable pub blocks_read : {R K : Type 0} → Form R K → ℕ → ℕ → ℕ
+  blocks_read form root levels = walked form (site_of at g) (group_blocks (site_of at g) image) root levels
 
   -- free space, by the reverse mappings of a tree of so many blocks
   unfoldable pub free_entries : Agf → (mappings : List RmapRec) → (mapped : ℕ) → List Entry
@@ -43,11 +57,22 @@ module _ (at : Layout) (image : ℕ → List ℕ) (g : ℕ) where
   unfoldable pub shared_entries : Agf → (mappings : List RmapRec) → List Entry
   shared_entries agf mappings = unit_entries g units.Refc (shared_faults agf mappings (tree_of refc_form agf.refcount_root agf.refcount_level))
 
+  -- the blocks of the two trees of free space
+  abbrev pub free_reads : Agf → ℕ
+  free_reads agf = blocks_read bno_form agf.bno_root agf.bno_level + blocks_read cnt_form agf.cnt_root agf.cnt_level
+
+  -- the unit of free space, with n blocks of the reverse mapping btree
+  abbrev pub free_event : Agf → (mappings : List RmapRec) → (mapped n : ℕ) → Event
+  free_event agf mappings mapped n = event (n + free_reads agf) (free_entries agf mappings mapped)
+
+  abbrev pub shared_event : Agf → (mappings : List RmapRec) → Event
+  shared_event agf mappings = event (blocks_read refc_form agf.refcount_root agf.refcount_level) (shared_entries agf mappings)
+
   -- both units, by the reverse mappings as they are read
-  unfoldable pub judged_entries : Agf → Reading RmapRec → List Entry
-  judged_entries agf (Err bad) = skipped_entries g
-  judged_entries agf (Ok read) = free_entries agf read.0 (length read.1) ++ shared_entries agf read.0
+  unfoldable pub judged_events : Agf → (n : ℕ) → Reading RmapRec → List Event
+  judged_events agf n (Err bad) = skipped_events g n
+  judged_events agf n (Ok read) = free_event agf read.0 (length read.1) n ∷ shared_event agf read.0 ∷ []
 
   -- Free space, then reference counts, of a group with this head.
-  unfoldable pub group_entries : Agf → List Entry
-  group_entries agf = judged_entries agf (tree_of rmap_form agf.rmap_root agf.rmap_level)
+  unfoldable pub group_events : Agf → List Event
+  group_events agf = judged_events agf (blocks_read rmap_form agf.rmap_root agf.rmap_level) (tree_of rmap_form agf.rmap_root agf.rmap_level)

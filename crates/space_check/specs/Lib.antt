@@ -1,4 +1,5 @@
 pub mod Checked
+pub mod Events
 pub mod Faults
 pub mod Groups
 pub mod Progress

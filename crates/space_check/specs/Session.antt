@@ -1,91 +1,84 @@
 -- What each journal of a check is, whether the device tells its content or not: the units of all
--- groups in order, each with its faults and then its verdict.
-use Rattle.std.specs.Prelude.{◌≡◌, ⊤, ℕ, zero, suc, ◌≤◌, ◌⊎◌, List, [], ◌++◌, Result, Ok, Err}
+-- groups in order, each with its faults and then its verdict. How many blocks are read isn't told
+-- then, and stands as 0.
+use Rattle.std.specs.Prelude.{◌≡◌, ℕ, zero, suc, ◌⊎◌, List, [], ◌∷◌, ◌++◌, Result, Ok, Err}
 use Rattle.std.specs.Global.{Vec}
 use Rattle.fs_model.specs.declared.entry.Entry.{Entry}
 use Rattle.fs_model.specs.declared.fault.Fault.{Fault}
 use Rattle.fs_model.specs.declared.unit.Unit.{Unit}
 use Rattle.fs_model.specs.declared.unit.Unit.TheVariants as units
-use Rattle.space_check.specs.Groups.{unit_entries, skipped_entries}
-use Rattle.space_check.specs.Progress.{IsFront}
+use Rattle.space_check.specs.Events.{Event, Moment, moment, AreDone, StopsIn, Does}
+use Rattle.space_check.specs.Groups.{event, unit_entries, skipped_events}
 use Rattle.space_check.specs.declared.halt.Halt.{Halt}
 use Rattle.space_check.specs.declared.halt.Halt.TheVariants as halts
-use Rattle.space_check.specs.declared.stop.Stop.{Stop}
-use Rattle.space_check.specs.declared.stop.Stop.TheVariants as stops
+use Rattle.space_check.specs.declared.stop.CheckStop.{CheckStop}
 
--- free space with its faults and its verdict, then reference counts with theirs
-pub record AreJudged (g : ℕ) (entries : List Entry) : Type 0 where
+-- a unit that is judged, with these faults
+abbrev pub unit_event : ℕ → Unit → List Fault → Event
+unit_event g unit faults = event 0 (unit_entries g unit faults)
+
+-- a check that has come to this journal
+abbrev pub come_to : List Entry → Moment
+come_to journal = moment journal 0
+
+-- free space, then reference counts
+pub record AreJudged (g : ℕ) (events : List Event) : Type 0 where
   pub free : List Fault
   pub shared : List Fault
-  pub both : entries ≡ unit_entries g units.Free free ++ unit_entries g units.Refc shared
+  pub both : events ≡ unit_event g units.Free free ∷ unit_event g units.Refc shared ∷ []
 
 -- both units of a group are judged, or both are skipped
-abbrev pub AreOfGroup : ℕ → List Entry → Type 0
-AreOfGroup g entries = AreJudged g entries ⊎ (entries ≡ skipped_entries g)
+abbrev pub AreOfGroup : ℕ → List Event → Type 0
+AreOfGroup g events = AreJudged g events ⊎ (events ≡ skipped_events g 0)
 
--- the entries of the first n groups, in order
-abbrev pub AreOfGroups : ℕ → List Entry → Type 0
-AreOfGroups zero entries = entries ≡ []
-AreOfGroups (suc n) entries = (before : List Entry) × (last : List Entry) × AreOfGroups n before × AreOfGroup n last × (entries ≡ before ++ last)
+-- the units of the first n groups, in order
+abbrev pub AreOfGroups : ℕ → List Event → Type 0
+AreOfGroups zero events = events ≡ []
+AreOfGroups (suc n) events = (before : List Event) × (last : List Event) × AreOfGroups n before × AreOfGroup n last × (events ≡ before ++ last)
 
--- the entries of the first n groups are behind what was there before
+-- the units of the first n groups were judged or skipped
 pub record HasGroups (n : ℕ) (before after : List Entry) : Type 0 where
-  pub entries : List Entry
-  pub groups : AreOfGroups n entries
-  pub behind : after ≡ before ++ entries
+  pub events : List Event
+  pub groups : AreOfGroups n events
+  pub done : AreDone events (come_to before) (come_to after)
 
--- a journal that was full, with as many entries of some of the first n groups as fit
-pub record WasFull (n : ℕ) (before after : List Entry) : Type 0 where
-  pub groups : ℕ
-  pub some : groups ≤ n
-  pub whole : List Entry
-  pub entries : AreOfGroups groups whole
-  pub front : IsFront (before ++ whole) after
+-- of the units of the first n groups, the first were judged or skipped, and the next one ended the
+-- check
+pub record StopsInGroups (n : ℕ) (halt : Halt) (before after : List Entry) : Type 0 where
+  pub events : List Event
+  pub groups : AreOfGroups n events
+  pub stop : StopsIn halt events (come_to before) (come_to after)
 
 -- ---- steps of the check
 
--- these were added, or a front of them
-abbrev pub MayAdd : {T : Type 0} → (before more after : List Entry) → Result T Halt → Type 0
-MayAdd before more after (Ok done) = after ≡ before ++ more
-MayAdd before more after (Err (halts.Head g head fault)) = ⊤
-MayAdd before more after (Err halts.Full) = IsFront (before ++ more) after
-MayAdd before more after (Err halts.Failed) = ⊤
-MayAdd before more after (Err halts.Memory) = ⊤
-
--- a unit's faults and its verdict were added
+-- a unit was judged
 pub record AddsUnit {T : Type 0} (g : ℕ) (unit : Unit) (before after : List Entry) (result : Result T Halt) : Type 0 where
   pub faults : List Fault
-  pub added : MayAdd before (unit_entries g unit faults) after result
+  pub added : Does (unit_event g unit faults ∷ []) (come_to before) (come_to after) result
 
--- both units of a group were added
+-- both units of a group were judged or skipped
 pub record AddsGroup {T : Type 0} (g : ℕ) (before after : List Entry) (result : Result T Halt) : Type 0 where
-  pub entries : List Entry
-  pub group : AreOfGroup g entries
-  pub added : MayAdd before entries after result
+  pub events : List Event
+  pub group : AreOfGroup g events
+  pub added : Does events (come_to before) (come_to after) result
 
--- the units of the first n groups were added
 abbrev pub AddsGroups : {T : Type 0} → ℕ → (before after : List Entry) → Result T Halt → Type 0
 AddsGroups n before after (Ok done) = HasGroups n before after
-AddsGroups n before after (Err (halts.Head g head fault)) = ⊤
-AddsGroups n before after (Err halts.Full) = WasFull n before after
-AddsGroups n before after (Err halts.Failed) = ⊤
-AddsGroups n before after (Err halts.Memory) = ⊤
-
--- the journal isn't told to be full
-abbrev pub IsNotFull : Halt → Type 0
-IsNotFull (halts.Head g head fault) = ⊤
-IsNotFull halts.Full = ⊥
-IsNotFull halts.Failed = ⊤
-IsNotFull halts.Memory = ⊤
+AddsGroups n before after (Err halt) = StopsInGroups n halt before after
 
 -- ---- the whole check of n groups
 
-abbrev pub StopsInSession : ℕ → Stop → Type 0
-StopsInSession n (stops.Head g head fault) = ⊤
-StopsInSession n (stops.Full journal) = WasFull n [] journal.items
-StopsInSession n stops.Failed = ⊤
-StopsInSession n stops.Memory = ⊤
+-- a head is refused before the first unit
+abbrev pub HaltsInSession : ℕ → Halt → (journal : List Entry) → Type 0
+HaltsInSession n (halts.Head g head fault) journal = journal ≡ []
+HaltsInSession n halts.Full journal = StopsInGroups n halts.Full [] journal
+HaltsInSession n halts.Failed journal = StopsInGroups n halts.Failed [] journal
+HaltsInSession n halts.Memory journal = StopsInGroups n halts.Memory [] journal
 
-abbrev pub IsSession : ℕ → Result (Vec Entry) Stop → Type 0
-IsSession n (Ok journal) = AreOfGroups n journal.items
-IsSession n (Err stop) = StopsInSession n stop
+abbrev pub EndsInSession : {T : Type 0} → ℕ → (journal : List Entry) → Result T Halt → Type 0
+EndsInSession n journal (Ok done) = HasGroups n [] journal
+EndsInSession n journal (Err halt) = HaltsInSession n halt journal
+
+abbrev pub IsSession : ℕ → Result (Vec Entry) CheckStop → Type 0
+IsSession n (Ok journal) = HasGroups n [] journal.items
+IsSession n (Err stop) = HaltsInSession n stop.cause stop.journal.items

@@ -2,19 +2,20 @@ ghost use Rattle.std.specs.Prelude.{◌≡◌, ◌<◌, ◌≤◌, [], length, S
 ghost use Rattle.ag_headers.specs.Agf.{agf_of};
 ghost use Rattle.blk_cache.specs.Cache.{AgreesTold};
 ghost use Rattle.blk_device.specs.Contents.{Contents};
+ghost use Rattle.blk_device.specs.Reading.{OnlyRead};
 ghost use Rattle.blk_device.specs.declared.device.Region.TheVariants.{Image};
 ghost use Rattle.geom.specs.Places.{layout};
-ghost use Rattle.space_check.specs.Checked.{CheckCause, MeetsCheck, agfs_from, checked, entries_from, heads_at};
-ghost use Rattle.space_check.specs.Groups.{group_entries};
-ghost use Rattle.space_check.specs.Progress.{Adds, Ends, HasCause, StopsWith};
-ghost use Rattle.space_check.specs.Session.{AddsGroup, AddsGroups, IsSession};
-ghost use Rattle.blk_device.specs.Reading.{OnlyRead};
+ghost use Rattle.space_check.specs.Checked.{CheckCause, EndsCheck, IsCheck, MeetsCheck, agfs_from, checked, events_from, heads_at};
+ghost use Rattle.space_check.specs.Events.{Does, moment};
+ghost use Rattle.space_check.specs.Groups.{group_events};
+ghost use Rattle.space_check.specs.Progress.{HasCause};
+ghost use Rattle.space_check.specs.Session.{AddsGroup, AddsGroups, EndsInSession, IsSession};
 
 use crate::group::check_group;
 use crate::halt::Halt;
 use crate::heads::test_heads;
 use crate::journal::Journal;
-use crate::stop::Stop;
+use crate::stop::CheckStop;
 use ag_headers::Agf;
 use blk_cache::BlkCache;
 use blk_device::Device;
@@ -23,18 +24,6 @@ use fs_model::Entry;
 use geom::Geometry;
 use std::alloc::Global;
 use std::sync::ledger::Ledger;
-
-// Why the check ended, with the journal so far where that was full.
-fn stop_of(halt: Halt, journal: Journal) -> Stop
-    ensures { StopsWith halt journal.entries.items result }
-{
-    match halt {
-        Halt::Head { group, head, fault } => Stop::Head { group, head, fault },
-        Halt::Full => Stop::Full(journal.entries),
-        Halt::Failed => Stop::Failed,
-        Halt::Memory => Stop::Memory,
-    }
-}
 
 // Judges one group, by its AGF among those of all groups.
 fn check_one<D: Device, L: Ledger>(
@@ -52,7 +41,7 @@ fn check_one<D: Device, L: Ledger>(
     requires agreed { AgreesTold cache.old (D.content dev.old) }
     requires all { length agfs.now ≡ geo.now.agcount }
     requires kept { (c : Contents) → D.content dev.old ≡ Some c → agfs.now ≡ agfs_from (layout geo.now) (c Image) 0 geo.now.agcount }
-    ensures exact { (c : Contents) → D.content dev.old ≡ Some c → Adds journal.old.entries.items (group_entries (layout geo.now) (c Image) g (agf_of (heads_at (layout geo.now) (c Image) g))) journal.new.entries.items result }
+    ensures exact { (c : Contents) → D.content dev.old ≡ Some c → Does (group_events (layout geo.now) (c Image) g (agf_of (heads_at (layout geo.now) (c Image) g))) (moment journal.old.entries.items steps.old.reads) (moment journal.new.entries.items steps.new.reads) result }
     ensures group { AddsGroup g journal.old.entries.items journal.new.entries.items result }
     ensures reading { OnlyRead D.Device dev.old dev.new steps.old steps.new }
     ensures cause { HasCause (D.faults dev.old) (D.faults dev.new) result }
@@ -75,17 +64,13 @@ fn check_groups<D: Device, L: Ledger>(
     requires agreed { AgreesTold cache.old (D.content dev.old) }
     requires all { length agfs.now ≡ geo.now.agcount }
     requires kept { (c : Contents) → D.content dev.old ≡ Some c → agfs.now ≡ agfs_from (layout geo.now) (c Image) 0 geo.now.agcount }
-    ensures exact { (c : Contents) → D.content dev.old ≡ Some c → Adds journal.old.entries.items (entries_from (layout geo.now) (c Image) 0 geo.now.agcount) journal.new.entries.items result }
+    ensures exact { (c : Contents) → D.content dev.old ≡ Some c → Does (events_from (layout geo.now) (c Image) 0 geo.now.agcount) (moment journal.old.entries.items steps.old.reads) (moment journal.new.entries.items steps.new.reads) result }
     ensures groups { AddsGroups geo.now.agcount journal.old.entries.items journal.new.entries.items result }
     ensures reading { OnlyRead D.Device dev.old dev.new steps.old steps.new }
     ensures cause { HasCause (D.faults dev.old) (D.faults dev.new) result }
-    ensures agrees { AgreesTold cache.new (D.content dev.new) }
 {
     for g in 0..geo.agcount {
-        match check_one(alloc, dev, cache, geo, g, agfs, journal, steps) {
-            Ok(()) => {}
-            Err(halt) => return Err(halt),
-        }
+        check_one(alloc, dev, cache, geo, g, agfs, journal, steps)?;
     }
     Ok(())
 }
@@ -102,60 +87,60 @@ fn check_all<D: Device, L: Ledger>(
     requires room { geo.now.dblocks ≤ D.blocks dev.old Image }
     requires agreed { AgreesTold cache.old (D.content dev.old) }
     requires empty { journal.old.entries.items ≡ [] }
-    ensures exact { (c : Contents) → D.content dev.old ≡ Some c → Ends (checked (layout geo.now) (c Image)) journal.new.entries.items result }
-    ensures groups { AddsGroups geo.now.agcount journal.old.entries.items journal.new.entries.items result }
+    ensures exact { (c : Contents) → D.content dev.old ≡ Some c → EndsCheck (layout geo.now) (c Image) (moment [] steps.old.reads) (moment journal.new.entries.items steps.new.reads) result }
+    ensures session { EndsInSession geo.now.agcount journal.new.entries.items result }
     ensures reading { OnlyRead D.Device dev.old dev.new steps.old steps.new }
     ensures cause { HasCause (D.faults dev.old) (D.faults dev.new) result }
 {
-    match test_heads(alloc, dev, cache, geo, steps) {
-        Ok(agfs) => check_groups(alloc, dev, cache, geo, agfs.as_slice(), journal, steps),
-        Err(halt) => Err(halt),
-    }
+    let agfs = test_heads(alloc, dev, cache, geo, steps)?;
+    check_groups(alloc, dev, cache, geo, agfs.as_slice(), journal, steps)
 }
 
-// The check by a cache: its journal, or why it ended.
-fn check_by_cache<D: Device, L: Ledger>(
+// The check, with the journal that it fills.
+fn check_into<D: Device, L: Ledger>(
     alloc: Global,
     dev: &mut D,
-    cache: &mut BlkCache,
     geo: &Geometry,
+    journal: &mut Journal,
     steps: &mut Steps<L>,
-) -> Result<Vec<Entry>, Stop>
+) -> Result<(), Halt>
     requires room { geo.now.dblocks ≤ D.blocks dev.old Image }
-    requires agreed { AgreesTold cache.old (D.content dev.old) }
-    ensures exact { IfSome (D.content dev.old) (λ c. MeetsCheck (checked (layout geo.now) (c Image)) result) }
-    ensures session { IsSession geo.now.agcount result }
+    requires empty { journal.old.entries.items ≡ [] }
+    ensures exact { (c : Contents) → D.content dev.old ≡ Some c → EndsCheck (layout geo.now) (c Image) (moment [] steps.old.reads) (moment journal.new.entries.items steps.new.reads) result }
+    ensures session { EndsInSession geo.now.agcount journal.new.entries.items result }
     ensures reading { OnlyRead D.Device dev.old dev.new steps.old steps.new }
-    ensures cause { CheckCause (D.faults dev.old) (D.faults dev.new) result }
+    ensures cause { HasCause (D.faults dev.old) (D.faults dev.new) result }
 {
-    let mut journal = Journal::new(alloc);
-    match check_all(alloc, dev, cache, geo, &mut journal, steps) {
-        Ok(()) => Ok(journal.entries),
-        Err(halt) => Err(stop_of(halt, journal)),
-    }
+    let mut cache = BlkCache::new(alloc, 0)?;
+    check_all(alloc, dev, &mut cache, geo, journal, steps)
 }
 
 /// Checks the space btrees of all groups. First the heads of all groups are tested, and the first
 /// that is refused ends the check. Then each group in order has the units of free space and of
 /// reference counts compared with what its reverse mapping btree gives, counters included; where that
-/// can't be read, both are skipped. A journal of 1,048,576 entries that would get another one ends
-/// the check too. Nothing is written
+/// can't be read, both are skipped. The entries of a unit join the journal all or none. A journal that
+/// has `MAX_ENTRIES` before a unit ends the check, and so do a device that fails and want of memory;
+/// the journal so far is handed back. Nothing is written
 /// (XFS Online Fsck Design, "Cross-Referencing Space Metadata").
 pub fn check_space<D: Device, L: Ledger>(
     alloc: Global,
     dev: &mut D,
     geo: &Geometry,
     steps: &mut Steps<L>,
-) -> Result<Vec<Entry>, Stop>
+) -> Result<Vec<Entry>, CheckStop>
     requires room { geo.now.dblocks ≤ D.blocks dev.old Image }
     ensures exact { IfSome (D.content dev.old) (λ c. MeetsCheck (checked (layout geo.now) (c Image)) result) }
+    ensures events { IfSome (D.content dev.old) (λ c. IsCheck (layout geo.now) (c Image) steps.old.reads steps.new.reads result) }
     ensures session { IsSession geo.now.agcount result }
     ensures reading { OnlyRead D.Device dev.old dev.new steps.old steps.new }
     ensures cause { CheckCause (D.faults dev.old) (D.faults dev.new) result }
 {
-    let mut cache = match BlkCache::new(alloc, 0) {
-        Ok(cache) => cache,
-        Err(_) => return Err(Stop::Memory),
-    };
-    check_by_cache(alloc, dev, &mut cache, geo, steps)
+    let mut journal = Journal::new(alloc);
+    match check_into(alloc, dev, geo, &mut journal, steps) {
+        Ok(()) => Ok(journal.entries),
+        Err(cause) => Err(CheckStop {
+            cause,
+            journal: journal.entries,
+        }),
+    }
 }

@@ -1,7 +1,10 @@
+ghost use Rattle.std.specs.Prelude.{◌≡◌};
+
 use ag_headers::HeadFault;
 use fs_model::Head;
+use std::alloc::{AllocError, AllocFailed};
 
-/// Why a step of the check has no answer: a head of a group is refused, the journal is full, the
+/// Why a check ends before its last unit: a head of a group is refused, the journal is full, the
 /// device failed, or there was no memory
 /// (XFS Online Fsck Design, "Metadata Scrubbing").
 #[derive(Clone, Copy, Debug, PartialEq, Eq)]
@@ -14,4 +17,34 @@ pub enum Halt {
     Full,
     Failed,
     Memory,
+}
+
+impl From<AllocError> for Halt {
+    ghost use Rattle.space_check.specs.declared.halt.Halt.TheVariants.{Memory};
+
+    ghost from_gives = { λ _ e. e ≡ Memory };
+
+    fn from(_: AllocError) -> Self {
+        Halt::Memory
+    }
+}
+
+impl<T: Drop> From<AllocFailed<T>> for Halt {
+    ghost use Rattle.space_check.specs.declared.halt.Halt.TheVariants.{Memory};
+
+    ghost from_gives = { λ _ e. e ≡ Memory };
+
+    fn from(_e: AllocFailed<T>) -> Self {
+        Halt::Memory
+    }
+}
+
+impl From<blk_cache::Memory> for Halt {
+    ghost use Rattle.space_check.specs.declared.halt.Halt.TheVariants.{Memory};
+
+    ghost from_gives = { λ _ e. e ≡ Memory };
+
+    fn from(_: blk_cache::Memory) -> Self {
+        Halt::Memory
+    }
 }

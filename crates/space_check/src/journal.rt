@@ -1,28 +1,22 @@
-ghost use Rattle.std.specs.Prelude.{◌≡◌, ◌≤◌, length, nat_le};
-ghost use Rattle.space_check.specs.Checked.{most_entries};
-ghost use Rattle.space_check.specs.Groups.{verdict_of as verdict_for};
+ghost use Rattle.std.specs.Prelude.{◌≡◌, ◌<◌, ◌↔◌, IsTrue, IfOk, map};
+ghost use Rattle.space_check.specs.Events.{most_entries};
+ghost use Rattle.space_check.specs.Groups.{unit_entries, verdict_of as verdict_for};
 
 use crate::halt::Halt;
 use fs_model::{Entry, Fault, Unit, Verdict};
-use std::alloc::Global;
+use std::alloc::{AllocError, Global};
 
-// The most entries that a journal holds.
-const MOST: usize = 1_048_576;
-
-// Whether so many entries are the most.
-#[tactic(auto, unfolding(crate::specs::Checked::most_entries))]
-fn is_most(entries: usize) -> bool
-    ensures { result ≡ nat_le most_entries entries }
-{
-    entries >= MOST
-}
-
-/// The entries of a check so far, in their order: 1,048,576 at most
+/// A journal that has so many entries, or more, is full: no unit is judged or skipped any more. The
+/// entries of one unit are added all or none, so a journal may end with more
 /// (XFS Online Fsck Design, "Metadata Scrubbing").
-#[derive(Drop)]
-pub struct Journal {
-    pub entries: Vec<Entry>,
-    pub ghost few: { length entries.items ≤ most_entries },
+pub const MAX_ENTRIES: usize = 1_048_576;
+
+// Whether a journal of so many entries takes those of another unit.
+#[tactic(auto, unfolding(crate::specs::Events::most_entries))]
+fn has_room(entries: usize) -> bool
+    ensures { IsTrue result ↔ (entries < most_entries) }
+{
+    entries < MAX_ENTRIES
 }
 
 // The verdict on a unit with so many faults.
@@ -36,10 +30,56 @@ fn verdict_of(faults: u64) -> Verdict
     }
 }
 
+// The faults of a unit as entries.
+fn fault_entries(
+    alloc: Global,
+    group: u32,
+    unit: Unit,
+    faults: &[Fault],
+) -> Result<Vec<Entry>, AllocError>
+    ensures { IfOk result (λ entries. entries.items ≡ map (Entry.Fault group unit) faults.now) }
+{
+    faults
+        .iter()
+        .map(|fault| Entry::Fault {
+            group,
+            unit,
+            fault: *fault,
+        })
+        .collect(alloc)
+}
+
+// The faults of a unit as entries, and its verdict.
+fn unit_entries_of(
+    alloc: Global,
+    group: u32,
+    unit: Unit,
+    faults: &[Fault],
+) -> Result<Vec<Entry>, AllocError>
+    ensures { IfOk result (λ entries. entries.items ≡ unit_entries group unit faults.now) }
+{
+    let mut entries = fault_entries(alloc, group, unit, faults)?;
+    let verdict = verdict_of(faults.len() as u64);
+    entries.push(Entry::Verdict {
+        group,
+        unit,
+        verdict,
+    })?;
+    Ok(entries)
+}
+
+/// The entries of a check so far, in their order
+/// (XFS Online Fsck Design, "Metadata Scrubbing").
+#[derive(Drop)]
+pub struct Journal {
+    pub entries: Vec<Entry>,
+}
+
 impl Journal {
-    ghost use Rattle.std.specs.Prelude.{◌≡◌, [], ◌∷◌, map};
-    ghost use Rattle.space_check.specs.Groups.{skipped_entries, unit_entries};
-    ghost use Rattle.space_check.specs.Progress.{Adds, IsOwn};
+    ghost use Rattle.std.specs.Prelude.{◌≡◌, ◌+◌, ◌<◌, ℕ, [], IfErr, length};
+    ghost use Rattle.space_check.specs.Events.{Does, moment, most_entries};
+    ghost use Rattle.space_check.specs.Groups.{skipped_entries, skipped_events, unit_entries};
+    ghost use Rattle.space_check.specs.Progress.{Adds, Begins, IsOwn};
 
     /// A journal without an entry.
     pub fn new(alloc: Global) -> Self
@@ -50,80 +90,54 @@ impl Journal {
         }
     }
 
-    /// Adds an entry. It is refused as full exactly where the journal has its most entries already,
-    /// and stays the same then and where there is no memory.
-    pub fn add(&mut self, entry: Entry) -> Result<(), Halt>
-        ensures exact { Adds self.old.entries.items (entry ∷ []) self.new.entries.items result }
-        ensures own { IsOwn result }
+    /// Lets the next unit begin. A journal with its most entries, or more, refuses that as full.
+    pub fn begin(&self) -> Result<(), Halt>
+        ensures { Begins self.now.entries.items result }
     {
-        if is_most(self.entries.as_slice().len()) {
-            return Err(Halt::Full);
-        }
-        match self.entries.push(entry) {
-            Ok(()) => Ok(()),
-            Err(_) => Err(Halt::Memory),
+        if has_room(self.entries.len()) {
+            Ok(())
+        } else {
+            Err(Halt::Full)
         }
     }
 
-    // Adds the faults of a unit, or as many as fit.
-    fn add_faults(&mut self, group: u32, unit: Unit, faults: &[Fault]) -> Result<(), Halt>
-        ensures exact { Adds self.old.entries.items (map (Entry.Fault group unit) faults.now) self.new.entries.items result }
-        ensures own { IsOwn result }
+    /// Adds the faults of a unit of group `group` in their order and then its verdict, or nothing
+    /// where there is no memory for all of them.
+    pub fn add_unit(
+        &mut self,
+        alloc: Global,
+        group: u32,
+        unit: Unit,
+        faults: &[Fault],
+    ) -> Result<(), Halt>
+        ensures { Adds self.old.entries.items (unit_entries group unit faults.now) self.new.entries.items result }
     {
-        for fault in faults {
-            let entry = Entry::Fault {
-                group,
-                unit,
-                fault: *fault,
-            };
-            match self.add(entry) {
-                Ok(()) => {}
-                Err(halt) => return Err(halt),
-            }
-        }
+        let mut entries = unit_entries_of(alloc, group, unit, faults)?;
+        self.entries.append(&mut entries)?;
         Ok(())
-    }
-
-    /// Adds the faults of a unit of group `group` in their order and then its verdict, or as many of
-    /// these as fit.
-    pub fn add_unit(&mut self, group: u32, unit: Unit, faults: &[Fault]) -> Result<(), Halt>
-        ensures exact { Adds self.old.entries.items (unit_entries group unit faults.now) self.new.entries.items result }
-        ensures own { IsOwn result }
-    {
-        match self.add_faults(group, unit, faults) {
-            Ok(()) => {}
-            Err(halt) => return Err(halt),
-        }
-        let verdict = verdict_of(faults.len() as u64);
-        self.add(Entry::Verdict {
-            group,
-            unit,
-            verdict,
-        })
     }
 
     // Adds that a unit was skipped, since the reverse mappings of its group can't be read.
     fn skip_unit(&mut self, group: u32, unit: Unit) -> Result<(), Halt>
-        ensures exact { Adds self.old.entries.items (Entry.Verdict group unit (Verdict.Skipped group Unit.Rmap) ∷ []) self.new.entries.items result }
-        ensures own { IsOwn result }
+        ensures { Adds self.old.entries.items (skipped_entries group unit) self.new.entries.items result }
     {
-        self.add(Entry::Verdict {
+        self.entries.push(Entry::Verdict {
             group,
             unit,
             verdict: Verdict::Skipped(group, Unit::Rmap),
-        })
+        })?;
+        Ok(())
     }
 
-    /// Adds that free space and reference counts of group `group` were skipped, since its reverse
-    /// mappings can't be read; or as many of the two as fit.
+    /// Skips free space, which had begun, and then reference counts of group `group`, since its
+    /// reverse mappings can't be read.
     pub fn skip_group(&mut self, group: u32) -> Result<(), Halt>
-        ensures exact { Adds self.old.entries.items (skipped_entries group) self.new.entries.items result }
-        ensures own { IsOwn result }
+        requires room { length self.old.entries.items < most_entries }
+        ensures exact { (before n : ℕ) → Does (skipped_events group n) (moment self.old.entries.items before) (moment self.new.entries.items (before + n)) result }
+        ensures own { IfErr result IsOwn }
     {
-        match self.skip_unit(group, Unit::Free) {
-            Ok(()) => {}
-            Err(halt) => return Err(halt),
-        }
+        self.skip_unit(group, Unit::Free)?;
+        self.begin()?;
         self.skip_unit(group, Unit::Refc)
     }
 }

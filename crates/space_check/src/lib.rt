@@ -11,6 +11,9 @@ mod journal;
 mod judge;
 mod reads;
 mod stop;
+mod trees;
 
 pub use check::check_space;
-pub use stop::Stop;
+pub use halt::Halt;
+pub use journal::MAX_ENTRIES;
+pub use stop::CheckStop;

@@ -4,12 +4,13 @@ ghost use Rattle.blk_device.specs.Contents.{Contents};
 ghost use Rattle.blk_device.specs.declared.device.Region.TheVariants.{Image};
 ghost use Rattle.geom.specs.Places.{layout};
 ghost use Rattle.space_check.specs.Faults.{Reading};
-ghost use Rattle.space_check.specs.Groups.{tree_of};
-ghost use Rattle.space_check.specs.Progress.{HasCause, IsOutside};
+ghost use Rattle.space_check.specs.Groups.{blocks_read, tree_of};
+ghost use Rattle.space_check.specs.Progress.{HasCause, HasRead, IsOutside};
 ghost use Rattle.space_check.specs.Reads.{IsBad, IsReading, IsSound};
 ghost use Rattle.tree_blocks.specs.Meets.{Refuses};
 ghost use Rattle.blk_device.specs.Reading.{OnlyRead};
 ghost use Rattle.tree_blocks.specs.Reading.{CauseOf};
+ghost use Rattle.tree_walk.specs.Meets.{CountedBy};
 ghost use Rattle.tree_defs.specs.Sites.{bounds_of};
 
 use crate::halt::Halt;
@@ -34,6 +35,7 @@ pub enum IndexRead<R> {
 fn unread<R>(fault: WalkFault) -> Result<IndexRead<R>, Halt>
     ensures exact { (read : Reading R) → Refuses read fault → IsReading read result }
     ensures cause { (before now : ℕ) → CauseOf before now fault → HasCause before now result }
+    ensures counted { (before n after : ℕ) → CountedBy before n after fault → HasRead before n after result }
     ensures bad { IfOk result IsBad }
     ensures outside { IfErr result IsOutside }
 {
@@ -60,6 +62,7 @@ pub fn read_index<K: RecKind, D: Device, L: Ledger>(
     requires room { geo.now.dblocks ≤ D.blocks dev.old Image }
     requires agreed { AgreesTold cache.old (D.content dev.old) }
     ensures exact { (c : Contents) → D.content dev.old ≡ Some c → IsReading (tree_of (layout geo.now) (c Image) tree.now.group K.form tree.now.root tree.now.levels) result }
+    ensures counted { (c : Contents) → D.content dev.old ≡ Some c → HasRead steps.old.reads (blocks_read (layout geo.now) (c Image) tree.now.group K.form tree.now.root tree.now.levels) steps.new.reads result }
     ensures outside { IfErr result IsOutside }
     ensures sound { IfOk result (IsSound K.form (bounds_of (layout geo.now) tree.now.group)) }
     ensures reading { OnlyRead D.Device dev.old dev.new steps.old steps.new }

@@ -1,17 +1,11 @@
-use ag_headers::HeadFault;
-use fs_model::{Entry, Head};
+use crate::halt::Halt;
+use fs_model::Entry;
 
-/// Why a check ended before its last unit: a head of a group is refused, the journal was full (with
-/// the entries that it holds), the device failed, or there was no memory
+/// Why a check ended before its last unit, and its journal so far: the entries of the units that
+/// were judged, or skipped, until then
 /// (XFS Online Fsck Design, "Metadata Scrubbing").
 #[derive(Debug, PartialEq, Eq, Drop)]
-pub enum Stop {
-    Head {
-        group: u32,
-        head: Head,
-        fault: HeadFault,
-    },
-    Full(Vec<Entry>),
-    Failed,
-    Memory,
+pub struct CheckStop {
+    pub cause: Halt,
+    pub journal: Vec<Entry>,
 }

@@ -91,13 +91,18 @@ fn faults_stand_before_the_verdict(rt: HostRuntime) -> Result<(), Fail> {
 
 #[test]
 fn each_read_of_the_device_may_fail(rt: HostRuntime) -> Result<(), Fail> {
-    // The superblock, the heads, and the trees in the order rmap, bno, cnt, refc.
-    for call in 0..6u64 {
-        let mut image = small_image(rt.alloc())?;
-        image.failing.push(call)?;
+    // The superblock, the heads, and the trees in the order rmap, bno, cnt, refc: what is judged
+    // before the read that fails is shown.
+    let free = "0 bno missing 32 224\n0 bno extra 32 223\n0 free faulty 2\n";
+    let rows = [(0, ""), (1, ""), (2, ""), (3, ""), (4, ""), (5, free)];
+    for (call, shown) in &rows {
+        let short = bno_leaf(at(1), &[run(19, 5), run(32, 223)]);
+        let mut image = small_with(rt.alloc(), &[(1, short)])?;
+        image.failing.push(*call)?;
         let words = ["check", "a.img"];
         let (end, host) = run_words(rt.alloc(), &words, image, Vec::new(rt.alloc()))?;
-        expect_end(&rt, &end, &host, 5, "device failed\n")?;
+        let report = format!(in rt.alloc(); "{shown}device failed\n")?;
+        expect_end(&rt, &end, &host, 5, report.as_str())?;
         assert_eq!(rt; [host.host_faults, host.dev_faults], [0, 1], "read {call}");
     }
     // A check makes no seventh call.

@@ -6,7 +6,7 @@ use blk_device::{Device, MemDevice, Region};
 use byte_fields::Steps;
 use fs_model::{Entry, Head};
 use geom::Geometry;
-use space_check::{Stop, check_space};
+use space_check::{CheckStop, Halt, check_space};
 use std::alloc::{AllocError, Global};
 use std::collections::BTreeMap;
 use std::marker::Brand;
@@ -30,7 +30,11 @@ fn two_groups() -> Geometry
 }
 
 // The check of a device of two groups.
-fn checked<L: Ledger>(alloc: Global, device: MemDevice, blank: Blank) -> Result<Vec<Entry>, Stop>
+fn checked<L: Ledger>(
+    alloc: Global,
+    device: MemDevice,
+    blank: Blank,
+) -> Result<Vec<Entry>, CheckStop>
     requires name { blank.name ≡ L.name }
     requires parts { blank.parts ≡ L.parts }
     requires three { blank.parts ≡ 3 }
@@ -38,7 +42,10 @@ fn checked<L: Ledger>(alloc: Global, device: MemDevice, blank: Blank) -> Result<
     let geo = two_groups();
     let mut device = device;
     if device.size(Region::Image) < 128 {
-        return Err(Stop::Memory);
+        return Err(CheckStop {
+            cause: Halt::Memory,
+            journal: Vec::new(alloc),
+        });
     }
     let mut steps = Steps::<L>::new(blank);
     check_space(alloc, &mut device, &geo, &mut steps)
@@ -46,7 +53,7 @@ fn checked<L: Ledger>(alloc: Global, device: MemDevice, blank: Blank) -> Result<
 
 // The same, for a caller that counts no steps, of a device without a written block on which the
 // calls of these numbers fail.
-fn check_blank(alloc: Global, failing: Vec<u64>) -> Result<Option<Stop>, AllocError> {
+fn check_blank(alloc: Global, failing: Vec<u64>) -> Result<Option<CheckStop>, AllocError> {
     let device = MemDevice::with_image(alloc, 128, 1, BTreeMap::new(alloc), failing)?;
     let blank = Blank::new(3);
     Ok(checked::<Brand>(alloc, device, blank).err())
@@ -56,12 +63,13 @@ fn check_blank(alloc: Global, failing: Vec<u64>) -> Result<Option<Stop>, AllocEr
 fn a_head_that_is_refused_ends_the_check(rt: HostRuntime) -> Result<(), Fail> {
     let alloc = rt.alloc();
     let stop = check_blank(alloc, Vec::new(alloc))?;
-    let refused = Stop::Head {
+    let cause = Halt::Head {
         group: 0,
         head: Head::Agf,
         fault: HeadFault::Magic,
     };
-    assert_eq!(rt; stop, Some(refused));
+    let journal = Vec::new(alloc);
+    assert_eq!(rt; stop, Some(CheckStop { cause, journal }));
     Ok(())
 }
 
@@ -69,6 +77,8 @@ fn a_head_that_is_refused_ends_the_check(rt: HostRuntime) -> Result<(), Fail> {
 fn a_device_that_fails_ends_the_check(rt: HostRuntime) -> Result<(), Fail> {
     let alloc = rt.alloc();
     let stop = check_blank(alloc, [0].to_vec(alloc)?)?;
-    assert_eq!(rt; stop, Some(Stop::Failed));
+    let cause = Halt::Failed;
+    let journal = Vec::new(alloc);
+    assert_eq!(rt; stop, Some(CheckStop { cause, journal }));
     Ok(())
 }

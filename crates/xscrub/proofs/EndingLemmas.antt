@@ -1,16 +1,18 @@
 -- A journal that was told, and the line behind it.
-use Rattle.std.proofs.Common.{◌≡◌, ◌≤◌, ℕ, List, [], ◌∷◌, ◌++◌, Bool, true, false, cond, IfSome, take, drop, Option, Some, None, ◌⊎◌, inl, inr, refl, sym, ◌∙◌, ap, subst, append-nil, arith}
+use Rattle.std.proofs.Common.{◌≡◌, ◌<◌, ◌≤◌, ℕ, List, [], ◌∷◌, ◌++◌, Bool, true, false, cond, IfSome, length, take, drop, Option, Some, None, ◌⊎◌, inl, inr, refl, sym, ◌∙◌, ap, subst, append_assoc, append-nil, arith}
 use Rattle.std.proofs.lemmas.List.{take-append-drop}
 use Rattle.blk_device.specs.Causes.{Rose}
+use Rattle.blk_device.specs.declared.device.Device.{Ghosts}
 use Rattle.blk_device.specs.Taken.{Takes, TakesFront, IsFront}
 use Rattle.blk_device.proofs.TakenLemmas.{then, whole_front, takes_nothing}
 use Rattle.xscrub.proofs.ShownLemmas.{told_nothing}
 use Rattle.std.specs.List.{list_all}
-use Rattle.xscrub.specs.Ending.{IsShown, IsToldOf, IsFoundBy, Decides, EndsFor, HasCause, IsSettled, IsOutcome, IsAsked, IsOfImage, IsWorded, IsImageLine, EndsByWords}
+use Rattle.xscrub.specs.Ending.{IsShown, IsToldOf, IsFoundBy, Decides, EndsFor, HasCause, IsSettled, IsOutcome, IsAsked, IsShort, IsOfImage, IsWorded, IsImageLine, EndsByWords, CameBack, FindsKept, TellsKept}
 use Rattle.xscrub.specs.Command.{Job, check_of, unbuilt, usage}
-use Rattle.xscrub.specs.Stored.{Request}
-use Rattle.xscrub.specs.Units.{HasAllUnits, HasUnits}
-use Rattle.xscrub.specs.Outcome.{Outcome, is_calm, is_image_line, judged_status, judged_outcome, filled_outcome, ended_outcome, has_journal, outcome_of}
+use Rattle.xscrub.specs.Stored.{Stored, Request}
+use Rattle.xscrub.specs.Units.{HasAllUnits, HasFirstUnits, HasUnits}
+use Rattle.xscrub.proofs.UnitLemmas.{no_units, all_are_first, most_are_first}
+use Rattle.xscrub.specs.Outcome.{Outcome, is_calm, is_image_line, judged_status, judged_outcome, filled_outcome, stopped_outcome, ended_outcome, outcome_of}
 use Rattle.xscrub.specs.declared.ending.Finding.{Finding}
 use Rattle.xscrub.specs.declared.ending.Finding.TheVariants as findings
 use Rattle.run_text.specs.Report.{report_of}
@@ -58,22 +60,45 @@ shown_line journal last f g a b none line =
 true_not_false : true ≡ false → ⊥
 true_not_false e = cc
 
--- what has a journal isn't without one
-with_journal : {P : Type 0} (s : Status) → has_journal s ≡ true → has_journal s ≡ false → P
-with_journal s has none = absurd (true_not_false (sym has ∙ none))
-
-pub judged_has_journal : (journal : List Entry) → has_journal (judged_status journal) ≡ true
-judged_has_journal journal = either (list_all is_calm journal)
+no_line : {P : Type 0} (line : LastLine) → Some line ≡ None → P
+no_line line e = absurd (clash e)
   where
-    either : (b : Bool) → has_journal (cond b statuses.Clean statuses.Faulty) ≡ true
-    either true = refl
-    either false = refl
+    clash : {x : LastLine} → Some x ≡ None → ⊥
+    clash e = cc
+
+-- two outcomes with the same parts
+same_outcome : (told found : Outcome) → told.status ≡ found.status → told.journal ≡ found.journal → told.last ≡ found.last → told ≡ found
+same_outcome told found s j l = λ i. record { status = s i; journal = j i; last = l i }
+
+-- a run that ends with a line, once its journal was told
+pub told_line : (status : Status) (journal : List Entry) (last : LastLine) (told : Outcome) (f g : ℕ)
+    → EndsWith status journal last told.status told.journal told.last → IsToldOf (stopped_outcome status journal last) f g told
+told_line status journal last told f g ends = by_line ends.1
+  where
+    by_line : ((told.status ≡ status) × (told.last ≡ Some last)) ⊎ ((told.status ≡ statuses.Memory) × (told.last ≡ Some lines.Memory) × (is_fixed last ≡ false))
+        → IsToldOf (stopped_outcome status journal last) f g told
+    by_line (inl whole) = inl (same_outcome told (stopped_outcome status journal last) whole.0 ends.0 whole.1, λ none. no_line last none)
+    by_line (inr short) = inr (inr (short.0, short.1, ([], sym ends.0 ∙ sym (append-nil told.journal)), λ none. short.2))
+
+not_empty : (found : Outcome) (journal : List Entry) (n : ℕ) → found.journal ≡ journal → n < length journal → found.journal ≡ [] → ⊥
+not_empty found journal n of lt none = let e : length journal ≡ 0 = ap length (sym of ∙ none) in omega (arith, lt, e)
+
+-- a sink that failed in the journal
+pub told_failed : (found told : Outcome) (journal : List Entry) (f g h : ℕ) → found.journal ≡ journal → 0 < length journal → Rose f g → g ≤ h
+    → EndsWith statuses.Failed journal lines.HostFailed told.status told.journal told.last → IsToldOf found f h told
+told_failed found told journal f g h of some rose le ends =
+    inr (inl (by_line ends.1, omega (arith, rose, le), not_empty found journal 0 of some))
+  where
+    by_line : ((told.status ≡ statuses.Failed) × (told.last ≡ Some lines.HostFailed)) ⊎ ((told.status ≡ statuses.Memory) × (told.last ≡ Some lines.Memory) × (true ≡ false))
+        → told ≡ stopped_outcome statuses.Failed found.journal lines.HostFailed
+    by_line (inl whole) = same_outcome told (stopped_outcome statuses.Failed found.journal lines.HostFailed) whole.0 (ends.0 ∙ sym of) whole.1
+    by_line (inr none) = absurd (true_not_false none.2)
 
 -- a journal for which there was no more memory
-pub told_memory : (found told : Outcome) (journal cut : List Entry) (n f g : ℕ) → found.journal ≡ journal → has_journal found.status ≡ true → cut ≡ take n journal
+pub told_memory : (found told : Outcome) (journal cut : List Entry) (n f g : ℕ) → found.journal ≡ journal → n < length journal → cut ≡ take n journal
     → EndsWith statuses.Memory cut lines.Memory told.status told.journal told.last → IsToldOf found f g told
-told_memory found told journal cut n f g of has is ends =
-    inr (inr (stopped ends.1, last ends.1, (drop n journal, of ∙ sym (ap (λ (js : List Entry). js ++ drop n journal) (ends.0 ∙ is) ∙ take-append-drop n journal)), with_journal found.status has))
+told_memory found told journal cut n f g of lt is ends =
+    inr (inr (stopped ends.1, last ends.1, (drop n journal, of ∙ sym (ap (λ (js : List Entry). js ++ drop n journal) (ends.0 ∙ is) ∙ take-append-drop n journal)), λ none. absurd (not_empty found journal n of lt none)))
   where
     stopped : ((told.status ≡ statuses.Memory) × (told.last ≡ Some lines.Memory)) ⊎ ((told.status ≡ statuses.Memory) × (told.last ≡ Some lines.Memory) × (true ≡ false)) → told.status ≡ statuses.Memory
     stopped (inl whole) = whole.0
@@ -105,9 +130,9 @@ found_ends (findings.Judged journal) h h' d d' k k' cause calm = judged_ends jou
 found_ends (findings.Full journal) h h' d d' k k' cause calm = refl
 found_ends (findings.Refused line) h h' d d' k k' cause calm = (line, refl)
 found_ends findings.Usage h h' d d' k k' cause calm = refl
-found_ends findings.DeviceFailed h h' d d' k k' cause calm = inl (refl, cause)
+found_ends (findings.DeviceFailed journal) h h' d d' k k' cause calm = inl (refl, cause)
 found_ends findings.HostFailed h h' d d' k k' cause calm = inr (refl, inl cause)
-found_ends findings.Memory h h' d d' k k' cause calm = refl
+found_ends (findings.Memory journal) h h' d d' k k' cause calm = refl
 
 pub told_cause : (finding : Finding) (told : Outcome) (h h' d d' k k' : ℕ) → IsFoundBy finding h h' d d' → IsToldOf (outcome_of finding) k k' told → HasCause told h h' d d' k k'
 told_cause finding told h h' d d' k k' cause (inl same) =
@@ -123,33 +148,29 @@ unsettled s t is stops settled = absurd (stops (subst IsSettled is settled))
 whole_outcome : (told o : Outcome) → told ≡ o → IsOutcome told o
 whole_outcome told o same = record { front = ([], ap (λ (q : Outcome). q.journal) (sym same) ∙ sym (append-nil told.journal)); whole = λ _. same }
 
-stopped_outcome : (told o : Outcome) (s : Status) → told.status ≡ s → (IsSettled s → ⊥) → IsFront told.journal o.journal → IsOutcome told o
-stopped_outcome told o s is stops front = record { front = front; whole = unsettled told.status s is stops }
+cut_outcome : (told o : Outcome) (s : Status) → told.status ≡ s → (IsSettled s → ⊥) → IsFront told.journal o.journal → IsOutcome told o
+cut_outcome told o s is stops front = record { front = front; whole = unsettled told.status s is stops }
 
 -- what is told of a finding that nothing stopped
 told_same : (told found o : Outcome) (k k' : ℕ) → found ≡ o → IsToldOf found k k' told → IsOutcome told o
 told_same told found o k k' same (inl whole) = whole_outcome told o (whole.0 ∙ same)
 told_same told found o k k' same (inr (inl failed)) =
-    stopped_outcome told o statuses.Failed (ap (λ (q : Outcome). q.status) failed.0) (λ h. h)
+    cut_outcome told o statuses.Failed (ap (λ (q : Outcome). q.status) failed.0) (λ h. h)
     ([], ap (λ (q : Outcome). q.journal) (sym same) ∙ ap (λ (q : Outcome). q.journal) (sym failed.0) ∙ sym (append-nil told.journal))
 told_same told found o k k' same (inr (inr memory)) =
-    stopped_outcome told o statuses.Memory memory.0 (λ h. h) (memory.2.0, ap (λ (q : Outcome). q.journal) (sym same) ∙ memory.2.1)
+    cut_outcome told o statuses.Memory memory.0 (λ h. h) (memory.2.0, ap (λ (q : Outcome). q.journal) (sym same) ∙ memory.2.1)
 
-none_left : (xs rest : List Entry) → [] ≡ xs ++ rest → xs ≡ []
-none_left [] rest e = refl
-none_left (x ∷ xs) rest e = cc
+front_on : (xs ys zs : List Entry) → IsFront xs ys → IsFront ys zs → IsFront xs zs
+front_on xs ys zs first second = (first.0 ++ second.0, second.1 ∙ (ap (λ (js : List Entry). js ++ second.0) first.1 ∙ append_assoc xs first.0 second.0))
 
-front_of_none : (told o : Outcome) → told.journal ≡ [] → IsFront told.journal o.journal
-front_of_none told o none = (o.journal, ap (λ (js : List Entry). js ++ o.journal) (sym none))
-
--- what is told of a run that was stopped before its first entry
-told_stop : (told o : Outcome) (s : Status) (line : LastLine) (k k' : ℕ) → (IsSettled s → ⊥) → IsToldOf (ended_outcome s line) k k' told → IsOutcome told o
-told_stop told o s line k k' stops (inl whole) =
-    stopped_outcome told o s (ap (λ (q : Outcome). q.status) whole.0) stops (front_of_none told o (ap (λ (q : Outcome). q.journal) whole.0))
-told_stop told o s line k k' stops (inr (inl failed)) =
-    stopped_outcome told o statuses.Failed (ap (λ (q : Outcome). q.status) failed.0) (λ h. h) (front_of_none told o (ap (λ (q : Outcome). q.journal) failed.0))
-told_stop told o s line k k' stops (inr (inr memory)) =
-    stopped_outcome told o statuses.Memory memory.0 (λ h. h) (front_of_none told o (none_left told.journal memory.2.0 memory.2.1))
+-- what is told of a run that was stopped
+told_stop : (told o : Outcome) (s : Status) (journal : List Entry) (line : LastLine) (k k' : ℕ) → (IsSettled s → ⊥) → IsFront journal o.journal → IsToldOf (stopped_outcome s journal line) k k' told → IsOutcome told o
+told_stop told o s journal line k k' stops front (inl whole) =
+    cut_outcome told o s (ap (λ (q : Outcome). q.status) whole.0) stops (subst (λ (js : List Entry). IsFront js o.journal) (ap (λ (q : Outcome). q.journal) (sym whole.0)) front)
+told_stop told o s journal line k k' stops front (inr (inl failed)) =
+    cut_outcome told o statuses.Failed (ap (λ (q : Outcome). q.status) failed.0) (λ h. h) (subst (λ (js : List Entry). IsFront js o.journal) (ap (λ (q : Outcome). q.journal) (sym failed.0)) front)
+told_stop told o s journal line k k' stops front (inr (inr memory)) =
+    cut_outcome told o statuses.Memory memory.0 (λ h. h) (front_on told.journal journal o.journal memory.2 front)
 
 pub told_decided : (decided : Option Outcome) (finding : Finding) (told : Outcome) (k k' : ℕ) → Decides decided finding → IsToldOf (outcome_of finding) k k' told → IfSome decided (IsOutcome told)
 told_decided None finding told k k' decides ends = tt
@@ -157,31 +178,34 @@ told_decided (Some o) (findings.Judged journal) told k k' decides ends = told_sa
 told_decided (Some o) (findings.Full journal) told k k' decides ends = told_same told (filled_outcome journal.items) o k k' decides ends
 told_decided (Some o) (findings.Refused line) told k k' decides ends = told_same told (ended_outcome statuses.Refused line) o k k' decides ends
 told_decided (Some o) findings.Usage told k k' decides ends = told_same told (ended_outcome statuses.Usage lines.Usage) o k k' decides ends
-told_decided (Some o) findings.DeviceFailed told k k' decides ends = told_stop told o statuses.Failed lines.DeviceFailed k k' (λ h. h) ends
-told_decided (Some o) findings.HostFailed told k k' decides ends = told_stop told o statuses.Failed lines.HostFailed k k' (λ h. h) ends
-told_decided (Some o) findings.Memory told k k' decides ends = told_stop told o statuses.Memory lines.Memory k k' (λ h. h) ends
+told_decided (Some o) (findings.DeviceFailed journal) told k k' decides ends = told_stop told o statuses.Failed journal.items lines.DeviceFailed k k' (λ h. h) decides ends
+told_decided (Some o) findings.HostFailed told k k' decides ends = told_stop told o statuses.Failed [] lines.HostFailed k k' (λ h. h) (o.journal, refl) ends
+told_decided (Some o) (findings.Memory journal) told k k' decides ends = told_stop told o statuses.Memory journal.items lines.Memory k k' (λ h. h) decides ends
 
 -- where memory was short as a device was opened, that is told
-pub told_short : (told : Outcome) (finding : Finding) (k k' : ℕ) → finding ≡ findings.Memory → IsToldOf (outcome_of finding) k k' told → told.status ≡ statuses.Memory
-told_short told finding k k' is ends = short (subst (λ (f : Finding). IsToldOf (outcome_of f) k k' told) is ends)
-  where
-    short : IsToldOf (ended_outcome statuses.Memory lines.Memory) k k' told → told.status ≡ statuses.Memory
-    short (inl whole) = ap (λ (q : Outcome). q.status) whole.0
-    short (inr (inl failed)) = with_journal statuses.Memory failed.2 refl
-    short (inr (inr memory)) = memory.0
+told_short : (told : Outcome) (finding : Finding) (k k' : ℕ) → IsShort finding → IsToldOf (outcome_of finding) k k' told → told.status ≡ statuses.Memory
+told_short told (findings.Judged journal) k k' is ends = absurd is
+told_short told (findings.Full journal) k k' is ends = absurd is
+told_short told (findings.Refused line) k k' is ends = absurd is
+told_short told findings.Usage k k' is ends = absurd is
+told_short told (findings.DeviceFailed journal) k k' is ends = absurd is
+told_short told findings.HostFailed k k' is ends = absurd is
+told_short told (findings.Memory journal) k k' is (inl whole) = ap (λ (q : Outcome). q.status) whole.0
+told_short told (findings.Memory journal) k k' is (inr (inl failed)) = absurd (failed.2 is)
+told_short told (findings.Memory journal) k k' is (inr (inr memory)) = memory.0
 
 pub asked_so : (command : Job) (told : Outcome) (finding : Finding) (k k' : ℕ) (a b c : List Request) → IsToldOf (outcome_of finding) k k' told → c ≡ b
-    → IsAsked command (finding ≡ findings.Memory) a b → IsAsked command (told.status ≡ statuses.Memory) a c
+    → IsAsked command (IsShort finding) a b → IsAsked command (told.status ≡ statuses.Memory) a c
 asked_so command told finding k k' a b c ends same (inl short) = inl (told_short told finding k k' short.0 ends, same ∙ short.1)
 asked_so command told finding k k' a b c ends same (inr whole) = inr (same ∙ whole)
 
 -- ---- what the words alone decide
 
 -- a line without a number is told as it is
-told_fixed : (told : Outcome) (s : Status) (line : LastLine) (k k' : ℕ) → has_journal s ≡ false → is_fixed line ≡ true → IsToldOf (ended_outcome s line) k k' told → told ≡ ended_outcome s line
-told_fixed told s line k k' none fixed (inl whole) = whole.0
-told_fixed told s line k k' none fixed (inr (inl failed)) = with_journal s failed.2 none
-told_fixed told s line k k' none fixed (inr (inr memory)) = let loose : is_fixed line ≡ false = memory.3 none in absurd (true_not_false (sym fixed ∙ loose))
+told_fixed : (told : Outcome) (s : Status) (line : LastLine) (k k' : ℕ) → is_fixed line ≡ true → IsToldOf (ended_outcome s line) k k' told → told ≡ ended_outcome s line
+told_fixed told s line k k' fixed (inl whole) = whole.0
+told_fixed told s line k k' fixed (inr (inl failed)) = absurd (failed.2 refl)
+told_fixed told s line k k' fixed (inr (inr memory)) = let loose : is_fixed line ≡ false = memory.3 refl in absurd (true_not_false (sym fixed ∙ loose))
 
 failed_not_refused : statuses.Failed ≡ statuses.Refused → ⊥
 failed_not_refused e = cc
@@ -204,9 +228,9 @@ found_not_usage (findings.Judged journal) of e = judged_not_usage journal.items 
 found_not_usage (findings.Full journal) of e = cc
 found_not_usage (findings.Refused line) of e = cc
 found_not_usage findings.Usage of e = of
-found_not_usage findings.DeviceFailed of e = cc
+found_not_usage (findings.DeviceFailed journal) of e = cc
 found_not_usage findings.HostFailed of e = cc
-found_not_usage findings.Memory of e = cc
+found_not_usage (findings.Memory journal) of e = cc
 
 not_unbuilt : (line : LastLine) → is_image_line line ≡ true → Some line ≡ Some lines.UnbuiltJob → ⊥
 not_unbuilt line image e = let same : line ≡ lines.UnbuiltJob = cc in clash (subst (λ (l : LastLine). is_image_line l ≡ true) same image)
@@ -219,9 +243,9 @@ found_not_unbuilt (findings.Judged journal) of e = cc
 found_not_unbuilt (findings.Full journal) of e = cc
 found_not_unbuilt (findings.Refused line) of e = not_unbuilt line of e
 found_not_unbuilt findings.Usage of e = of
-found_not_unbuilt findings.DeviceFailed of e = cc
+found_not_unbuilt (findings.DeviceFailed journal) of e = cc
 found_not_unbuilt findings.HostFailed of e = cc
-found_not_unbuilt findings.Memory of e = cc
+found_not_unbuilt (findings.Memory journal) of e = cc
 
 told_not_usage : (finding : Finding) (told : Outcome) (k k' : ℕ) → IsOfImage finding → IsToldOf (outcome_of finding) k k' told → told.status ≡ statuses.Usage → ⊥
 told_not_usage finding told k k' of (inl whole) e = found_not_usage finding of (ap (λ (q : Outcome). q.status) (sym whole.0) ∙ e)
@@ -245,9 +269,9 @@ found_image (findings.Judged journal) of e = absurd (judged_not_refused journal.
 found_image (findings.Full journal) of e = absurd (full_not_refused e)
 found_image (findings.Refused line) of e = (line, refl, of)
 found_image findings.Usage of e = absurd of
-found_image findings.DeviceFailed of e = absurd (failed_not_refused e)
+found_image (findings.DeviceFailed journal) of e = absurd (failed_not_refused e)
 found_image findings.HostFailed of e = absurd (failed_not_refused e)
-found_image findings.Memory of e = absurd (memory_not_refused e)
+found_image (findings.Memory journal) of e = absurd (memory_not_refused e)
 
 told_image : (finding : Finding) (told : Outcome) (k k' : ℕ) → IsOfImage finding → IsToldOf (outcome_of finding) k k' told → told.status ≡ statuses.Refused → IsImageLine told.last
 told_image finding told k k' of (inl whole) e =
@@ -257,9 +281,9 @@ told_image finding told k k' of (inr (inr memory)) e = absurd (memory_not_refuse
 
 pub told_by_words : (job : Job) (finding : Finding) (told : Outcome) (k k' : ℕ) → IsWorded job finding → IsToldOf (outcome_of finding) k k' told → EndsByWords job told
 told_by_words usage finding told k k' worded ends =
-    told_fixed told statuses.Usage lines.Usage k k' refl refl (subst (λ (f : Finding). IsToldOf (outcome_of f) k k' told) worded ends)
+    told_fixed told statuses.Usage lines.Usage k k' refl (subst (λ (f : Finding). IsToldOf (outcome_of f) k k' told) worded ends)
 told_by_words unbuilt finding told k k' worded ends =
-    told_fixed told statuses.Refused lines.UnbuiltJob k k' refl refl (subst (λ (f : Finding). IsToldOf (outcome_of f) k k' told) worded ends)
+    told_fixed told statuses.Refused lines.UnbuiltJob k k' refl (subst (λ (f : Finding). IsToldOf (outcome_of f) k k' told) worded ends)
 told_by_words (check_of name) finding told k k' worded ends =
     (told_not_usage finding told k k' worded ends, told_not_unbuilt finding told k k' worded ends, told_image finding told k k' worded ends)
 
@@ -277,16 +301,81 @@ found_units (findings.Judged journal) of = judged_units journal.items of
 found_units (findings.Full journal) of = of
 found_units (findings.Refused line) of = tt
 found_units findings.Usage of = tt
-found_units findings.DeviceFailed of = tt
-found_units findings.HostFailed of = tt
-found_units findings.Memory of = tt
+found_units (findings.DeviceFailed journal) of = of
+found_units findings.HostFailed of = no_units
+found_units (findings.Memory journal) of = (journal.items, of, ([], sym (append-nil journal.items)))
+
+found_first : (finding : Finding) → IsOfImage finding → HasFirstUnits (outcome_of finding).journal
+found_first (findings.Judged journal) of = all_are_first journal.items of
+found_first (findings.Full journal) of = most_are_first journal.items of
+found_first (findings.Refused line) of = no_units
+found_first findings.Usage of = no_units
+found_first (findings.DeviceFailed journal) of = of
+found_first findings.HostFailed of = no_units
+found_first (findings.Memory journal) of = of
 
 worded_units : (job : Job) (finding : Finding) → IsWorded job finding → HasUnits (outcome_of finding).status (outcome_of finding).journal
 worded_units usage finding worded = subst (λ (f : Finding). HasUnits (outcome_of f).status (outcome_of f).journal) (sym worded) tt
 worded_units unbuilt finding worded = subst (λ (f : Finding). HasUnits (outcome_of f).status (outcome_of f).journal) (sym worded) tt
 worded_units (check_of name) finding worded = found_units finding worded
 
+worded_first : (job : Job) (finding : Finding) → IsWorded job finding → HasFirstUnits (outcome_of finding).journal
+worded_first usage finding worded = subst (λ (f : Finding). HasFirstUnits (outcome_of f).journal) (sym worded) no_units
+worded_first unbuilt finding worded = subst (λ (f : Finding). HasFirstUnits (outcome_of f).journal) (sym worded) no_units
+worded_first (check_of name) finding worded = found_first finding worded
+
 pub told_units : (job : Job) (finding : Finding) (told : Outcome) (k k' : ℕ) → IsWorded job finding → IsToldOf (outcome_of finding) k k' told → HasUnits told.status told.journal
 told_units job finding told k k' worded (inl whole) = subst (λ (o : Outcome). HasUnits o.status o.journal) (sym whole.0) (worded_units job finding worded)
-told_units job finding told k k' worded (inr (inl failed)) = subst (λ (o : Outcome). HasUnits o.status o.journal) (sym failed.0) tt
-told_units job finding told k k' worded (inr (inr memory)) = subst (λ (s : Status). HasUnits s told.journal) (sym memory.0) tt
+told_units job finding told k k' worded (inr (inl failed)) = subst (λ (o : Outcome). HasUnits o.status o.journal) (sym failed.0) (worded_first job finding worded)
+told_units job finding told k k' worded (inr (inr memory)) =
+    subst (λ (s : Status). HasUnits s told.journal) (sym memory.0) ((outcome_of finding).journal, worded_first job finding worded, memory.2)
+
+-- ---- nothing is left out
+
+same_line : {a b : LastLine} → Some a ≡ Some b → a ≡ b
+same_line e = cc
+
+last_is_told : (told : Outcome) (line : LastLine) → told.last ≡ Some line → told.last ≡ Some lines.DeviceFailed → line ≡ lines.DeviceFailed
+last_is_told told line a b = same_line (sym a ∙ b)
+
+not_host : lines.HostFailed ≡ lines.DeviceFailed → ⊥
+not_host e = cc
+
+not_memory : lines.Memory ≡ lines.DeviceFailed → ⊥
+not_memory e = cc
+
+image_line_clash : (line : LastLine) → is_image_line line ≡ true → line ≡ lines.DeviceFailed → ⊥
+image_line_clash line image is = true_not_false (sym image ∙ ap is_image_line is)
+
+found_kept : {D : Type 0} (g : Ghosts D) (file : Option Stored) (finding : Finding) → FindsKept g file finding → IsOfImage finding → (outcome_of finding).last ≡ Some lines.DeviceFailed → CameBack g file (outcome_of finding).journal
+found_kept g file (findings.Judged journal) kept of e = no_line lines.DeviceFailed (sym e)
+found_kept g file (findings.Full journal) kept of e = absurd (full_clash e)
+  where
+    full_clash : Some lines.JournalFull ≡ Some lines.DeviceFailed → ⊥
+    full_clash e = cc
+found_kept g file (findings.Refused line) kept of e = absurd (image_line_clash line of (same_line e))
+found_kept g file findings.Usage kept of e = absurd of
+found_kept g file (findings.DeviceFailed journal) kept of e = kept
+found_kept g file findings.HostFailed kept of e = absurd (not_host (same_line e))
+found_kept g file (findings.Memory journal) kept of e = absurd (not_memory (same_line e))
+
+worded_kept : {D : Type 0} (g : Ghosts D) (file : Option Stored) (job : Job) (finding : Finding) → FindsKept g file finding → IsWorded job finding → (outcome_of finding).last ≡ Some lines.DeviceFailed → CameBack g file (outcome_of finding).journal
+worded_kept g file usage finding kept worded e =
+    let is : Some lines.Usage ≡ Some lines.DeviceFailed = ap (λ (f : Finding). (outcome_of f).last) (sym worded) ∙ e in absurd (usage_clash is)
+  where
+    usage_clash : Some lines.Usage ≡ Some lines.DeviceFailed → ⊥
+    usage_clash e = cc
+worded_kept g file unbuilt finding kept worded e =
+    let is : Some lines.UnbuiltJob ≡ Some lines.DeviceFailed = ap (λ (f : Finding). (outcome_of f).last) (sym worded) ∙ e in absurd (unbuilt_clash is)
+  where
+    unbuilt_clash : Some lines.UnbuiltJob ≡ Some lines.DeviceFailed → ⊥
+    unbuilt_clash e = cc
+worded_kept g file (check_of name) finding kept worded e = found_kept g file finding kept worded e
+
+pub told_kept : {D : Type 0} (g : Ghosts D) (file : Option Stored) (job : Job) (finding : Finding) (told : Outcome) (k k' : ℕ) → FindsKept g file finding → IsWorded job finding → IsToldOf (outcome_of finding) k k' told → TellsKept g file told
+told_kept g file job finding told k k' kept worded (inl whole) = λ e.
+    subst (λ (o : Outcome). CameBack g file o.journal) (sym whole.0) (worded_kept g file job finding kept worded (ap (λ (o : Outcome). o.last) (sym whole.0) ∙ e))
+told_kept g file job finding told k k' kept worded (inr (inl failed)) = λ e.
+    absurd (not_host (last_is_told told lines.HostFailed (ap (λ (o : Outcome). o.last) failed.0) e))
+told_kept g file job finding told k k' kept worded (inr (inr memory)) = λ e.
+    absurd (not_memory (last_is_told told lines.Memory memory.1 e))

@@ -1,14 +1,25 @@
 -- How an image ends, test by test.
-use Rattle.std.proofs.Common.{◌≡◌, ℕ, List, Option, Some, None, Result, Ok, Err, IfSome, IfOk, refl, sym, ◌∙◌, ap}
+use Rattle.std.proofs.Common.{◌≡◌, ◌≤◌, ℕ, ◌+◌, List, [], ◌∷◌, Option, Some, None, Result, Ok, Err, IfSome, IfOk, IfErr, IsErr, refl, sym, ◌∙◌, ap, subst}
+use Rattle.std.specs.Prelude.{IsErrAnd}
 use Rattle.blk_device.specs.Contents.{Contents, Holds}
 use Rattle.blk_device.specs.declared.device.Region.TheVariants.{Image}
 use Rattle.geom.specs.Layout.{Layout, layout_of}
 use Rattle.geom.specs.Superblock.{first_fault}
 use Rattle.geom.specs.declared.fault.ImageFault.{ImageFault}
 use Rattle.geom.specs.declared.fault.ImageFault.TheVariants.{DeviceShort}
-use Rattle.space_check.specs.Checked.{checked}
-use Rattle.xscrub.specs.Image.{image_outcome, superblock_outcome, checked_outcome, refused}
-use Rattle.xscrub.specs.Judged.{IsJudged, judgement_outcome}
+use Rattle.blk_device.specs.Taken.{IsFront}
+use Rattle.fs_model.specs.declared.entry.Entry.{Entry}
+use Rattle.space_check.specs.Checked.{checked, check_events, look}
+use Rattle.space_check.specs.Events.{Event}
+use Rattle.xscrub.specs.Image.{image_events, image_outcome, superblock_events, superblock_outcome, checked_outcome, refused}
+use Rattle.xscrub.specs.Judged.{HasFrontOf, IsJudged, IsKept, Kept, journal_at, judgement_outcome}
+use Rattle.xscrub.specs.Outcome.{Outcome}
+use Rattle.blk_device.specs.declared.device.Region.{Region}
+use Rattle.xscrub.specs.Ending.{stored_outcome}
+use Rattle.xscrub.specs.Stored.{Stored, IsOpened, opened}
+use Rattle.xscrub.specs.Units.{HasFirstUnits}
+use Rattle.xscrub.proofs.SaysLemmas.{kept_behind, kept_none}
+use Rattle.xscrub.proofs.UnitLemmas.{no_units}
 use Rattle.xscrub.specs.declared.judging.JudgeFault.{JudgeFault}
 use Rattle.xscrub.specs.declared.judging.Judgement.{Judgement}
 use Rattle.xscrub.specs.declared.judging.Judgement.TheVariants.{Refused}
@@ -40,6 +51,14 @@ module _ (size : ℕ) (image : ℕ → List ℕ) (bytes : List ℕ) (held : imag
   good_superblock at good same =
       at_superblock ∙ ap (superblock_outcome (layout_of bytes) image) good ∙ ap (λ (l : Layout). checked_outcome (checked l image)) (sym same)
 
+  at_events : image_events size image ≡ look ∷ superblock_events (layout_of bytes) image (first_fault bytes size)
+  unfolding image_events
+  at_events = ap (λ (b : List ℕ). look ∷ superblock_events (layout_of b) image (first_fault b size)) held
+
+  good_events : (at : Layout) → first_fault bytes size ≡ None → at ≡ layout_of bytes → image_events size image ≡ look ∷ check_events at image
+  good_events at good same =
+      at_events ∙ ap (λ f. look ∷ superblock_events (layout_of bytes) image f) good ∙ ap (λ (l : Layout). look ∷ check_events l image) (sym same)
+
 -- an image with a fault in its superblock
 pub judged_bad : (told : Option Contents) (size n : ℕ) (bytes : List ℕ) (fault : ImageFault) → n ≡ size → Holds Image 0 bytes told → first_fault bytes n ≡ Some fault
     → IsJudged told size (Refused (lines.Image fault))
@@ -53,3 +72,61 @@ pub judged_groups : (told : Option Contents) (size n : ℕ) (bytes : List ℕ) (
 judged_groups None size n bytes at found same holds good is groups = tt
 judged_groups (Some m) size n bytes at found same holds good is groups =
     groups ∙ sym (good_superblock n (m Image) bytes holds at good is) ∙ ap (λ (k : ℕ). image_outcome k (m Image)) same
+
+-- ---- what was kept of an image
+
+pub if_err : (result : Result Judgement JudgeFault) (P Q : JudgeFault → Type 0) → IfErr result P → ((fault : JudgeFault) → P fault → Q fault) → IfErr result Q
+if_err (Ok found) P Q holds each = tt
+if_err (Err fault) P Q holds each = each fault holds
+
+-- an answer that `?` hands on
+pub err_with : {T E : Type 0} (P : Result T E → Type 0) (e : E) (result : Result T E) → IsErr result × IsErrAnd result (λ x. x ≡ e) → P (Err e) → P result
+err_with P e (Ok done) is p = absurd is.1
+err_with {E = E} P e (Err x) is p = subst (λ (y : E). P (Err y)) (sym is.1) p
+
+-- block 0 couldn't be read
+pub front_none : (told : Option Contents) (size : ℕ) (fault : JudgeFault) → journal_at fault ≡ [] → HasFrontOf told size fault
+front_none None size fault none = tt
+front_none (Some m) size fault none =
+    subst (λ (js : List Entry). IsFront js (image_outcome size (m Image)).journal) (sym none) ((image_outcome size (m Image)).journal, refl)
+
+pub kept_first : (told : Option Contents) (size : ℕ) (fault : JudgeFault) (before now : ℕ) → journal_at fault ≡ [] → now ≤ before + 1 → Kept told size before now fault
+unfolding image_events
+kept_first None size fault before now none one = tt
+kept_first (Some m) size fault before now none one =
+    subst (λ (js : List Entry). IsKept (image_events size (m Image)) before now js) (sym none) (at_block_0 (m Image))
+  where
+    at_block_0 : (image : ℕ → List ℕ) → IsKept (image_events size image) before now []
+    at_block_0 image = kept_none (superblock_events (layout_of (image 0)) image (first_fault (image 0) size)) before now one
+
+-- its groups were checked, and that was stopped
+pub front_groups : (told : Option Contents) (size n : ℕ) (bytes : List ℕ) (at : Layout) (fault : JudgeFault) → n ≡ size → Holds Image 0 bytes told → first_fault bytes n ≡ None → at ≡ layout_of bytes
+    → IfSome told (λ m. IsFront (journal_at fault) (checked_outcome (checked at (m Image))).journal) → HasFrontOf told size fault
+front_groups None size n bytes at fault same holds good is front = tt
+front_groups (Some m) size n bytes at fault same holds good is front =
+    let whole = sym (good_superblock n (m Image) bytes holds at good is) ∙ ap (λ (k : ℕ). image_outcome k (m Image)) same in
+    subst (λ (o : Outcome). IsFront (journal_at fault) o.journal) whole front
+
+pub kept_groups : (told : Option Contents) (size n : ℕ) (bytes : List ℕ) (at : Layout) (fault : JudgeFault) (before mid now : ℕ) → n ≡ size → Holds Image 0 bytes told → first_fault bytes n ≡ None → at ≡ layout_of bytes → mid ≤ before + 1
+    → IfSome told (λ m. IsKept (check_events at (m Image)) mid now (journal_at fault)) → Kept told size before now fault
+kept_groups None size n bytes at fault before mid now same holds good is one kept = tt
+kept_groups (Some m) size n bytes at fault before mid now same holds good is one kept =
+    let whole = sym (good_events n (m Image) bytes holds at good is) ∙ ap (λ (k : ℕ). image_events k (m Image)) same in
+    subst (λ (es : List Event). IsKept es before now (journal_at fault)) whole (kept_behind (check_events at (m Image)) before mid now (journal_at fault) one kept)
+
+pub units_none : (fault : JudgeFault) → journal_at fault ≡ [] → HasFirstUnits (journal_at fault)
+units_none fault none = subst HasFirstUnits (sym none) no_units
+
+-- ---- of an image that was opened
+
+pub opened_front : (file : Option Stored) (content : Option Contents) (blocks : Region → ℕ) (fault : JudgeFault) → IsOpened file content blocks → HasFrontOf content (blocks Image) fault
+    → IfSome (stored_outcome file) (λ o. IsFront (journal_at fault) o.journal)
+opened_front None content blocks fault is front = tt
+opened_front (Some f) content blocks fault is front =
+    let told : HasFrontOf (Some (opened f)) (blocks Image) fault = subst (λ (c : Option Contents). HasFrontOf c (blocks Image) fault) is.0 front in
+    subst (λ (n : ℕ). HasFrontOf (Some (opened f)) n fault) is.1 told
+
+-- nothing was opened
+pub front_before : (decided : Option Outcome) (journal : List Entry) → journal ≡ [] → IfSome decided (λ o. IsFront journal o.journal)
+front_before None journal none = tt
+front_before (Some o) journal none = subst (λ (js : List Entry). IsFront js o.journal) (sym none) (o.journal, refl)

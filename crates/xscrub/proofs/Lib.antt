@@ -1,4 +1,6 @@
 pub mod EndingLemmas
 pub mod JudgedLemmas
 pub mod MemHostLemmas
+pub mod SaysLemmas
 pub mod ShownLemmas
+pub mod UnitLemmas

@@ -4,13 +4,16 @@ use Rattle.std.specs.List.{list_all}
 use Rattle.blk_device.specs.Causes.{Rose}
 use Rattle.blk_device.specs.Taken.{Takes, IsFront}
 use Rattle.xscrub.specs.Command.{Job, check_of, unbuilt, usage}
-use Rattle.xscrub.specs.Image.{image_outcome}
-use Rattle.xscrub.specs.Outcome.{Outcome, code_of, is_calm, is_image_line, judged_outcome, filled_outcome, ended_outcome, has_journal}
+use Rattle.blk_device.specs.declared.device.Device.{Ghosts}
+use Rattle.blk_device.specs.declared.device.Region.TheVariants.{Image}
+use Rattle.xscrub.specs.Image.{image_events, image_outcome}
+use Rattle.xscrub.specs.Outcome.{Outcome, code_of, is_calm, is_image_line, judged_outcome, filled_outcome, stopped_outcome, ended_outcome}
 use Rattle.run_text.specs.Report.{report_of}
 use Rattle.xscrub.specs.LastLines.{is_fixed}
 use Rattle.xscrub.specs.Shown.{TakesFronts, last_text}
-use Rattle.xscrub.specs.Stored.{Stored, Request}
-use Rattle.xscrub.specs.Units.{HasAllUnits, HasItsMost, HasUnits}
+use Rattle.xscrub.specs.Judged.{IsKept}
+use Rattle.xscrub.specs.Stored.{Stored, Request, IsOpened}
+use Rattle.xscrub.specs.Units.{HasAllUnits, HasItsMost, HasFirstUnits, HasUnits}
 use Rattle.xscrub.specs.declared.ending.Finding.{Finding}
 use Rattle.xscrub.specs.declared.ending.Finding.TheVariants as findings
 use Rattle.xscrub.specs.declared.ending.Status.{Status}
@@ -42,15 +45,15 @@ requests_of (check_of name) = record { image = name; redo = None; purpose = ForC
 
 -- ---- what a check of an image finds, before it is told
 
--- what wasn't stopped is what was decided
+-- what wasn't stopped is what was decided; what was stopped has a front of that journal
 abbrev pub Decides : Option Outcome → Finding → Type 0
 Decides decided (findings.Judged journal) = IfSome decided (λ o. judged_outcome journal.items ≡ o)
 Decides decided (findings.Full journal) = IfSome decided (λ o. filled_outcome journal.items ≡ o)
 Decides decided (findings.Refused line) = IfSome decided (λ o. ended_outcome statuses.Refused line ≡ o)
 Decides decided findings.Usage = IfSome decided (λ o. ended_outcome statuses.Usage lines.Usage ≡ o)
-Decides decided findings.DeviceFailed = ⊤
+Decides decided (findings.DeviceFailed journal) = IfSome decided (λ o. IsFront journal.items o.journal)
 Decides decided findings.HostFailed = ⊤
-Decides decided findings.Memory = ⊤
+Decides decided (findings.Memory journal) = IfSome decided (λ o. IsFront journal.items o.journal)
 
 -- a fault is found only where its count rose, and nothing is judged where one did
 abbrev pub IsFoundBy : Finding → (host host' devices devices' : ℕ) → Type 0
@@ -58,9 +61,9 @@ IsFoundBy (findings.Judged journal) host host' devices devices' = (host' ≡ hos
 IsFoundBy (findings.Full journal) host host' devices devices' = ⊤
 IsFoundBy (findings.Refused line) host host' devices devices' = ⊤
 IsFoundBy findings.Usage host host' devices devices' = ⊤
-IsFoundBy findings.DeviceFailed host host' devices devices' = Rose devices devices'
+IsFoundBy (findings.DeviceFailed journal) host host' devices devices' = Rose devices devices'
 IsFoundBy findings.HostFailed host host' devices devices' = Rose host host'
-IsFoundBy findings.Memory host host' devices devices' = ⊤
+IsFoundBy (findings.Memory journal) host host' devices devices' = ⊤
 
 -- a finding that an image may have
 abbrev pub IsOfImage : Finding → Type 0
@@ -68,9 +71,43 @@ IsOfImage (findings.Judged journal) = HasAllUnits journal.items
 IsOfImage (findings.Full journal) = HasItsMost journal.items
 IsOfImage (findings.Refused line) = is_image_line line ≡ true
 IsOfImage findings.Usage = ⊥
-IsOfImage findings.DeviceFailed = ⊤
+IsOfImage (findings.DeviceFailed journal) = HasFirstUnits journal.items
 IsOfImage findings.HostFailed = ⊤
-IsOfImage findings.Memory = ⊤
+IsOfImage (findings.Memory journal) = HasFirstUnits journal.items
+
+-- there was no memory to open the image
+abbrev pub IsShort : Finding → Type 0
+IsShort (findings.Judged journal) = ⊥
+IsShort (findings.Full journal) = ⊥
+IsShort (findings.Refused line) = ⊥
+IsShort findings.Usage = ⊥
+IsShort (findings.DeviceFailed journal) = ⊥
+IsShort findings.HostFailed = ⊥
+IsShort (findings.Memory journal) = journal.items ≡ []
+
+-- A device was handed out with this image and came back, and the journal has all that was judged by
+-- what was read of it.
+pub record CameBack {D : Type 0} (g : Ghosts D) (file : Option Stored) (journal : List Entry) : Type 0 where
+  pub dev : D
+  pub back : D
+  pub opened : IsOpened file (g.content dev) (g.blocks dev)
+  pub kept : IfSome (g.content dev) (λ m. IsKept (image_events (g.blocks dev Image) (m Image)) (g.reads dev) (g.reads back) journal)
+
+-- where the device failed, nothing that was judged is left out
+abbrev pub FindsKept : {D : Type 0} → Ghosts D → Option Stored → Finding → Type 0
+FindsKept g file (findings.Judged journal) = ⊤
+FindsKept g file (findings.Full journal) = ⊤
+FindsKept g file (findings.Refused line) = ⊤
+FindsKept g file findings.Usage = ⊤
+FindsKept g file (findings.DeviceFailed journal) = CameBack g file journal.items
+FindsKept g file findings.HostFailed = ⊤
+FindsKept g file (findings.Memory journal) = ⊤
+
+-- the image that is named, where the words ask for a check
+abbrev pub file_for : Job → (List ℕ → Option Stored) → Option Stored
+file_for usage stored = None
+file_for unbuilt stored = None
+file_for (check_of name) stored = stored name
 
 -- what the words alone say of a finding
 abbrev pub IsWorded : Job → Finding → Type 0
@@ -93,14 +130,14 @@ pub record IsShown (journal : List Entry) (last : Option LastLine) (faults fault
   pub whole : (Rose faults faults' → ⊥) → Takes (report_of journal ++ last_text last) taken taken'
   pub fronts : TakesFronts (report_of journal) (last_text last) taken taken'
 
--- What is told of a finding: itself; or, where the sink failed in the journal of its units, that
--- the host failed; or, where there was no memory for a line, as much of that as had been told.
+-- What is told of a finding: itself; or, where the sink failed in the journal, that the host failed;
+-- or, where there was no memory for a line, as much of that as had been told.
 abbrev pub IsToldOf : Outcome → (faults faults' : ℕ) → Outcome → Type 0
 IsToldOf found faults faults' told =
     ((told ≡ found) × (found.last ≡ None → faults' ≡ faults))
-    ⊎ (((told ≡ record { status = statuses.Failed; journal = found.journal; last = Some lines.HostFailed }) × Rose faults faults' × (has_journal found.status ≡ true))
+    ⊎ (((told ≡ stopped_outcome statuses.Failed found.journal lines.HostFailed) × Rose faults faults' × (found.journal ≡ [] → ⊥))
     ⊎ ((told.status ≡ statuses.Memory) × (told.last ≡ Some lines.Memory) × IsFront told.journal found.journal
-    × (has_journal found.status ≡ false → IfSome found.last (λ line. is_fixed line ≡ false))))
+    × (found.journal ≡ [] → IfSome found.last (λ line. is_fixed line ≡ false))))
 
 -- ---- the whole run
 
@@ -151,8 +188,13 @@ EndsByWords usage told = told ≡ ended_outcome statuses.Usage lines.Usage
 EndsByWords unbuilt told = told ≡ ended_outcome statuses.Refused lines.UnbuiltJob
 EndsByWords (check_of name) told = (told.status ≡ statuses.Usage → ⊥) × (told.last ≡ Some lines.UnbuiltJob → ⊥) × (told.status ≡ statuses.Refused → IsImageLine told.last)
 
+-- nor is it where that is told
+abbrev pub TellsKept : {D : Type 0} → Ghosts D → Option Stored → Outcome → Type 0
+TellsKept g file told = told.last ≡ Some lines.DeviceFailed → CameBack g file told.journal
+
 -- What a run owes: how it ended is what words and bytes decide, or has a cause in a count that
--- rose; its journal has each unit of each group; and this is what the sink took.
+-- rose; its journal has each unit of each group, or the first of them where it was stopped; and this
+-- is what the sink took.
 pub record IsRun (command : Job) (told : Outcome) (stored : List ℕ → Option Stored) (host host' devices devices' sink sink' : ℕ)
     (taken taken' : Option (List ℕ)) (asked asked' : List Request) (end : RunEnd) : Type 0 where
   pub status : end.status ≡ code_of told.status

@@ -1,9 +1,17 @@
 -- What is found of a device, by the image that it holds.
-use Rattle.std.specs.Prelude.{◌≡◌, ℕ, Option, Result, Ok, Err, IfSome, true}
-use Rattle.blk_device.specs.Causes.{Rose}
+use Rattle.std.specs.Prelude.{◌≡◌, ◌≤◌, ℕ, ◌+◌, List, ◌∷◌, ◌++◌, Bool, true, false, Option, Result, Ok, Err, IfSome}
+use Rattle.std.specs.Global.{Vec}
+use Rattle.ag_headers.specs.declared.fault.HeadFault.{HeadFault}
+use Rattle.blk_device.specs.Causes.{HasCauseBy}
 use Rattle.blk_device.specs.Contents.{Contents}
 use Rattle.blk_device.specs.declared.device.Region.TheVariants.{Image}
-use Rattle.xscrub.specs.Image.{image_outcome}
+use Rattle.blk_device.specs.Taken.{IsFront}
+use Rattle.fs_model.specs.declared.entry.Entry.{Entry}
+use Rattle.fs_model.specs.declared.unit.Head.{Head}
+use Rattle.space_check.specs.Events.{Event, entries_of, reads_of}
+use Rattle.space_check.specs.declared.halt.Halt.TheVariants as halts
+use Rattle.space_check.specs.declared.stop.CheckStop.{CheckStop}
+use Rattle.xscrub.specs.Image.{image_events, image_outcome}
 use Rattle.xscrub.specs.Outcome.{Outcome, judged_outcome, filled_outcome, ended_outcome, is_image_line}
 use Rattle.xscrub.specs.Units.{HasAllUnits, HasItsMost}
 use Rattle.xscrub.specs.declared.ending.Status.TheVariants as statuses
@@ -11,6 +19,7 @@ use Rattle.xscrub.specs.declared.judging.JudgeFault.{JudgeFault}
 use Rattle.xscrub.specs.declared.judging.JudgeFault.TheVariants.{Device, Memory}
 use Rattle.xscrub.specs.declared.judging.Judgement.{Judgement}
 use Rattle.xscrub.specs.declared.judging.Judgement.TheVariants.{Judged, Full, Refused}
+use Rattle.xscrub.specs.declared.last_lines.LastLine.TheVariants as lines
 
 abbrev pub judgement_outcome : Judgement → Outcome
 judgement_outcome (Judged journal) = judged_outcome journal.items
@@ -28,8 +37,49 @@ TellsOfImage (Refused line) = is_image_line line ≡ true
 abbrev pub IsJudged : Option Contents → ℕ → Judgement → Type 0
 IsJudged content size found = IfSome content (λ m. judgement_outcome found ≡ image_outcome size (m Image))
 
+-- the journal so far of a judgement that was stopped
+abbrev pub journal_at : JudgeFault → List Entry
+journal_at (Device journal) = journal.items
+journal_at (Memory journal) = journal.items
+
+abbrev pub is_device : JudgeFault → Bool
+is_device (Device journal) = true
+is_device (Memory journal) = false
+
 -- a failed device is told only where its count rose, and no other answer moves the count
-abbrev pub JudgeCause : ℕ → ℕ → Result Judgement JudgeFault → Type 0
-JudgeCause before now (Ok found) = now ≡ before
-JudgeCause before now (Err Device) = Rose before now
-JudgeCause before now (Err Memory) = now ≡ before
+abbrev pub JudgeCause : {T : Type 0} → ℕ → ℕ → Result T JudgeFault → Type 0
+JudgeCause before now result = HasCauseBy is_device before now result
+
+-- Of these events the first were done, with these entries, and the device was read no more than for
+-- them and for the next one.
+pub record IsKept (events : List Event) (before now : ℕ) (journal : List Entry) : Type 0 where
+  pub done : List Event
+  pub next : Event
+  pub rest : List Event
+  pub whole : events ≡ done ++ next ∷ rest
+  pub entries : journal ≡ entries_of done
+  pub read : now ≤ before + (reads_of done + next.reads)
+
+-- a judgement that was stopped kept what was judged until then, where the device tells its content
+abbrev pub Kept : Option Contents → ℕ → (before now : ℕ) → JudgeFault → Type 0
+Kept content size before now fault = IfSome content (λ m. IsKept (image_events size (m Image)) before now (journal_at fault))
+
+-- and that journal is a front of the one that the image decides
+abbrev pub HasFrontOf : Option Contents → ℕ → JudgeFault → Type 0
+HasFrontOf content size fault = IfSome content (λ m. IsFront (journal_at fault) (image_outcome size (m Image)).journal)
+
+-- ---- the answer of a check of the groups, told as a judgement
+
+abbrev pub SaysStop : CheckStop → Result Judgement JudgeFault → Type 0
+SaysStop stop (Ok (Judged journal)) = ⊥
+SaysStop stop (Ok (Full journal)) = (stop.cause ≡ halts.Full) × (journal ≡ stop.journal)
+SaysStop stop (Ok (Refused line)) = (g : ℕ) × (head : Head) × (fault : HeadFault) × (stop.cause ≡ halts.Head g head fault) × (line ≡ lines.Head g head fault)
+SaysStop stop (Err (Device journal)) = (stop.cause ≡ halts.Failed) × (journal ≡ stop.journal)
+SaysStop stop (Err (Memory journal)) = (stop.cause ≡ halts.Memory) × (journal ≡ stop.journal)
+
+abbrev pub Says : Result (Vec Entry) CheckStop → Result Judgement JudgeFault → Type 0
+Says (Ok journal) (Ok (Judged told)) = told ≡ journal
+Says (Ok journal) (Ok (Full told)) = ⊥
+Says (Ok journal) (Ok (Refused line)) = ⊥
+Says (Ok journal) (Err fault) = ⊥
+Says (Err stop) result = SaysStop stop result

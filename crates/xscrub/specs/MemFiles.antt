@@ -14,3 +14,7 @@ file_of image = record { size = image.size; at = stored image.blocks }
 -- the file of that name
 abbrev pub file_named : BTreeMap (String Global) MemImage → List ℕ → Option Stored
 file_named images name = option_map file_of (get_by_text images name)
+
+-- the numbers of the device calls that are to fail on the file of that name
+abbrev pub failing_named : BTreeMap (String Global) MemImage → List ℕ → Option (List ℕ)
+failing_named images name = option_map (λ (i : MemImage). i.failing.items) (get_by_text images name)

@@ -2,12 +2,16 @@
 use Rattle.std.specs.Prelude.{◌≡◌, ℕ, List, map, Option, IsSome}
 use Rattle.std.specs.BTreeMap.{get_by_text}
 use Rattle.xscrub.specs.Asked.{request_of}
-use Rattle.xscrub.specs.MemFiles.{file_named}
+use Rattle.xscrub.specs.MemFiles.{file_named, failing_named}
 use Rattle.xscrub.specs.Stored.{Stored, Request}
 use Rattle.xscrub.specs.declared.mem_host.MemHost.{MemHost}
 
 abbrev pub stored_by : MemHost → List ℕ → Option Stored
 stored_by host name = file_named host.images name
+
+-- the numbers of the device calls that are to fail on the image of that name
+abbrev pub failing_by : MemHost → List ℕ → Option (List ℕ)
+failing_by host name = failing_named host.images name
 
 abbrev pub Awaits : MemHost → List ℕ → Type 0
 Awaits host name = IsSome (get_by_text host.images name)

@@ -47,23 +47,17 @@ judged_status journal = if list_all is_calm journal then statuses.Clean else sta
 abbrev pub judged_outcome : List Entry → Outcome
 judged_outcome journal = record { status = judged_status journal; journal = journal; last = None }
 
+-- an end before the last unit, with the journal so far and a line that says why
+abbrev pub stopped_outcome : Status → List Entry → LastLine → Outcome
+stopped_outcome status journal line = record { status = status; journal = journal; last = Some line }
+
 -- a journal that was full before the last unit
 abbrev pub filled_outcome : List Entry → Outcome
-filled_outcome journal = record { status = statuses.Full; journal = journal; last = Some lines.JournalFull }
+filled_outcome journal = stopped_outcome statuses.Full journal lines.JournalFull
 
--- the journal of units is told before the end
-abbrev pub has_journal : Status → Bool
-has_journal statuses.Clean = true
-has_journal statuses.Faulty = true
-has_journal statuses.Full = true
-has_journal statuses.Usage = false
-has_journal statuses.Refused = false
-has_journal statuses.Failed = false
-has_journal statuses.Memory = false
-
--- an end before the first unit, with a line that says why
+-- an end before the first unit
 abbrev pub ended_outcome : Status → LastLine → Outcome
-ended_outcome status line = record { status = status; journal = []; last = Some line }
+ended_outcome status line = stopped_outcome status [] line
 
 -- a line that tells of an image
 abbrev pub is_image_line : LastLine → Bool
@@ -81,6 +75,6 @@ outcome_of (findings.Judged journal) = judged_outcome journal.items
 outcome_of (findings.Full journal) = filled_outcome journal.items
 outcome_of (findings.Refused line) = ended_outcome statuses.Refused line
 outcome_of findings.Usage = ended_outcome statuses.Usage lines.Usage
-outcome_of findings.DeviceFailed = ended_outcome statuses.Failed lines.DeviceFailed
+outcome_of (findings.DeviceFailed journal) = stopped_outcome statuses.Failed journal.items lines.DeviceFailed
 outcome_of findings.HostFailed = ended_outcome statuses.Failed lines.HostFailed
-outcome_of findings.Memory = ended_outcome statuses.Memory lines.Memory
+outcome_of (findings.Memory journal) = stopped_outcome statuses.Memory journal.items lines.Memory

@@ -1,5 +1,5 @@
 -- What a sink took of a journal and of the line behind it.
-use Rattle.std.specs.Prelude.{◌≡◌, ◌≤◌, ℕ, List, [], length, take, Option, Some, None, ◌⊎◌, false}
+use Rattle.std.specs.Prelude.{◌≡◌, ◌<◌, ◌≤◌, ℕ, List, [], length, take, Option, Some, None, ◌⊎◌, false}
 use Rattle.blk_device.specs.Causes.{Rose}
 use Rattle.blk_device.specs.Taken.{Takes, TakesFront}
 use Rattle.run_text.specs.Report.{report_of}
@@ -22,9 +22,9 @@ TakesFronts first second old new = (mid : Option (List ℕ)) × (TakesFront firs
 
 -- why the telling of a journal stopped, and what the sink had taken then
 abbrev pub StopsAt : List Entry → (faults faults' : ℕ) → (taken taken' : Option (List ℕ)) → TellStop → Type 0
-StopsAt journal faults faults' taken taken' stops.Sink = Rose faults faults' × TakesFront (report_of journal) taken taken'
+StopsAt journal faults faults' taken taken' stops.Sink = (0 < length journal) × Rose faults faults' × TakesFront (report_of journal) taken taken'
 StopsAt journal faults faults' taken taken' (stops.Memory told) =
-    (told ≤ length journal) × (faults' ≡ faults) × Takes (report_of (take told journal)) taken taken'
+    (told < length journal) × (faults' ≡ faults) × Takes (report_of (take told journal)) taken taken'
 
 -- the sink took this line, all of it where it didn't fail
 pub record IsLineShown (text : List ℕ) (faults faults' : ℕ) (taken taken' : Option (List ℕ)) : Type 0 where

@@ -1,20 +1,35 @@
 -- What a journal has, whether or not the host tells the image: the units of all groups in order,
--- each with its faults and then its verdict.
-use Rattle.std.specs.Prelude.{⊤, ℕ, ◌≤◌, List, []}
+-- each with its faults and then its verdict; or the first of them.
+use Rattle.std.specs.Prelude.{◌≡◌, ⊤, ℕ, ◌≤◌, ◌++◌, List, []}
+use Rattle.blk_device.specs.Taken.{IsFront}
 use Rattle.fs_model.specs.declared.entry.Entry.{Entry}
-use Rattle.space_check.specs.Session.{AreOfGroups, WasFull}
+use Rattle.space_check.specs.Events.{Event, entries_of}
+use Rattle.space_check.specs.Session.{AreOfGroups, HasGroups, StopsInGroups}
+use Rattle.space_check.specs.declared.halt.Halt.TheVariants.{Full}
 use Rattle.xscrub.specs.declared.ending.Status.{Status}
 use Rattle.xscrub.specs.declared.ending.Status.TheVariants as statuses
 
 pub record HasAllUnits (journal : List Entry) : Type 0 where
   pub groups : ℕ
   pub some : 1 ≤ groups
-  pub units : AreOfGroups groups journal
+  pub units : HasGroups groups [] journal
 
--- as many entries of them as a journal holds, and there was one more
+-- those before one that found the journal full
 pub record HasItsMost (journal : List Entry) : Type 0 where
   pub groups : ℕ
-  pub full : WasFull groups [] journal
+  pub full : StopsInGroups groups Full [] journal
+
+-- the first units, each with all its entries; the rest isn't there
+pub record HasFirstUnits (journal : List Entry) : Type 0 where
+  pub groups : ℕ
+  pub done : List Event
+  pub rest : List Event
+  pub units : AreOfGroups groups (done ++ rest)
+  pub entries : journal ≡ entries_of done
+
+-- a front of such entries, as far as there was memory to tell them
+abbrev pub HasFront : List Entry → Type 0
+HasFront journal = (whole : List Entry) × HasFirstUnits whole × IsFront journal whole
 
 abbrev pub HasUnits : Status → List Entry → Type 0
 HasUnits statuses.Clean journal = HasAllUnits journal
@@ -22,5 +37,5 @@ HasUnits statuses.Faulty journal = HasAllUnits journal
 HasUnits statuses.Full journal = HasItsMost journal
 HasUnits statuses.Usage journal = ⊤
 HasUnits statuses.Refused journal = ⊤
-HasUnits statuses.Failed journal = ⊤
-HasUnits statuses.Memory journal = ⊤
+HasUnits statuses.Failed journal = HasFirstUnits journal
+HasUnits statuses.Memory journal = HasFront journal

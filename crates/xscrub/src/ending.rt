@@ -17,16 +17,17 @@ pub enum Status {
 }
 
 /// What a run found, before it is told: the journal of a judged image, a journal that was full
-/// before the last unit, the line of a refusal, or what stopped it.
+/// before the last unit, the line of a refusal, or what stopped it; with the journal so far where
+/// the device failed or memory was short.
 #[derive(Debug, PartialEq, Eq, Drop)]
 pub enum Finding {
     Judged(Vec<Entry>),
     Full(Vec<Entry>),
     Refused(LastLine),
     Usage,
-    DeviceFailed,
+    DeviceFailed(Vec<Entry>),
     HostFailed,
-    Memory,
+    Memory(Vec<Entry>),
 }
 
 /// What is told of a run: its status, its journal, and the line that came last.

@@ -1,17 +1,19 @@
-ghost use Rattle.std.specs.Prelude.{◌≡◌, ◌≤◌, ℕ, IfOk, IfSome, OnOk, Err};
-ghost use Rattle.blk_device.specs.Causes.{Rose};
+ghost use Rattle.std.specs.Prelude.{◌≡◌, ◌+◌, ◌<◌, ◌≤◌, [], IfErr, IfOk, IfSome};
+ghost use Rattle.blk_device.specs.Contents.{Holds};
+ghost use Rattle.blk_device.specs.Reading.{EachBlock, Keeps};
+ghost use Rattle.blk_device.specs.Taken.{IsFront};
 ghost use Rattle.geom.specs.Places.{layout};
-ghost use Rattle.space_check.specs.Checked.{CheckCause, Checked, MeetsCheck, checked as checked_image};
-ghost use Rattle.space_check.specs.Session.{IsSession};
+ghost use Rattle.space_check.specs.Checked.{check_events, checked as checked_image};
 ghost use Rattle.xscrub.specs.Image.{checked_outcome};
-ghost use Rattle.xscrub.specs.Judged.{IsJudged, JudgeCause, TellsOfImage, judgement_outcome};
+ghost use Rattle.xscrub.specs.Judged.{HasFrontOf, IsJudged, IsKept, JudgeCause, Kept, Says, SaysStop, TellsOfImage, journal_at, judgement_outcome};
+ghost use Rattle.xscrub.specs.Units.{HasFirstUnits};
 
 use crate::last_lines::LastLine;
-use blk_device::{Device, DeviceFailed, Region};
+use blk_device::{Device, Region};
 use byte_fields::{Block, Steps};
 use fs_model::Entry;
 use geom::{Geometry, ImageFault, try_geometry};
-use space_check::{Stop, check_space};
+use space_check::{CheckStop, Halt, check_space};
 use std::alloc::Global;
 use std::marker::Brand;
 use std::sync::ledger::{Blank, Ledger};
@@ -28,40 +30,37 @@ pub enum Judgement {
 }
 
 /// Why an image wasn't judged: the device failed, and its count of faults rose, or there is no
-/// memory.
-#[derive(Clone, Copy, Debug, PartialEq, Eq, Error)]
+/// memory. The journal so far goes with it.
+#[derive(Debug, PartialEq, Eq, Drop, Error)]
 pub enum JudgeFault {
     #[error("device failed")]
-    Device,
+    Device(Vec<Entry>),
     #[error("memory")]
-    Memory,
+    Memory(Vec<Entry>),
 }
 
-impl From<DeviceFailed> for JudgeFault {
-    ghost use Rattle.xscrub.specs.declared.judging.JudgeFault.TheVariants.{Device as DeviceFault};
-
-    ghost from_gives = { λ _ e. e ≡ DeviceFault };
-
-    fn from(_: DeviceFailed) -> Self {
-        JudgeFault::Device
+// What a check that was stopped says of the image.
+fn judgement_at(stop: CheckStop) -> Result<Judgement, JudgeFault>
+    ensures { SaysStop stop result }
+{
+    let CheckStop { cause, journal } = stop;
+    match cause {
+        Halt::Head { group, head, fault } => {
+            Ok(Judgement::Refused(LastLine::Head { group, head, fault }))
+        }
+        Halt::Full => Ok(Judgement::Full(journal)),
+        Halt::Failed => Err(JudgeFault::Device(journal)),
+        Halt::Memory => Err(JudgeFault::Memory(journal)),
     }
 }
 
 // What the check of an image's groups says of the image.
-fn judgement_of(checked: Result<Vec<Entry>, Stop>) -> Result<Judgement, JudgeFault>
-    ensures told { IfOk result (λ found. (decided : Checked)
-        → MeetsCheck decided checked → judgement_outcome found ≡ checked_outcome decided) }
-    ensures line { (groups : ℕ) → 1 ≤ groups → IsSession groups checked → IfOk result TellsOfImage }
-    ensures cause { (before now : ℕ) → CheckCause before now checked → JudgeCause before now result }
+fn judgement_of(checked: Result<Vec<Entry>, CheckStop>) -> Result<Judgement, JudgeFault>
+    ensures { Says checked result }
 {
     match checked {
         Ok(journal) => Ok(Judgement::Judged(journal)),
-        Err(Stop::Head { group, head, fault }) => {
-            Ok(Judgement::Refused(LastLine::Head { group, head, fault }))
-        }
-        Err(Stop::Full(journal)) => Ok(Judgement::Full(journal)),
-        Err(Stop::Failed) => Err(JudgeFault::Device),
-        Err(Stop::Memory) => Err(JudgeFault::Memory),
+        Err(stop) => judgement_at(stop),
     }
 }
 
@@ -79,8 +78,14 @@ fn judge_counted<D: Device, L: Ledger>(
     ensures told { IfOk result (λ found. IfSome (D.content dev.old)
         (λ m. judgement_outcome found ≡ checked_outcome (checked_image (layout geo.now) (m Region.Image)))) }
     ensures line { IfOk result TellsOfImage }
+    ensures front { IfErr result (λ fault. IfSome (D.content dev.old)
+        (λ m. IsFront (journal_at fault) (checked_outcome (checked_image (layout geo.now) (m Region.Image))).journal)) }
+    ensures kept { IfErr result (λ fault. IfSome (D.content dev.old)
+        (λ m. IsKept (check_events (layout geo.now) (m Region.Image)) (D.reads dev.old) (D.reads dev.new) (journal_at fault))) }
+    ensures units { IfErr result (λ fault. HasFirstUnits (journal_at fault)) }
     ensures same { D.content dev.new ≡ D.content dev.old }
     ensures sizes { D.blocks dev.new ≡ D.blocks dev.old }
+    ensures crash { Keeps D.Device EachBlock dev.old dev.new }
     ensures cause { JudgeCause (D.faults dev.old) (D.faults dev.new) result }
 {
     let mut steps = Steps::<L>::new(blank);
@@ -98,32 +103,59 @@ fn judge_groups<D: Device>(
     ensures told { IfOk result (λ found. IfSome (D.content dev.old)
         (λ m. judgement_outcome found ≡ checked_outcome (checked_image (layout geo.now) (m Region.Image)))) }
     ensures line { IfOk result TellsOfImage }
+    ensures front { IfErr result (λ fault. IfSome (D.content dev.old)
+        (λ m. IsFront (journal_at fault) (checked_outcome (checked_image (layout geo.now) (m Region.Image))).journal)) }
+    ensures kept { IfErr result (λ fault. IfSome (D.content dev.old)
+        (λ m. IsKept (check_events (layout geo.now) (m Region.Image)) (D.reads dev.old) (D.reads dev.new) (journal_at fault))) }
+    ensures units { IfErr result (λ fault. HasFirstUnits (journal_at fault)) }
     ensures same { D.content dev.new ≡ D.content dev.old }
     ensures sizes { D.blocks dev.new ≡ D.blocks dev.old }
+    ensures crash { Keeps D.Device EachBlock dev.old dev.new }
     ensures cause { JudgeCause (D.faults dev.old) (D.faults dev.new) result }
 {
     let blank = Blank::new(3);
     judge_counted::<D, Brand>(alloc, dev, geo, blank)
 }
 
+// Reads block 0 of the image.
+fn first_block<D: Device>(alloc: Global, dev: &mut D) -> Result<Block, JudgeFault>
+    requires { 0 < D.blocks dev.old Region.Image }
+    ensures bytes { IfOk result (λ block. Holds Region.Image 0 block.bytes (D.content dev.old)) }
+    ensures none { IfErr result (λ fault. journal_at fault ≡ []) }
+    ensures one { D.reads dev.new ≤ D.reads dev.old + 1 }
+    ensures same { D.content dev.new ≡ D.content dev.old }
+    ensures sizes { D.blocks dev.new ≡ D.blocks dev.old }
+    ensures crash { Keeps D.Device EachBlock dev.old dev.new }
+    ensures cause { JudgeCause (D.faults dev.old) (D.faults dev.new) result }
+{
+    let mut first = Block::zeroed();
+    match dev.read(Region::Image, 0, &mut first) {
+        Ok(()) => Ok(first),
+        Err(_) => Err(JudgeFault::Device(Vec::new(alloc))),
+    }
+}
+
 /// Judges the image of a device: its superblock, the heads of all groups, and then the free space
 /// and the reference counts of each group. The first fault of a superblock or a head refuses the
-/// image, and a journal that was full is told as that. Nothing is written
+/// image, and a journal that was full is told as that. Where the device fails or memory is short,
+/// the units that were judged until then are kept. Nothing is written
 /// (XFS Online Fsck Design, "Cross-Referencing Space Metadata").
 pub fn judge<D: Device>(alloc: Global, dev: &mut D) -> Result<Judgement, JudgeFault>
     ensures told { IfOk result (λ found. IsJudged (D.content dev.old) (D.blocks dev.old Region.Image) found) }
     ensures line { IfOk result TellsOfImage }
+    ensures front { IfErr result (HasFrontOf (D.content dev.old) (D.blocks dev.old Region.Image)) }
+    ensures kept { IfErr result (Kept (D.content dev.old) (D.blocks dev.old Region.Image) (D.reads dev.old) (D.reads dev.new)) }
+    ensures units { IfErr result (λ fault. HasFirstUnits (journal_at fault)) }
     ensures same { D.content dev.new ≡ D.content dev.old }
     ensures sizes { D.blocks dev.new ≡ D.blocks dev.old }
-    ensures failed { result ≡ Err JudgeFault.Device → Rose (D.faults dev.old) (D.faults dev.new) }
-    ensures calm { OnOk result (D.faults dev.new ≡ D.faults dev.old) }
+    ensures crash { Keeps D.Device EachBlock dev.old dev.new }
+    ensures cause { JudgeCause (D.faults dev.old) (D.faults dev.new) result }
 {
     let blocks = dev.size(Region::Image);
     if blocks == 0 {
         return Ok(Judgement::Refused(LastLine::Image(ImageFault::DeviceShort)));
     }
-    let mut first = Block::zeroed();
-    dev.read(Region::Image, 0, &mut first)?;
+    let first = first_block(alloc, dev)?;
     let geo = match try_geometry(&first, blocks) {
         Ok(geo) => geo,
         Err(fault) => return Ok(Judgement::Refused(LastLine::Image(fault))),

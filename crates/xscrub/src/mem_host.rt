@@ -2,8 +2,9 @@
 ghost use Rattle.std.specs.Prelude.{◌≡◌, ℕ, List, [], Some, IsSome, IfOk, if◌then◌else◌};
 ghost use Rattle.std.specs.BTreeMap.{get_by_text};
 ghost use Rattle.std.specs.Str.{bytes_eq};
+ghost use Rattle.blk_device.specs.Memory.{calls_asked, failing_calls};
 ghost use Rattle.blk_device.specs.Stored.{stored};
-ghost use Rattle.xscrub.specs.MemFiles.{file_of, file_named};
+ghost use Rattle.xscrub.specs.MemFiles.{file_of, file_named, failing_named};
 ghost use Rattle.xscrub.specs.Stored.{IsOpened};
 
 use crate::asked::{DeviceAsked, count_failed, count_fault, keep_request};
@@ -16,8 +17,8 @@ use std::collections::BTreeMap;
 // The blocks of a redo region that no file keeps.
 const REDO_BLOCKS: u64 = 162;
 
-/// An image of so many blocks, zeros where there is none, and the numbers of the device calls
-/// that are to fail.
+/// An image of so many blocks, zeros where there is none, and the numbers of the calls of its device
+/// that are to fail, counted from 0 each time that it is opened.
 #[derive(Drop)]
 pub struct MemImage {
     pub size: u64,
@@ -66,6 +67,9 @@ impl MemHost {
 
 impl Sink for MemHost {
     ghost use Rattle.std.proofs.Common.{rules};
+    ghost use Rattle.std.specs.Prelude.{◌<◌, ◌≤◌, length, take, OnErr, IsErr, Contains};
+    ghost use Rattle.blk_device.specs.Causes.{HasCause, one_more};
+    ghost use Rattle.blk_device.specs.Taken.{Takes};
     ghost use Rattle.xscrub.specs.MemHost.{Keeps};
 
     ghost taken = { λ h. Some h.report.items };
@@ -78,7 +82,20 @@ impl Sink for MemHost {
 
     ghost kept_by_both = { λ a b c first second. Prim.search rules };
 
-    fn put(&mut self, piece: &[u8]) -> Result<usize, SinkFailed> {
+    /// Takes the whole piece. Fails where this call's number is one of those that are chosen, and
+    /// where memory is refused.
+    fn put(&mut self, piece: &[u8]) -> Result<usize, SinkFailed>
+        ensures bound { IfOk result (λ n. n ≤ length piece.now) }
+        ensures progress { IfOk result (λ n. 0 < length piece.now → 0 < n) }
+        ensures bytes { IfOk result (λ n. Takes (take n piece.now) (Some self.old.report.items) (Some self.new.report.items)) }
+        ensures none { OnErr result (Some self.new.report.items ≡ Some self.old.report.items) }
+        ensures rest { Keeps self.old self.new }
+        ensures cause { HasCause self.old.sink_faults self.new.sink_faults result }
+        ensures chosen { Contains self.old.failing_puts.items self.old.puts → IsErr result }
+        ensures whole { IfOk result (λ n. n ≡ length piece.now) }
+        ensures asked { self.new.puts ≡ one_more self.old.puts }
+        ensures choice { self.new.failing_puts ≡ self.old.failing_puts }
+    {
         let call = self.puts;
         self.puts = self.puts.saturating_add(1);
         if self.failing_puts.contains(&call) {
@@ -109,8 +126,9 @@ fn replace_image(
     blocks: BTreeMap<u64, Block>,
 )
     requires { IsSome (get_by_text images.old name.now) }
-    ensures { (n : List ℕ) → file_named images.new n
+    ensures image { (n : List ℕ) → file_named images.new n
         ≡ (if bytes_eq n name.now then Some (record { size = size; at = stored blocks }) else file_named images.old n) }
+    ensures failing { (n : List ℕ) → failing_named images.new n ≡ failing_named images.old n }
 {
     if let Some(file) = images.get_mut(name) {
         file.size = size;
@@ -118,12 +136,14 @@ fn replace_image(
     }
 }
 
-// A device over a copy of the image.
+// A device over a copy of the image, of whose calls those that are chosen will fail.
 fn open_copy(alloc: Global, image: &MemImage) -> Result<MemDevice, AllocError>
     ensures told { IfOk result (λ d. IsOpened (Some (file_of image.now))
         (⟦<MemDevice as Device>⟧.content d) (⟦<MemDevice as Device>⟧.blocks d)) }
     ensures redo_blocks { IfOk result (λ d. ⟦<MemDevice as Device>⟧.blocks d Region.Redo ≡ 162) }
     ensures fresh { IfOk result (λ d. ⟦<MemDevice as Device>⟧.faults d ≡ 0) }
+    ensures failing { IfOk result (λ d. failing_calls d ≡ image.now.failing.items) }
+    ensures asked { IfOk result (λ d. calls_asked d ≡ 0) }
 {
     let blocks = copy_of(&image.blocks)?;
     let failing = image.failing.clone()?;
@@ -134,7 +154,11 @@ fn open_copy(alloc: Global, image: &MemImage) -> Result<MemDevice, AllocError>
 impl Host for MemHost {
     type Dev = MemDevice;
 
-    ghost use Rattle.xscrub.specs.MemHost.{stored_by, Awaits, asked_of};
+    ghost use Rattle.std.specs.Prelude.{◌≤◌, ◌==◌, ◌++◌, ◌∷◌, ◌⊎◌, IsNone, IsErrOf, OnOk, OnErr, IfSome, false};
+    ghost use Rattle.std.specs.Option.{option_map};
+    ghost use Rattle.blk_device.specs.Causes.{Rose, one_more};
+    ghost use Rattle.xscrub.specs.MemHost.{stored_by, Awaits, asked_of, failing_by};
+    ghost use Rattle.xscrub.specs.Stored.{stored_image};
 
     ghost stored = { stored_by };
 
@@ -148,12 +172,37 @@ impl Host for MemHost {
 
     ghost report_keeps = { λ a b kept. kept };
 
+    /// Opens a copy of the image, on which the calls that are chosen for this image will fail. The
+    /// host fails exactly where there is no image of that name.
     fn device(
         &mut self,
         image: &str,
         redo: Option<&str>,
         purpose: Purpose,
-    ) -> Result<MemDevice, OpenFault> {
+    ) -> Result<MemDevice, OpenFault>
+        ensures told { IsNone redo.entry →
+            IfOk result (λ dev. IsOpened (stored_by self.old image.now) (⟦<MemDevice as Device>⟧.content dev) (⟦<MemDevice as Device>⟧.blocks dev)) }
+        ensures redo_blocks { IsNone redo.entry → IfOk result (λ dev. ⟦<MemDevice as Device>⟧.blocks dev Region.Redo ≡ 162) }
+        ensures fresh { IfOk result (λ dev. ⟦<MemDevice as Device>⟧.faults dev ≡ 0) }
+        ensures place { OnOk result (Awaits self.new image.now) }
+        ensures others { (n : List ℕ) → bytes_eq n image.now ≡ false
+            → stored_by self.new n ≡ stored_by self.old n }
+        ensures none { OnErr result ((n : List ℕ) → stored_by self.new n ≡ stored_by self.old n) }
+        ensures failed { IsErrOf result OpenFault.Failed → Rose self.old.host_faults self.new.host_faults }
+        ensures calm { OnOk result (self.new.host_faults ≡ self.old.host_faults) }
+        ensures later { self.old.host_faults ≤ self.new.host_faults }
+        ensures memory { IsErrOf result OpenFault.Memory → self.new.host_faults ≡ self.old.host_faults }
+        ensures asked { (IsErrOf result OpenFault.Memory × (asked_of self.new ≡ asked_of self.old))
+            ⊎ (asked_of self.new ≡ asked_of self.old
+            ++ record { image = image.now; redo = option_map (λ s. s.now) redo.entry; purpose = purpose } ∷ []) }
+        ensures devices { self.new.dev_faults ≡ self.old.dev_faults }
+        ensures report { Some self.new.report.items ≡ Some self.old.report.items }
+        ensures sink { self.new.sink_faults ≡ self.old.sink_faults }
+        ensures missing { IsErrOf result OpenFault.Failed → IsNone (failing_by self.old image.now) }
+        ensures failing { IfOk result (λ dev. failing_by self.old image.now ≡ Some (failing_calls dev)) }
+        ensures first { IfOk result (λ dev. calls_asked dev ≡ 0) }
+        ensures kept { (n : List ℕ) → failing_by self.new n ≡ failing_by self.old n }
+    {
         let alloc = *self.asked.allocator();
         if keep_request(alloc, &mut self.asked, image, redo, purpose).is_err() {
             return Err(OpenFault::Memory);
@@ -168,7 +217,21 @@ impl Host for MemHost {
         }
     }
 
-    fn put_back(&mut self, image: &str, dev: MemDevice) {
+    /// Keeps the device's image under this name, and with it which calls are to fail.
+    fn put_back(&mut self, image: &str, dev: MemDevice)
+        requires { Awaits self.old image.now }
+        ensures image { (n : List ℕ) → stored_by self.new n ≡ (if bytes_eq n image.now
+            then stored_image (⟦<MemDevice as Device>⟧.content dev) (⟦<MemDevice as Device>⟧.blocks dev)
+            else stored_by self.old n) }
+        ensures host { self.new.host_faults ≡ self.old.host_faults }
+        ensures devices { self.new.dev_faults ≡ (if ⟦<MemDevice as Device>⟧.faults dev == 0
+            then self.old.dev_faults
+            else one_more self.old.dev_faults) }
+        ensures asked { asked_of self.new ≡ asked_of self.old }
+        ensures report { Some self.new.report.items ≡ Some self.old.report.items }
+        ensures sink { self.new.sink_faults ≡ self.old.sink_faults }
+        ensures kept { (n : List ℕ) → failing_by self.new n ≡ failing_by self.old n }
+    {
         count_failed(&mut self.dev_faults, dev.fault_count());
         let size = dev.size(Region::Image);
         let blocks = dev.into_image();

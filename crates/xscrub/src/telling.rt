@@ -4,7 +4,7 @@ ghost use Rattle.std.specs.List.{list_all};
 ghost use Rattle.blk_device.specs.Causes.{Rose};
 ghost use Rattle.blk_device.specs.Taken.{Takes};
 ghost use Rattle.xscrub.specs.Ending.{IsShown, IsToldOf, told_outcome};
-ghost use Rattle.xscrub.specs.Outcome.{is_calm as is_calm_entry, is_calm_verdict as is_calm_verdict_of, has_journal, judged_status, judged_outcome, filled_outcome, Outcome, outcome_of};
+ghost use Rattle.xscrub.specs.Outcome.{is_calm as is_calm_entry, is_calm_verdict as is_calm_verdict_of, judged_status, judged_outcome, stopped_outcome, ended_outcome, Outcome, outcome_of};
 ghost use Rattle.run_text.specs.Report.{report_of};
 ghost use Rattle.xscrub.specs.LastLines.{is_fixed, last_line_of};
 ghost use Rattle.xscrub.specs.Shown.{StopsAt, IsLineShown, EndsWith, last_text};
@@ -144,7 +144,6 @@ fn end_early<K: Sink>(alloc: Global, sink: &mut K, journal: Vec<Entry>, stop: Te
         → StopsAt journal.items f (K.sink_faults sink.old) a (K.taken sink.old) stop
         → IsShown result.journal.items result.last f (K.sink_faults sink.new) a (K.taken sink.new) }
     ensures told { (found : Outcome) (f : ℕ) (a : Option (List ℕ)) → found.journal ≡ journal.items
-        → has_journal found.status ≡ true
         → StopsAt journal.items f (K.sink_faults sink.old) a (K.taken sink.old) stop
         → IsToldOf found f (K.sink_faults sink.new) (told_outcome result) }
 {
@@ -177,24 +176,42 @@ fn tell_judged<K: Sink>(alloc: Global, sink: &mut K, journal: Vec<Entry>) -> Tol
     }
 }
 
-// Tells a journal that was full, as far as the sink and memory go, and then that it was.
-fn tell_full<K: Sink>(alloc: Global, sink: &mut K, journal: Vec<Entry>) -> Told
+// Tells a journal that isn't the whole one, as far as the sink and memory go, and then why it isn't.
+fn tell_stopped<K: Sink>(
+    alloc: Global,
+    sink: &mut K,
+    status: Status,
+    journal: Vec<Entry>,
+    last: LastLine,
+) -> Told
     ensures rest { K.kept sink.old sink.new }
     ensures shown { IsShown result.journal.items result.last
         (K.sink_faults sink.old) (K.sink_faults sink.new)
         (K.taken sink.old) (K.taken sink.new) }
-    ensures told { IsToldOf (filled_outcome journal.items)
+    ensures told { IsToldOf (stopped_outcome status journal.items last)
         (K.sink_faults sink.old) (K.sink_faults sink.new) (told_outcome result) }
 {
     match put_journal(alloc, sink, journal.as_slice()) {
-        Ok(()) => end_with(alloc, sink, Status::Full, journal, LastLine::JournalFull),
+        Ok(()) => end_with(alloc, sink, status, journal, last),
         Err(stop) => end_early(alloc, sink, journal, stop),
     }
 }
 
+// Tells a run that ended before its first unit.
+fn tell_end<K: Sink>(alloc: Global, sink: &mut K, status: Status, last: LastLine) -> Told
+    ensures rest { K.kept sink.old sink.new }
+    ensures shown { IsShown result.journal.items result.last
+        (K.sink_faults sink.old) (K.sink_faults sink.new)
+        (K.taken sink.old) (K.taken sink.new) }
+    ensures told { IsToldOf (ended_outcome status last)
+        (K.sink_faults sink.old) (K.sink_faults sink.new) (told_outcome result) }
+{
+    tell_stopped(alloc, sink, status, Vec::new(alloc), last)
+}
+
 /// Tells what a run found: the line of each entry, and then the line that it ends with. Where the
 /// sink fails in the journal, the host has failed; where there is no memory for an entry's line,
-/// the journal is cut to what was told.
+/// the journal is cut to what was told. Where only the last line can't be put, the status stays.
 pub fn tell<K: Sink>(alloc: Global, sink: &mut K, finding: Finding) -> Told
     ensures rest { K.kept sink.old sink.new }
     ensures shown { IsShown result.journal.items result.last
@@ -203,14 +220,19 @@ pub fn tell<K: Sink>(alloc: Global, sink: &mut K, finding: Finding) -> Told
     ensures told { IsToldOf (outcome_of finding)
         (K.sink_faults sink.old) (K.sink_faults sink.new) (told_outcome result) }
 {
-    let (status, line) = match finding {
-        Finding::Judged(journal) => return tell_judged(alloc, sink, journal),
-        Finding::Full(journal) => return tell_full(alloc, sink, journal),
-        Finding::Refused(line) => (Status::Refused, line),
-        Finding::Usage => (Status::Usage, LastLine::Usage),
-        Finding::DeviceFailed => (Status::Failed, LastLine::DeviceFailed),
-        Finding::HostFailed => (Status::Failed, LastLine::HostFailed),
-        Finding::Memory => (Status::Memory, LastLine::Memory),
-    };
-    end_with(alloc, sink, status, Vec::new(alloc), line)
+    match finding {
+        Finding::Judged(journal) => tell_judged(alloc, sink, journal),
+        Finding::Full(journal) => {
+            tell_stopped(alloc, sink, Status::Full, journal, LastLine::JournalFull)
+        }
+        Finding::Refused(line) => tell_end(alloc, sink, Status::Refused, line),
+        Finding::Usage => tell_end(alloc, sink, Status::Usage, LastLine::Usage),
+        Finding::DeviceFailed(journal) => {
+            tell_stopped(alloc, sink, Status::Failed, journal, LastLine::DeviceFailed)
+        }
+        Finding::HostFailed => tell_end(alloc, sink, Status::Failed, LastLine::HostFailed),
+        Finding::Memory(journal) => {
+            tell_stopped(alloc, sink, Status::Memory, journal, LastLine::Memory)
+        }
+    }
 }

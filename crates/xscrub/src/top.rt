@@ -1,5 +1,5 @@
 ghost use Rattle.std.specs.Prelude.{◌≡◌, ◌++◌, ◌⊎◌, [], ◌∷◌, ℕ, List, length, map, string_bytes};
-ghost use Rattle.xscrub.specs.Ending.{IsFound, IsOfImage, IsWorded, IsRun, IsAsked, stored_outcome, decided_by};
+ghost use Rattle.xscrub.specs.Ending.{IsFound, IsOfImage, IsWorded, IsRun, IsAsked, IsShort, FindsKept, TellsKept, file_for, stored_outcome, decided_by};
 ghost use Rattle.xscrub.specs.Command.{command_of as command_of_words, check_of};
 ghost use Rattle.xscrub.specs.Outcome.{Outcome};
 ghost use Rattle.xscrub.specs.Stored.{Stored};
@@ -28,8 +28,9 @@ fn check<H: Host>(alloc: Global, host: &mut H, image: &str) -> Finding
         (H.host_faults host.old) (H.host_faults host.new)
         (H.dev_faults host.old) (H.dev_faults host.new) result }
     ensures image { IsOfImage result }
+    ensures kept { FindsKept H.Dev.Device (H.stored host.old image.now) result }
     ensures stored { (n : List ℕ) → H.stored host.new n ≡ H.stored host.old n }
-    ensures asked { IsAsked (check_of image.now) (result ≡ Finding.Memory)
+    ensures asked { IsAsked (check_of image.now) (IsShort result)
         (H.asked host.old) (H.asked host.new) }
     ensures report { H.taken host.new ≡ H.taken host.old }
     ensures sink { H.sink_faults host.new ≡ H.sink_faults host.old }
@@ -37,7 +38,7 @@ fn check<H: Host>(alloc: Global, host: &mut H, image: &str) -> Finding
     let mut dev = match host.device(image, None, Purpose::Check) {
         Ok(dev) => dev,
         Err(OpenFault::Failed) => return Finding::HostFailed,
-        Err(OpenFault::Memory) => return Finding::Memory,
+        Err(OpenFault::Memory) => return Finding::Memory(Vec::new(alloc)),
     };
     let found = judge(alloc, &mut dev);
     host.put_back(image, dev);
@@ -45,8 +46,8 @@ fn check<H: Host>(alloc: Global, host: &mut H, image: &str) -> Finding
         Ok(Judgement::Judged(journal)) => Finding::Judged(journal),
         Ok(Judgement::Full(journal)) => Finding::Full(journal),
         Ok(Judgement::Refused(line)) => Finding::Refused(line),
-        Err(JudgeFault::Device) => Finding::DeviceFailed,
-        Err(JudgeFault::Memory) => Finding::Memory,
+        Err(JudgeFault::Device(journal)) => Finding::DeviceFailed(journal),
+        Err(JudgeFault::Memory(journal)) => Finding::Memory(journal),
     }
 }
 
@@ -56,8 +57,9 @@ fn find<H: Host>(alloc: Global, host: &mut H, words: &[String]) -> Finding
         (H.host_faults host.old) (H.host_faults host.new)
         (H.dev_faults host.old) (H.dev_faults host.new) result }
     ensures words { IsWorded (command_of_words (map string_bytes words.now)) result }
+    ensures kept { FindsKept H.Dev.Device (file_for (command_of_words (map string_bytes words.now)) (H.stored host.old)) result }
     ensures stored { (n : List ℕ) → H.stored host.new n ≡ H.stored host.old n }
-    ensures asked { IsAsked (command_of_words (map string_bytes words.now)) (result ≡ Finding.Memory)
+    ensures asked { IsAsked (command_of_words (map string_bytes words.now)) (IsShort result)
         (H.asked host.old) (H.asked host.new) }
     ensures report { H.taken host.new ≡ H.taken host.old }
     ensures sink { H.sink_faults host.new ≡ H.sink_faults host.old }
@@ -70,9 +72,11 @@ fn find<H: Host>(alloc: Global, host: &mut H, words: &[String]) -> Finding
 }
 
 /// Runs the words, without the program's name, and tells the host's sink what was found, line by
-/// line. A check changes no image; each device that the host hands out is given back.
+/// line: where a device fails or memory is short, the journal so far, and then the line that says so.
+/// A check changes no image; each device that the host hands out is given back.
 pub fn fsck_main<H: Host>(alloc: Global, host: &mut H, words: &[String]) -> RunEnd
     ensures run { (told : Outcome)
+        × TellsKept H.Dev.Device (file_for (command_of_words (map string_bytes words.now)) (H.stored host.old)) told
         × IsRun (command_of_words (map string_bytes words.now)) told (H.stored host.old)
         (H.host_faults host.old) (H.host_faults host.new)
         (H.dev_faults host.old) (H.dev_faults host.new)

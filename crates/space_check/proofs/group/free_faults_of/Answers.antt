@@ -13,8 +13,12 @@ pub judge_free-requires-clause-within : goal.judge_free-requires-clause-within
 judge_free-requires-clause-within g c =
     subst (λ n. EndWithin n c.args.mapped.now.recs.items) (sym c.group_len.ensures) (end_within (bounds_of (layout c.args.geo.now) c.args.g) c.args.mapped.now.recs.items c.requires.sound.inside)
 
-pub returns-in-Err-read_index-clause-reading : goal.returns-in-Err-read_index-clause-reading
-returns-in-Err-read_index-clause-reading g c =
+pub returns-in_err-cnt-clause-reading : goal.returns-in_err-cnt-clause-reading
+returns-in_err-cnt-clause-reading g c =
+    read_on g.D.Device g.met.D.Device.only_now g.met.D.Device.counts_now c.args.dev.now c.read_index.new.dev c.read_index-2.new.dev c.args.steps.now c.read_index.new.steps c.read_index-2.new.steps c.read_index.ensures.reading c.read_index-2.ensures.reading
+
+pub returns-in_err-faults-clause-reading : goal.returns-in_err-faults-clause-reading
+returns-in_err-faults-clause-reading g c =
     read_on g.D.Device g.met.D.Device.only_now g.met.D.Device.counts_now c.args.dev.now c.read_index.new.dev c.read_index-2.new.dev c.args.steps.now c.read_index.new.steps c.read_index-2.new.steps c.read_index.ensures.reading c.read_index-2.ensures.reading
 
 pub returns-clause-reading : goal.returns-clause-reading

@@ -1,4 +1,4 @@
-use Rattle.std.proofs.Common.{refl, ◌∙◌}
+use Rattle.std.proofs.Common.{refl, ◌∙◌, arith}
 use Rattle.xscrub.proofs.ShownLemmas.{told_nothing, told_more, told_some}
 use Rattle.xscrub.proofs.telling.put_journal.Goals as goal
 
@@ -15,6 +15,7 @@ loop-told-preserved g c = (
 
 pub returns-in-Err-clause-stop : goal.returns-in-Err-clause-stop
 returns-in-Err-clause-stop g c = (
+  omega (arith, c.loop-told-test.true),
   rw c.loop-told.invariant.1 at c.in-Err.ensures.cause.failed,
   told_some c.args.journal.now c.loop-told.told _ c.as_bytes.result.now _ (g.K.Sink.taken c.loop-told.sink) _ c.loop-told-test.true
       (c.as_bytes.ensures.value ∙ c.in-Ok.ensures) c.loop-told.invariant.2 c.in-Err.ensures.front,

@@ -1,6 +1,6 @@
 use Rattle.std.proofs.Common.{refl}
 use Rattle.xscrub.specs.Outcome.{judged_outcome}
-use Rattle.xscrub.proofs.EndingLemmas.{judged_has_journal, shown_alone}
+use Rattle.xscrub.proofs.EndingLemmas.{shown_alone}
 use Rattle.xscrub.proofs.telling.tell_judged.Goals as goal
 
 pub returns-in-Ok-clause-shown : goal.returns-in-Ok-clause-shown
@@ -12,5 +12,4 @@ returns-in-Err-clause-shown g c = c.end_early.ensures.shown _ _ c.put_journal.en
 
 pub returns-in-Err-clause-told : goal.returns-in-Err-clause-told
 returns-in-Err-clause-told g c =
-    c.end_early.ensures.told (judged_outcome c.args.journal.items) _ _ refl (judged_has_journal c.args.journal.items)
-    (rw c.as_slice.ensures.value at c.in-Err.ensures.stop)
+    c.end_early.ensures.told (judged_outcome c.args.journal.items) _ _ refl (rw c.as_slice.ensures.value at c.in-Err.ensures.stop)

@@ -9,6 +9,6 @@ use Rattle.xscrub.proofs.mem_host.MemHostHost.put_back.Goals as goal
 
 pub returns-clause-image : goal.returns-clause-image
 returns-clause-image c = λ n.
-    c.replace_image.ensures n
+    c.replace_image.ensures.image n
     ∙ ap (λ (s : Option Stored). cond (bytes_eq n c.args.image.now) s (stored_by c.args.self.now n))
     (came_back c.size-size.result _ c.into_image-blocks.result (seen c.args.dev.log Image) c.size-size.ensures c.into_image-blocks.ensures)
