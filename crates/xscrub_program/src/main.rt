@@ -23,7 +23,9 @@ fn main(rt: HostRuntime) -> ExitCode {
     let status = match words_of(&rt) {
         Ok(words) => fsck_main(alloc, &mut host, words.as_slice()).status,
         Err(fault) if fault.kind() == ErrorKind::OutOfMemory => {
-            tell(alloc, &mut host, Finding::Memory(Vec::new(alloc))).status.code()
+            tell(alloc, &mut host, Finding::Memory(Vec::new(alloc)))
+                .status
+                .code()
         }
         // A word that isn't UTF-8 leaves a list of words that asks for nothing.
         Err(_) => fsck_main(alloc, &mut host, &[]).status,
