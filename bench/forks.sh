@@ -1,19 +1,21 @@
 #!/usr/bin/env bash
 # Times the reading of all forks of an image beside `xfs_db -c frag` and `xfs_repair -n`.
 #
-#     bench/forks.sh PROGRAM IMAGE ..
+#     bench/forks.sh PROGRAM [IMAGE ..]
 #
-# PROGRAM is what crates/show_inode was built to. An IMAGE is perhaps packed by xz, with inodes of 512
-# bytes. bench/README.md says how the table is read.
+# PROGRAM is what crates/show_inode was built to. First it reads three forks that tests/long_fork.py makes, of
+# 10,000, 100,000 and 1,000,000 mappings. An IMAGE is perhaps packed by xz, with inodes of 512 bytes.
+# bench/README.md says how the table is read.
 set -u
 export LC_ALL=C
+top=$(cd -- "$(dirname -- "$0")/.." && pwd) || exit 1
 program=$(readlink -f -- "${1:?the program that shows inodes}") || exit 1
 shift
 images=()
 for image in "$@"; do
   images+=("$(readlink -m -- "$image")")
 done
-for tool in xfs_db xfs_repair; do
+for tool in mkfs.xfs python3 xfs_db xfs_repair; do
   command -v "$tool" >/dev/null || {
     echo "bench/forks.sh needs $tool" >&2
     exit 1
@@ -75,6 +77,18 @@ xfs_db -V
 echo "$(nproc) processors, load $(cut -d ' ' -f 1-3 /proc/loadavg); each number is of $runs runs"
 # shellcheck disable=SC2059
 printf "$form" image inodes mappings blocks forks 'xfs_db' 'xfs_repair'
+
+# One file in an image of four groups, with so many mappings of one block each.
+head -c 4096 /dev/zero >file
+printf '%s\n' x '0 0' 'd--755 0 0' 'file ---644 0 0 file' '$' >prototype
+for mappings in 10000 100000 1000000; do
+  rm -f image.img
+  truncate -s 400M image.img
+  mkfs.xfs -q -m rmapbt=1,reflink=1 -d agcount=4 -p prototype image.img || exit 1
+  python3 "$top/tests/long_fork.py" image.img "$mappings" || exit 1
+  row "made: $mappings"
+done
+
 for image in "${images[@]}"; do
   rm -f image.img
   { xz -dc -- "$image" 2>/dev/null || cat -- "$image"; } | dd of=image.img bs=64K iflag=fullblock conv=sparse status=none

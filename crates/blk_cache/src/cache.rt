@@ -35,7 +35,7 @@ pub struct BlkCache {
 impl BlkCache {
     ghost use Rattle.std.specs.Prelude.{[], ℕ, ◌<◌, if◌then◌else◌, IsOk, IfSome, IfNone, IfOk, OnOk, OnErr, nat_eq};
     ghost use Rattle.std.specs.Map.{lookup};
-    ghost use Rattle.blk_device.specs.Causes.{HasCause, one_more};
+    ghost use Rattle.blk_device.specs.Causes.{HasCause, any_error, one_more};
     ghost use Rattle.blk_device.specs.Contents.{Contents, Holds, put};
     ghost use Rattle.blk_device.specs.Crash.{NoMore, Elapses};
     ghost use Rattle.blk_device.specs.declared.device.Region.TheVariants.{Image};
@@ -98,7 +98,7 @@ impl BlkCache {
         ensures crash { NoMore (D.may_hold_now dev.old) (D.may_hold_now dev.new) }
         ensures time { Elapses (D.clock dev.old) (D.clock dev.new) (D.may_have_held_since dev.old) (D.may_have_held_since dev.new) (D.may_hold_now dev.new) }
         ensures sizes { D.blocks dev.new ≡ D.blocks dev.old }
-        ensures cause { HasCause (D.faults dev.old) (D.faults dev.new) result }
+        ensures cause { HasCause any_error (D.faults dev.old) (D.faults dev.new) result }
 
         // What is kept afterwards.
         ensures keeps { OnOk result (Keeps at into.new self.old self.new) }

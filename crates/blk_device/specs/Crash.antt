@@ -39,7 +39,3 @@ pub record LeavesOnly {D : Type 0} (clock : D → ℕ) (held_since : D → ℕ �
 -- an outcome from before, of which the blocks in K are kept
 abbrev pub Reached : (Region → ℕ → Type 0) → (Contents → Type 0) → Contents → Type 0
 Reached K old c = (d : Contents) × old d × ((s : Region) (b : ℕ) → K s b → c s b ≡ d s b)
-
--- A crash at any moment since old leaves what it might have left at old, with other bytes outside of K alone.
-abbrev pub Keeps : {D : Type 0} (clock : D → ℕ) (held_since : D → ℕ → Contents → Type 0) (may_hold : D → Contents → Type 0) (K : Region → ℕ → Type 0) (old new : D) → Type 0
-Keeps clock held_since may_hold K old new = LeavesOnly clock held_since old new (Reached K (may_hold old))

@@ -2,7 +2,7 @@
 use Rattle.std.proofs.Common.{◌≤◌, inl, inr, ⊎_elim, ℕ, refl, ◌∙◌, arith, subst}
 use Rattle.blk_device.specs.declared.device.Region.{Region}
 use Rattle.blk_device.specs.Contents.{Contents, InDoubt}
-use Rattle.blk_device.specs.Crash.{Elapses, LeavesOnly, Follows, NoMore, Reached, Keeps}
+use Rattle.blk_device.specs.Crash.{Elapses, LeavesOnly, Follows, NoMore, Reached}
 
 module _ {D : Type 0} (clock : D → ℕ) (held_since : D → ℕ → Contents → Type 0) where
   -- before the first call
@@ -38,21 +38,21 @@ module _ {D : Type 0} (clock : D → ℕ) (held_since : D → ℕ → Contents �
     pub at_end : (old new : D) (P : Contents → Type 0) → LeavesOnly clock held_since old new P → (c : Contents) → may_hold new c → P c
     at_end old new P run c now = run.each c (counts_now new (clock old) c run.later now)
 
-    pub no_call : (K : Region → ℕ → Type 0) (d : D) → Keeps clock held_since may_hold K d d
+    pub no_call : (K : Region → ℕ → Type 0) (d : D) → LeavesOnly clock held_since d d (Reached K (may_hold d))
     no_call K d = started d (Reached K (may_hold d)) (λ c left. (c, only_now d c left, λ s b kept. refl))
 
     -- a write outside of K
     pub write_keeps : (K : Region → ℕ → Type 0) (r : Region) (at : ℕ) (old new : D) → (K r at → ⊥) → Follows (InDoubt r at) (may_hold old) (may_hold new)
-        → Elapses (clock old) (clock new) (held_since old) (held_since new) (may_hold new) → Keeps clock held_since may_hold K old new
+        → Elapses (clock old) (clock new) (held_since old) (held_since new) (may_hold new) → LeavesOnly clock held_since old new (Reached K (may_hold old))
     write_keeps K r at old new out crash time =
         goes_on old old new (Reached K (may_hold old)) (may_hold new) (no_call K old) time
         (λ c now. ((crash c now).0, (crash c now).1, λ s b kept. (crash c now).2 s b (λ here. out (subst (λ (n : ℕ). K r n) here.1 (subst (λ (q : Region). K q b) here.0 kept)))))
 
     pub sync_keeps : (K : Region → ℕ → Type 0) (old new : D) → NoMore (may_hold old) (may_hold new)
-        → Elapses (clock old) (clock new) (held_since old) (held_since new) (may_hold new) → Keeps clock held_since may_hold K old new
+        → Elapses (clock old) (clock new) (held_since old) (held_since new) (may_hold new) → LeavesOnly clock held_since old new (Reached K (may_hold old))
     sync_keeps K old new crash time = goes_on old old new (Reached K (may_hold old)) (may_hold new) (no_call K old) time (λ c now. (c, crash c now, λ s b kept. refl))
 
-    pub then_keeps : (K : Region → ℕ → Type 0) (old mid new : D) → Keeps clock held_since may_hold K old mid → Keeps clock held_since may_hold K mid new → Keeps clock held_since may_hold K old new
+    pub then_keeps : (K : Region → ℕ → Type 0) (old mid new : D) → LeavesOnly clock held_since old mid (Reached K (may_hold old)) → LeavesOnly clock held_since mid new (Reached K (may_hold mid)) → LeavesOnly clock held_since old new (Reached K (may_hold old))
     then_keeps K old mid new first second =
         chain old mid new (Reached K (may_hold old)) first
         (weaken mid new (Reached K (may_hold mid)) (Reached K (may_hold old)) second

@@ -1,7 +1,7 @@
 -- One run of calls after the other, for laws that say so of a type.
 use Rattle.std.proofs.Common.{◌≡◌, ◌≤◌, ℕ, Bool, Result, refl, subst, ◌∙◌, arith}
 use Rattle.byte_fields.specs.Steps.{StepCount}
-use Rattle.blk_device.specs.Causes.{HasCauseBy}
+use Rattle.blk_device.specs.Causes.{HasCause}
 use Rattle.blk_device.specs.Contents.{Contents}
 use Rattle.blk_device.specs.Reading.{EachBlock, Keeps, OnlyRead}
 use Rattle.blk_device.specs.declared.device.Device.{Ghosts}
@@ -39,5 +39,5 @@ module _ {D : Type 0} (g : Ghosts D) (only_now : (d : D) (c : Contents) → g.ma
   }
 
 -- an answer after a call that moved no count
-pub cause_on : {T E : Type 0} (is_devices : E → Bool) (before mid now : ℕ) (result : Result T E) → mid ≡ before → HasCauseBy is_devices mid now result → HasCauseBy is_devices before now result
-cause_on is_devices before mid now result same cause = subst (λ (n : ℕ). HasCauseBy is_devices n now result) same cause
+pub cause_on : {T E : Type 0} (is_devices : E → Bool) (before mid now : ℕ) (result : Result T E) → mid ≡ before → HasCause is_devices mid now result → HasCause is_devices before now result
+cause_on is_devices before mid now result same cause = subst (λ (n : ℕ). HasCause is_devices n now result) same cause

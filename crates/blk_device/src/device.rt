@@ -1,6 +1,6 @@
 ghost use Rattle.std.specs.Prelude.{◌≡◌, ◌≤◌, ◌<◌, List, ℕ, Option, IfSome, OnOk, length};
 ghost use Rattle.blk_device.specs.declared.device.Region.{Region as GhostRegion};
-ghost use Rattle.blk_device.specs.Causes.{HasCause, one_more};
+ghost use Rattle.blk_device.specs.Causes.{HasCause, any_error, one_more};
 ghost use Rattle.blk_device.specs.Contents.{Contents, InDoubt, Holds, Doubts, map_told, put};
 ghost use Rattle.blk_device.specs.Crash.{Follows, NoMore, Elapses, IsDurable, KeepsOther};
 
@@ -60,7 +60,7 @@ pub trait Device {
         ensures crash { NoMore (may_hold_now self.old) (may_hold_now self.new) }
         ensures time { Elapses (clock self.old) (clock self.new) (may_have_held_since self.old) (may_have_held_since self.new) (may_hold_now self.new) }
         ensures sizes { blocks self.new ≡ blocks self.old }
-        ensures cause { HasCause (faults self.old) (faults self.new) result }
+        ensures cause { HasCause any_error (faults self.old) (faults self.new) result }
         ensures reads { reads self.new ≡ one_more (reads self.old) };
 
     /// Writes a block. Until a sync of its region answers Ok, a crash may leave any bytes in it;
@@ -72,7 +72,7 @@ pub trait Device {
         ensures crash { Follows (InDoubt region at) (may_hold_now self.old) (may_hold_now self.new) }
         ensures time { Elapses (clock self.old) (clock self.new) (may_have_held_since self.old) (may_have_held_since self.new) (may_hold_now self.new) }
         ensures sizes { blocks self.new ≡ blocks self.old }
-        ensures cause { HasCause (faults self.old) (faults self.new) result }
+        ensures cause { HasCause any_error (faults self.old) (faults self.new) result }
         ensures reads { reads self.new ≡ reads self.old };
 
     /// Makes a region durable: after Ok a crash leaves in it what a read gives. What a crash may
@@ -84,7 +84,7 @@ pub trait Device {
         ensures crash { NoMore (may_hold_now self.old) (may_hold_now self.new) }
         ensures time { Elapses (clock self.old) (clock self.new) (may_have_held_since self.old) (may_have_held_since self.new) (may_hold_now self.new) }
         ensures sizes { blocks self.new ≡ blocks self.old }
-        ensures cause { HasCause (faults self.old) (faults self.new) result }
+        ensures cause { HasCause any_error (faults self.old) (faults self.new) result }
         ensures reads { reads self.new ≡ reads self.old };
 
     /// The crash states since this very moment are those now.

@@ -1,5 +1,5 @@
 ghost use Rattle.std.specs.Prelude.{◌≡◌, ◌<◌, ◌-◌, ◌↔◌, Some, true, false, IsErr, IsTrue, OnErr, OnOk};
-ghost use Rattle.blk_device.specs.Causes.{HasCause, one_more};
+ghost use Rattle.blk_device.specs.Causes.{HasCause, any_error, one_more};
 ghost use Rattle.blk_device.specs.Contents.{InDoubt, Holds, Doubts, map_told, put};
 ghost use Rattle.blk_device.specs.Crash.{Follows, NoMore, IsDurable, KeepsOther, LeavesAny};
 
@@ -102,7 +102,7 @@ impl Device for FuseDevice {
         ensures crash { NoMore (left_behind self.old) (left_behind self.new) }
         ensures time { ElapsesBehind self.old self.new }
         ensures sizes { size_of (behind self.new) ≡ size_of (behind self.old) }
-        ensures cause { HasCause self.old.faults self.new.faults result }
+        ensures cause { HasCause any_error self.old.faults self.new.faults result }
         ensures reads { self.new.reads ≡ one_more self.old.reads }
         ensures fails { IsErr result ↔ FailsSoon self.old }
         ensures calls { PassesOne self.old self.new }
@@ -127,7 +127,7 @@ impl Device for FuseDevice {
         ensures crash { Follows (InDoubt region at) (left_behind self.old) (left_behind self.new) }
         ensures time { ElapsesBehind self.old self.new }
         ensures sizes { size_of (behind self.new) ≡ size_of (behind self.old) }
-        ensures cause { HasCause self.old.faults self.new.faults result }
+        ensures cause { HasCause any_error self.old.faults self.new.faults result }
         ensures reads { self.new.reads ≡ self.old.reads }
         ensures fails { FailsSoon self.old → IsErr result }
         ensures calls { PassesOne self.old self.new }
@@ -156,7 +156,7 @@ impl Device for FuseDevice {
         ensures crash { NoMore (left_behind self.old) (left_behind self.new) }
         ensures time { ElapsesBehind self.old self.new }
         ensures sizes { size_of (behind self.new) ≡ size_of (behind self.old) }
-        ensures cause { HasCause self.old.faults self.new.faults result }
+        ensures cause { HasCause any_error self.old.faults self.new.faults result }
         ensures reads { self.new.reads ≡ self.old.reads }
         ensures fails { FailsSoon self.old → IsErr result }
         ensures calls { PassesOne self.old self.new }

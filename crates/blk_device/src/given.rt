@@ -1,6 +1,6 @@
 // Sources of bytes in memory and in a file.
 ghost use Rattle.std.specs.Prelude.{◌≡◌, ◌<◌, ◌≤◌, ◌↔◌, Some, IsErr, OnErr, IfOk, length, take, drop};
-ghost use Rattle.blk_device.specs.Causes.{HasCause};
+ghost use Rattle.blk_device.specs.Causes.{HasCause, any_error};
 
 use crate::source::{Source, SourceFailed};
 use std::io::Read;
@@ -40,7 +40,7 @@ impl MemSource {
     fn ask(&mut self) -> Result<(), SourceFailed>
         ensures bytes { (self.new.bytes ≡ self.old.bytes) × (self.new.at ≡ self.old.at) }
         ensures asked { TakenOnce self.old self.new }
-        ensures cause { HasCause self.old.faults self.new.faults result }
+        ensures cause { HasCause any_error self.old.faults self.new.faults result }
         ensures fails { IsErr result ↔ FailsToGive self.old }
     {
         let call = self.asked;
@@ -83,7 +83,7 @@ impl Source for MemSource {
         ensures bytes { IfOk result (λ n. Gives (take n into.new) (left_in self.old) (left_in self.new)) }
         ensures end { IfOk result (λ n. n ≡ 0 → 0 < length into.new → IsSpent (left_in self.old)) }
         ensures none { OnErr result (left_in self.new ≡ left_in self.old) }
-        ensures cause { HasCause self.old.faults self.new.faults result }
+        ensures cause { HasCause any_error self.old.faults self.new.faults result }
         ensures fails { IsErr result ↔ FailsToGive self.old }
         ensures asked { TakenOnce self.old self.new }
     {

@@ -1,5 +1,5 @@
 ghost use Rattle.std.specs.Prelude.{◌≡◌, [], ◌≤◌, ◌↔◌, ◌||◌, ℕ, List, Some, true, false, IsErr, IsTrue, OnErr, OnOk, IfOk, IfSome, Contains, is_ok};
-ghost use Rattle.blk_device.specs.Causes.{HasCause, one_more};
+ghost use Rattle.blk_device.specs.Causes.{HasCause, any_error, one_more};
 ghost use Rattle.blk_device.specs.Contents.{InDoubt, Holds, Doubts, map_told, put};
 ghost use Rattle.blk_device.specs.Crash.{Follows, NoMore, Elapses, IsDurable, KeepsOther, LeavesAny};
 
@@ -178,7 +178,7 @@ impl MemDevice {
         ensures log { Adds (is_ok result) (Wrote region at from.now) self.old.log self.new.log }
         ensures lost { self.new.lost ≡ self.old.lost }
         ensures sizes { size_of self.new ≡ size_of self.old }
-        ensures cause { HasCause self.old.faults self.new.faults result }
+        ensures cause { HasCause any_error self.old.faults self.new.faults result }
         ensures reads { self.new.reads ≡ self.old.reads }
         ensures fails { FailsNext self.old → IsErr result }
         ensures asked { AskedOnce self.old self.new }
@@ -196,7 +196,7 @@ impl MemDevice {
         ensures sizes { (self.new.image ≡ self.old.image) × (self.new.redo ≡ self.old.redo) }
         ensures reads { self.new.reads ≡ self.old.reads }
         ensures lost { self.new.lost ≡ self.old.lost }
-        ensures cause { HasCause self.old.faults self.new.faults result }
+        ensures cause { HasCause any_error self.old.faults self.new.faults result }
         ensures fails { IsErr result ↔ FailsNext self.old }
     {
         let call = self.asked;
@@ -253,7 +253,7 @@ impl Device for MemDevice {
         ensures crash { NoMore (left_now self.old.log) (left_now self.new.log) }
         ensures time { Elapses (moment self.old.log) (moment self.new.log) (left_since self.old.log) (left_since self.new.log) (left_now self.new.log) }
         ensures sizes { size_of self.new ≡ size_of self.old }
-        ensures cause { HasCause self.old.faults self.new.faults result }
+        ensures cause { HasCause any_error self.old.faults self.new.faults result }
         ensures reads { self.new.reads ≡ one_more self.old.reads }
         ensures fails { IsErr result ↔ FailsNext self.old }
         ensures asked { AskedOnce self.old self.new }
@@ -277,7 +277,7 @@ impl Device for MemDevice {
         ensures crash { Follows (InDoubt region at) (left_now self.old.log) (left_now self.new.log) }
         ensures time { Elapses (moment self.old.log) (moment self.new.log) (left_since self.old.log) (left_since self.new.log) (left_now self.new.log) }
         ensures sizes { size_of self.new ≡ size_of self.old }
-        ensures cause { HasCause self.old.faults self.new.faults result }
+        ensures cause { HasCause any_error self.old.faults self.new.faults result }
         ensures reads { self.new.reads ≡ self.old.reads }
         ensures fails { FailsNext self.old → IsErr result }
         ensures asked { AskedOnce self.old self.new }
@@ -308,7 +308,7 @@ impl Device for MemDevice {
         ensures crash { NoMore (left_now self.old.log) (left_now self.new.log) }
         ensures time { Elapses (moment self.old.log) (moment self.new.log) (left_since self.old.log) (left_since self.new.log) (left_now self.new.log) }
         ensures sizes { size_of self.new ≡ size_of self.old }
-        ensures cause { HasCause self.old.faults self.new.faults result }
+        ensures cause { HasCause any_error self.old.faults self.new.faults result }
         ensures reads { self.new.reads ≡ self.old.reads }
         ensures fails { FailsNext self.old → IsErr result }
         ensures asked { AskedOnce self.old self.new }

@@ -1,5 +1,5 @@
 ghost use Rattle.std.specs.Prelude.{◌≡◌, ◌<◌, ◌≤◌, ℕ, List, length, take, Option, OnOk, OnErr, IfOk};
-ghost use Rattle.blk_device.specs.Causes.{HasCause, Rose};
+ghost use Rattle.blk_device.specs.Causes.{HasCause, any_error, Rose};
 ghost use Rattle.blk_device.specs.Taken.{Takes, TakesFront};
 
 use thiserror::Error;
@@ -28,7 +28,7 @@ pub trait Sink {
         ensures bytes { IfOk result (λ n. Takes (take n piece.now) (taken self.old) (taken self.new)) }
         ensures none { OnErr result (taken self.new ≡ taken self.old) }
         ensures rest { kept self.old self.new }
-        ensures cause { HasCause (sink_faults self.old) (sink_faults self.new) result };
+        ensures cause { HasCause any_error (sink_faults self.old) (sink_faults self.new) result };
 
     /// A call that is not made leaves everything.
     ghost kept_at_rest: { (a : Self) → kept a a };
@@ -42,7 +42,7 @@ pub fn put_all<K: Sink>(sink: &mut K, bytes: &[u8]) -> Result<(), SinkFailed>
     ensures rest { K.kept sink.old sink.new }
     ensures bytes { OnOk result (Takes bytes.now (K.taken sink.old) (K.taken sink.new)) }
     ensures front { OnErr result (TakesFront bytes.now (K.taken sink.old) (K.taken sink.new)) }
-    ensures cause { HasCause (K.sink_faults sink.old) (K.sink_faults sink.new) result }
+    ensures cause { HasCause any_error (K.sink_faults sink.old) (K.sink_faults sink.new) result }
 {
     let mut at = 0;
     while at < bytes.len() {

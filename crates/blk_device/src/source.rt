@@ -1,5 +1,5 @@
 ghost use Rattle.std.specs.Prelude.{◌≡◌, ◌<◌, ◌≤◌, ℕ, List, length, take, Option, OnErr, IfOk};
-ghost use Rattle.blk_device.specs.Causes.{HasCause};
+ghost use Rattle.blk_device.specs.Causes.{HasCause, any_error};
 ghost use Rattle.blk_device.specs.Taken.{Gives, IsSpent};
 
 use thiserror::Error;
@@ -28,5 +28,5 @@ pub trait Source {
         ensures bytes { IfOk result (λ n. Gives (take n into.new) (bytes_left self.old) (bytes_left self.new)) }
         ensures end { IfOk result (λ n. n ≡ 0 → 0 < length into.new → IsSpent (bytes_left self.old)) }
         ensures none { OnErr result (bytes_left self.new ≡ bytes_left self.old) }
-        ensures cause { HasCause (source_faults self.old) (source_faults self.new) result };
+        ensures cause { HasCause any_error (source_faults self.old) (source_faults self.new) result };
 }

@@ -1,6 +1,6 @@
 ghost use Rattle.std.specs.Prelude.{◌≡◌, ◌+◌, ◌*◌, ◌/◌, ◌%◌, ◌<◌, ◌≤◌, is_some, true, Some, None, IfOk, IfErr, MatchResult, take, drop};
 ghost use Rattle.blk_cache.specs.Cache.{AgreesTold};
-ghost use Rattle.blk_device.specs.Causes.{HasCauseBy};
+ghost use Rattle.blk_device.specs.Causes.{HasCause};
 ghost use Rattle.blk_device.specs.Contents.{Contents};
 ghost use Rattle.blk_device.specs.Reading.{OnlyRead};
 ghost use Rattle.blk_device.specs.declared.device.Region.TheVariants.{Image};
@@ -42,7 +42,7 @@ fn load<D: Device, L: Ledger>(
     ensures told { IfOk result (λ block. (c : Contents) → D.content dev.old ≡ Some c → block.bytes ≡ c Image at) }
     ensures failed { IfErr result (λ fault. fault ≡ ReadFault.Failed) }
     ensures reading { OnlyRead D.Device dev.old dev.new steps.old steps.new }
-    ensures cause { HasCauseBy is_failed (D.faults dev.old) (D.faults dev.new) result }
+    ensures cause { HasCause is_failed (D.faults dev.old) (D.faults dev.new) result }
     ensures agrees { AgreesTold cache.new (D.content dev.new) }
     ensures cached { CachesAt at cache.old cache.new }
     ensures one { steps.new.reads ≡ steps.old.reads + 1 }
@@ -68,7 +68,7 @@ pub fn load_core<D: Device, L: Ledger>(
     requires agreed { AgreesTold cache.old (D.content dev.old) }
     ensures core { (c : Contents) → D.content dev.old ≡ Some c → IsCore (inode_bytes (layout geo.now) (c Image) ino) ino geo.now.uuid result }
     ensures reading { OnlyRead D.Device dev.old dev.new steps.old steps.new }
-    ensures cause { HasCauseBy is_failed (D.faults dev.old) (D.faults dev.new) result }
+    ensures cause { HasCause is_failed (D.faults dev.old) (D.faults dev.new) result }
     ensures agrees { AgreesTold cache.new (D.content dev.new) }
     ensures cached { CachesInode (layout geo.now) ino cache.old cache.new }
     ensures few { steps.new.reads ≤ steps.old.reads + 1 }

@@ -1,6 +1,6 @@
 ghost use Rattle.std.specs.Prelude.{◌≡◌, ◌+◌, ◌-◌, ◌*◌, ◌/◌, ◌≤◌, ◌++◌, is_some, length, true, Some, None, IfOk, OnOk};
 ghost use Rattle.blk_cache.specs.Cache.{AgreesTold};
-ghost use Rattle.blk_device.specs.Causes.{HasCauseBy};
+ghost use Rattle.blk_device.specs.Causes.{HasCause};
 ghost use Rattle.blk_device.specs.Contents.{Contents};
 ghost use Rattle.blk_device.specs.Reading.{OnlyRead};
 ghost use Rattle.blk_device.specs.declared.device.Region.TheVariants.{Image};
@@ -78,7 +78,7 @@ fn tree_piece<D: Device, L: Ledger>(
     ensures exact { (c : Contents) → D.content dev.old ≡ Some c → IsTreeAnswer (layout geo.now) (c Image) core.now fork from result }
     ensures size { IfOk result (IsSized from) }
     ensures reading { OnlyRead D.Device dev.old dev.new steps.old steps.new }
-    ensures cause { HasCauseBy is_failed (D.faults dev.old) (D.faults dev.new) result }
+    ensures cause { HasCause is_failed (D.faults dev.old) (D.faults dev.new) result }
     ensures few { steps.new.reads ≤ steps.old.reads + 128 }
 {
     let mut tasks = VecDeque::new(alloc);
@@ -120,7 +120,7 @@ fn piece_in<D: Device, L: Ledger>(
     ensures exact { (c : Contents) → D.content dev.old ≡ Some c → IsForkAnswer (layout geo.now) (c Image) core.now fork from result }
     ensures size { IfOk result (IsSized from) }
     ensures reading { OnlyRead D.Device dev.old dev.new steps.old steps.new }
-    ensures cause { HasCauseBy is_failed (D.faults dev.old) (D.faults dev.new) result }
+    ensures cause { HasCause is_failed (D.faults dev.old) (D.faults dev.new) result }
     ensures few { steps.new.reads ≤ steps.old.reads + 128 }
 {
     let mappings = match inline_fork(alloc, core, fork, geo) {
@@ -155,7 +155,7 @@ pub fn fork_piece<D: Device, L: Ledger>(
     ensures exact { (c : Contents) → D.content dev.old ≡ Some c → IsAnswer (layout geo.now) (c Image) ino fork from result }
     ensures size { IfOk result (IsSized from) }
     ensures reading { OnlyRead D.Device dev.old dev.new steps.old steps.new }
-    ensures cause { HasCauseBy is_failed (D.faults dev.old) (D.faults dev.new) result }
+    ensures cause { HasCause is_failed (D.faults dev.old) (D.faults dev.new) result }
     ensures agrees { AgreesTold cache.new (D.content dev.new) }
     ensures cached { CachesInode (layout geo.now) ino cache.old cache.new }
     ensures few { steps.new.reads ≤ steps.old.reads + 129 }

@@ -1,5 +1,5 @@
 ghost use Rattle.std.specs.Prelude.{◌≡◌, ◌+◌, ◌*◌, ◌-◌, ◌<◌, ◌≤◌, ◌∷◌, ◌&&◌, ◌||◌, ℕ, nat_le, nat_lt, length, true, false, Some, None, Ok, Err, IfOk, IfErr, IfSome, OnOk};
-ghost use Rattle.blk_device.specs.Causes.{HasCauseBy};
+ghost use Rattle.blk_device.specs.Causes.{HasCause};
 ghost use Rattle.blk_device.specs.Contents.{Contents};
 ghost use Rattle.blk_device.specs.Reading.{OnlyRead};
 ghost use Rattle.blk_device.specs.declared.device.Region.TheVariants.{Image};
@@ -55,7 +55,7 @@ fn load<D: Device, L: Ledger>(
     ensures told { IfOk result (λ block. (c : Contents) → D.content dev.old ≡ Some c → block.bytes ≡ c Image at) }
     ensures failed { IfErr result (λ fault. fault ≡ ReadFault.Failed) }
     ensures reading { OnlyRead D.Device dev.old dev.new steps.old steps.new }
-    ensures cause { HasCauseBy is_failed (D.faults dev.old) (D.faults dev.new) result }
+    ensures cause { HasCause is_failed (D.faults dev.old) (D.faults dev.new) result }
     ensures one { steps.new.reads ≡ steps.old.reads + 1 }
 {
     let mut block = Block::zeroed();
@@ -83,7 +83,7 @@ fn open_task<D: Device, L: Ledger>(
     ensures some { IfOk result (λ found. IfSome found (λ block. 1 ≤ numrecs block.bytes)) }
     ensures outside { IfErr result IsOutside }
     ensures reading { OnlyRead D.Device dev.old dev.new steps.old steps.new }
-    ensures cause { HasCauseBy is_failed (D.faults dev.old) (D.faults dev.new) result }
+    ensures cause { HasCause is_failed (D.faults dev.old) (D.faults dev.new) result }
     ensures few { steps.new.reads ≤ steps.old.reads + 1 }
 {
     let Some(place) = geo.split_fs_block(task.block) else {
@@ -123,7 +123,7 @@ fn read_task<D: Device, L: Ledger>(
     ensures outside { IfErr result IsOutside }
     ensures grows { OnOk result ((o : ℕ) → given_of o seen.new.mappings.items ≤ given_of o seen.old.mappings.items + 251) }
     ensures reading { OnlyRead D.Device dev.old dev.new steps.old steps.new }
-    ensures cause { HasCauseBy is_failed (D.faults dev.old) (D.faults dev.new) result }
+    ensures cause { HasCause is_failed (D.faults dev.old) (D.faults dev.new) result }
     ensures few { steps.new.reads ≤ steps.old.reads + 1 }
 {
     let found = match open_task(dev, geo, core, from, task, seen, steps) {
@@ -228,7 +228,7 @@ fn walk_on<D: Device, L: Ledger>(
     ensures low { IfOk result (IsLow tasks.new.items) }
     ensures outside { IfErr result IsOutside }
     ensures reading { OnlyRead D.Device dev.old dev.new steps.old steps.new }
-    ensures cause { HasCauseBy is_failed (D.faults dev.old) (D.faults dev.new) result }
+    ensures cause { HasCause is_failed (D.faults dev.old) (D.faults dev.new) result }
     ensures few { steps.new.reads ≤ steps.old.reads + 100 }
 {
     let mut is_border = false;
@@ -271,7 +271,7 @@ fn walk_behind<D: Device, L: Ledger>(
     ensures leaves { IfOk result (MayLeave from seen.new.mappings.items tasks.new.items) }
     ensures outside { IfErr result IsOutside }
     ensures reading { OnlyRead D.Device dev.old dev.new steps.old steps.new }
-    ensures cause { HasCauseBy is_failed (D.faults dev.old) (D.faults dev.new) result }
+    ensures cause { HasCause is_failed (D.faults dev.old) (D.faults dev.new) result }
     ensures few { steps.new.reads ≤ steps.old.reads + 28 }
 {
     let mut task = first;
@@ -320,7 +320,7 @@ pub fn walk_piece<D: Device, L: Ledger>(
     ensures leaves { IfOk result (MayLeave from seen.new.mappings.items tasks.new.items) }
     ensures outside { IfErr result IsOutside }
     ensures reading { OnlyRead D.Device dev.old dev.new steps.old steps.new }
-    ensures cause { HasCauseBy is_failed (D.faults dev.old) (D.faults dev.new) result }
+    ensures cause { HasCause is_failed (D.faults dev.old) (D.faults dev.new) result }
     ensures few { steps.new.reads ≤ steps.old.reads + 128 }
 {
     let stop = match walk_on(dev, geo, core, from, seen, tasks, steps) {

@@ -1,7 +1,8 @@
 ghost use Rattle.std.specs.Prelude.{◌≡◌, ◌*◌, ◌^◌, ◌≤◌, OnOk};
-ghost use Rattle.blk_device.specs.Causes.{HasCause};
+ghost use Rattle.blk_device.specs.Causes.{HasCause, any_error};
 ghost use Rattle.blk_device.specs.Contents.{Becomes, map_told};
-ghost use Rattle.blk_device.specs.Crash.{IsDurable, Keeps};
+ghost use Rattle.blk_device.specs.Crash.{IsDurable};
+ghost use Rattle.blk_device.specs.Reading.{Keeps};
 ghost use Rattle.blk_device.specs.declared.device.Region.TheVariants.{Image};
 ghost use Rattle.fresh_image.specs.Written.{put_fresh, AllButFresh, OthersStay, BecomesFresh};
 
@@ -22,9 +23,9 @@ fn write_blocks<D: Device>(dev: &mut D, n: u32, len: u32) -> Result<(), DeviceFa
     requires room { n * len ≤ D.blocks dev.old Image }
     ensures written { OnOk result (D.content dev.new ≡ map_told (put_fresh n len (n * len)) (D.content dev.old)) }
     ensures others { Becomes (D.content dev.old) (D.content dev.new) (OthersStay n len) }
-    ensures moments { Keeps D.clock D.may_have_held_since D.may_hold_now (AllButFresh n len) dev.old dev.new }
+    ensures moments { Keeps D.Device (AllButFresh n len) dev.old dev.new }
     ensures sizes { D.blocks dev.new ≡ D.blocks dev.old }
-    ensures cause { HasCause (D.faults dev.old) (D.faults dev.new) result }
+    ensures cause { HasCause any_error (D.faults dev.old) (D.faults dev.new) result }
     ensures reads { D.reads dev.new ≡ D.reads dev.old }
 {
     let count = blocks_of(n, len);
@@ -46,9 +47,9 @@ pub fn write_fresh<D: Device>(dev: &mut D, n: u32, len: u32) -> Result<(), Devic
     ensures written { OnOk result (Becomes (D.content dev.old) (D.content dev.new) (BecomesFresh n len)) }
     ensures durable { OnOk result (IsDurable Image (D.content dev.new) (D.may_hold_now dev.new)) }
     ensures others { Becomes (D.content dev.old) (D.content dev.new) (OthersStay n len) }
-    ensures moments { Keeps D.clock D.may_have_held_since D.may_hold_now (AllButFresh n len) dev.old dev.new }
+    ensures moments { Keeps D.Device (AllButFresh n len) dev.old dev.new }
     ensures sizes { D.blocks dev.new ≡ D.blocks dev.old }
-    ensures cause { HasCause (D.faults dev.old) (D.faults dev.new) result }
+    ensures cause { HasCause any_error (D.faults dev.old) (D.faults dev.new) result }
     ensures reads { D.reads dev.new ≡ D.reads dev.old }
 {
     write_blocks(dev, n, len)?;

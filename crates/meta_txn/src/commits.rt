@@ -1,7 +1,7 @@
 // A batch written and told.
 ghost use Rattle.std.specs.Prelude.{◌≡◌, ◌≤◌, ◌<◌, ◌+◌, ◌^◌, ℕ, Bool, [], true, length, IsOk, IfErr, OnOk, OnErr};
 ghost use Rattle.blk_cache.specs.Cache.{capacity_of, Agrees, AgreesTold};
-ghost use Rattle.blk_device.specs.Causes.{HasCause};
+ghost use Rattle.blk_device.specs.Causes.{HasCause, any_error};
 ghost use Rattle.blk_device.specs.Contents.{Contents, Becomes};
 ghost use Rattle.blk_device.specs.declared.device.Region.TheVariants.{Image, Redo};
 ghost use Rattle.redo_area.specs.Area.{bytes_of, put_homes, with_batch};
@@ -63,7 +63,7 @@ fn write_some<D: Device>(
     ensures agrees { OnOk result (AgreesTold cache.new (D.content dev.new)) }
     ensures untold { OnErr result (cache.new ≡ cache.old) }
     ensures capacity { capacity_of cache.new ≡ capacity_of cache.old }
-    ensures cause { HasCause (D.faults dev.old) (D.faults dev.new) result }
+    ensures cause { HasCause any_error (D.faults dev.old) (D.faults dev.new) result }
     ensures reads { D.reads dev.new ≡ D.reads dev.old }
     ensures told { StaysTold (D.content dev.old) (D.content dev.new) }
     ensures sizes { D.blocks dev.new ≡ D.blocks dev.old }
@@ -102,7 +102,7 @@ pub fn write_batch<D: Device, L: Ledger>(
     ensures capacity { capacity_of cache.new ≡ capacity_of cache.old }
     ensures ticks { steps.new ≡ record steps.old { writes = steps.old.writes + length batch.now } }
     ensures kind { IfErr result (λ fault. fault ≡ TxnFault.Failed) }
-    ensures cause { HasCause (D.faults dev.old) (D.faults dev.new) result }
+    ensures cause { HasCause any_error (D.faults dev.old) (D.faults dev.new) result }
     ensures reads { D.reads dev.new ≡ D.reads dev.old }
     ensures told { StaysTold (D.content dev.old) (D.content dev.new) }
     ensures sizes { D.blocks dev.new ≡ D.blocks dev.old }

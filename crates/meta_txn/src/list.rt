@@ -1,7 +1,7 @@
 // Lists of numbered blocks, and one block read.
 ghost use Rattle.std.specs.Prelude.{◌≡◌, ◌+◌, ◌≤◌, ◌<◌, length, vec_len, vec_capacity, option_map, IfOk, IfErr};
 ghost use Rattle.blk_cache.specs.Cache.{AgreesTold};
-ghost use Rattle.blk_device.specs.Causes.{HasCause};
+ghost use Rattle.blk_device.specs.Causes.{HasCause, any_error};
 ghost use Rattle.blk_device.specs.Contents.{Holds};
 ghost use Rattle.blk_device.specs.Crash.{Elapses, NoMore};
 ghost use Rattle.blk_device.specs.declared.device.Region.TheVariants.{Image};
@@ -77,7 +77,7 @@ pub fn load<D: Device, L: Ledger>(
     ensures crash { NoMore (D.may_hold_now dev.old) (D.may_hold_now dev.new) }
     ensures time { Elapses (D.clock dev.old) (D.clock dev.new) (D.may_have_held_since dev.old) (D.may_have_held_since dev.new) (D.may_hold_now dev.new) }
     ensures sizes { D.blocks dev.new ≡ D.blocks dev.old }
-    ensures cause { HasCause (D.faults dev.old) (D.faults dev.new) result }
+    ensures cause { HasCause any_error (D.faults dev.old) (D.faults dev.new) result }
     ensures agrees { AgreesTold cache.new (D.content dev.new) }
 {
     let mut block = Block::zeroed();

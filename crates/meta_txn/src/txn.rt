@@ -37,7 +37,7 @@ impl Txn {
     ghost use Rattle.std.specs.Prelude.{◌≤◌, ◌+◌, ◌↔◌, ℕ, Bool, List, [], true, false, length, is_some, option_map, IsOk, IfOk, IfErr, OnOk, OnErr, IsErrOf};
     ghost use Rattle.std.specs.Borrow.{sem};
     ghost use Rattle.blk_cache.specs.Cache.{capacity_of, AgreesTold};
-    ghost use Rattle.blk_device.specs.Causes.{HasCause, Rose};
+    ghost use Rattle.blk_device.specs.Causes.{HasCause, any_error, Rose};
     ghost use Rattle.blk_device.specs.Contents.{Becomes, Holds};
     ghost use Rattle.blk_device.specs.Crash.{Elapses, NoMore};
     ghost use Rattle.blk_device.specs.declared.device.Region.TheVariants.{Image, Redo};
@@ -120,7 +120,7 @@ impl Txn {
         ensures time { Elapses (D.clock dev.old) (D.clock dev.new) (D.may_have_held_since dev.old) (D.may_have_held_since dev.new) (D.may_hold_now dev.new) }
         ensures sizes { D.blocks dev.new ≡ D.blocks dev.old }
         ensures kind { IfErr result (λ fault. fault ≡ TxnFault.Failed) }
-        ensures cause { HasCause (D.faults dev.old) (D.faults dev.new) result }
+        ensures cause { HasCause any_error (D.faults dev.old) (D.faults dev.new) result }
         ensures agrees { AgreesTold cache.new (D.content dev.new) }
     {
         match self.joined(at) {
@@ -272,7 +272,7 @@ impl Txn {
         ensures capacity { capacity_of cache.new ≡ capacity_of cache.old }
         ensures ticks { steps.new ≡ record steps.old { writes = steps.old.writes + length self.old.blocks } }
         ensures kind { IfErr result (λ fault. fault ≡ TxnFault.Failed) }
-        ensures cause { HasCause (D.faults dev.old) (D.faults dev.new) result }
+        ensures cause { HasCause any_error (D.faults dev.old) (D.faults dev.new) result }
         ensures reads { D.reads dev.new ≡ D.reads dev.old }
         ensures told { StaysTold (D.content dev.old) (D.content dev.new) }
         ensures sizes { D.blocks dev.new ≡ D.blocks dev.old }

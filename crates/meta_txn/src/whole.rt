@@ -1,6 +1,6 @@
 // A batch written whole, or not at all after a crash.
 ghost use Rattle.std.specs.Prelude.{◌≡◌, ◌≤◌, ◌<◌, ℕ, Bool, true, length, OnOk};
-ghost use Rattle.blk_device.specs.Causes.{HasCause};
+ghost use Rattle.blk_device.specs.Causes.{HasCause, any_error};
 ghost use Rattle.blk_device.specs.Contents.{Becomes};
 ghost use Rattle.blk_device.specs.declared.device.Region.TheVariants.{Image, Redo};
 ghost use Rattle.redo_area.specs.Area.{bytes_of, with_batch};
@@ -30,7 +30,7 @@ fn write_waiting<D: Device>(dev: &mut D, batch: &[(u64, Block)]) -> Result<(), D
         (IsWaitingBut K (D.blocks dev.old Image) (bytes_of batch.now)) (AfterBut K (with_batch (bytes_of batch.now))) }
     ensures told { StaysTold (D.content dev.old) (D.content dev.new) }
     ensures sizes { D.blocks dev.new ≡ D.blocks dev.old }
-    ensures cause { HasCause (D.faults dev.old) (D.faults dev.new) result }
+    ensures cause { HasCause any_error (D.faults dev.old) (D.faults dev.new) result }
     ensures reads { D.reads dev.new ≡ D.reads dev.old }
 {
     install(dev, batch)?;
@@ -53,7 +53,7 @@ fn write_ready<D: Device>(dev: &mut D, batch: &[(u64, Block)]) -> Result<(), Dev
         (IsReadyBut K (D.blocks dev.old Image) (bytes_of batch.now)) (BeforeOrAfterBut K (with_batch (bytes_of batch.now))) }
     ensures told { StaysTold (D.content dev.old) (D.content dev.new) }
     ensures sizes { D.blocks dev.new ≡ D.blocks dev.old }
-    ensures cause { HasCause (D.faults dev.old) (D.faults dev.new) result }
+    ensures cause { HasCause any_error (D.faults dev.old) (D.faults dev.new) result }
     ensures reads { D.reads dev.new ≡ D.reads dev.old }
 {
     open_gate(dev)?;
@@ -74,7 +74,7 @@ fn prepared<D: Device>(dev: &mut D, batch: &[(u64, Block)]) -> Result<(), Device
     ensures any_moment_but { (K : ℕ → Bool) → LeavesFrom D.Device dev.old dev.new (AtRestBut K) (StandsForBut K) }
     ensures told { StaysTold (D.content dev.old) (D.content dev.new) }
     ensures sizes { D.blocks dev.new ≡ D.blocks dev.old }
-    ensures cause { HasCause (D.faults dev.old) (D.faults dev.new) result }
+    ensures cause { HasCause any_error (D.faults dev.old) (D.faults dev.new) result }
     ensures reads { D.reads dev.new ≡ D.reads dev.old }
 {
     match prepare(dev, batch) {
@@ -101,7 +101,7 @@ pub fn write_whole<D: Device>(dev: &mut D, batch: &[(u64, Block)]) -> Result<(),
         (AtRestBut K) (BeforeOrAfterBut K (with_batch (bytes_of batch.now))) }
     ensures told { StaysTold (D.content dev.old) (D.content dev.new) }
     ensures sizes { D.blocks dev.new ≡ D.blocks dev.old }
-    ensures cause { HasCause (D.faults dev.old) (D.faults dev.new) result }
+    ensures cause { HasCause any_error (D.faults dev.old) (D.faults dev.new) result }
     ensures reads { D.reads dev.new ≡ D.reads dev.old }
 {
     prepared(dev, batch)?;

@@ -4,7 +4,7 @@ use Rattle.std.specs.Prelude.{if◌then◌else◌}
 use Rattle.blk_device.specs.declared.device.Region.{Region}
 use Rattle.blk_device.specs.declared.device.Region.TheVariants.{Image, Redo}
 use Rattle.blk_device.specs.Contents.{Contents, put, map_told, Becomes, Holds}
-use Rattle.blk_device.specs.Crash.{LeavesOnly, Reached, Keeps, IsDurable}
+use Rattle.blk_device.specs.Crash.{LeavesOnly, Reached, IsDurable}
 use Rattle.blk_device.proofs.Moments.{weaken}
 use Rattle.blk_device.proofs.Told.{where_told, as_told, becomes_by}
 use Rattle.redo_area.specs.Table.{table_fault, table_numbers}
@@ -25,55 +25,55 @@ ended (Ok x) told now new change r P Q is durable before so =
 ended (Err x) told now new change r P Q is durable before so = tt
 
 module _ {D : Type 0} (clock : D → ℕ) (held_since : D → ℕ → Contents → Type 0) (may_hold : D → Contents → Type 0) (size : ℕ) (old new : D) (told : Option Contents) where
-  pub while_behind : Keeps clock held_since may_hold BehindGate old new → IfSome told (λ m. AtRest (may_hold old) m → LeavesOnly clock held_since old new (StandsFor size (m Image)))
+  pub while_behind : LeavesOnly clock held_since old new (Reached BehindGate (may_hold old)) → IfSome told (λ m. AtRest (may_hold old) m → LeavesOnly clock held_since old new (StandsFor size (m Image)))
   while_behind run =
       where_told told (λ m is rest. weaken clock held_since old new (Reached BehindGate (may_hold old)) (StandsFor size (m Image)) run (behind_law size (may_hold old) m rest.quiet rest.shut))
 
-  pub while_gate : (ps : Batch) → Keeps clock held_since may_hold AllButGate old new
+  pub while_gate : (ps : Batch) → LeavesOnly clock held_since old new (Reached AllButGate (may_hold old))
       → IfSome told (λ m. IsReady size ps (may_hold old) m → LeavesOnly clock held_since old new (λ c. StandsFor size (m Image) c ⊎ StandsFor size (with_batch ps (m Image)) c))
   while_gate ps run =
       where_told told (λ m is ready.
       weaken clock held_since old new (Reached AllButGate (may_hold old)) (λ c. StandsFor size (m Image) c ⊎ StandsFor size (with_batch ps (m Image)) c) run
       (λ c from. subst (λ (l : Batch). StandsFor size (m Image) c ⊎ StandsFor size (with_batch l (m Image)) c) ready.stands (gate_law size (may_hold old) m ready.quiet ready.sound c from)))
 
-  pub while_homes : (ps : Batch) → Keeps clock held_since may_hold (AllButHomes (homes_of ps)) old new → IfSome told (λ m. IsWaiting size ps (may_hold old) m → LeavesOnly clock held_since old new (StandsFor size (with_batch ps (m Image))))
+  pub while_homes : (ps : Batch) → LeavesOnly clock held_since old new (Reached (AllButHomes (homes_of ps)) (may_hold old)) → IfSome told (λ m. IsWaiting size ps (may_hold old) m → LeavesOnly clock held_since old new (StandsFor size (with_batch ps (m Image))))
   while_homes ps run =
       where_told told (λ m is waits.
       weaken clock held_since old new (Reached (AllButHomes (homes_of ps)) (may_hold old)) (StandsFor size (with_batch ps (m Image))) run
       (homes_law size (may_hold old) m waits.ready.quiet ps waits.opened waits.ready.stands waits.ready.sound))
 
-  pub while_closing : Keeps clock held_since may_hold AllButGate old new → IfSome told (λ m. IsInstalled size (may_hold old) m → LeavesOnly clock held_since old new (StandsFor size (m Image)))
+  pub while_closing : LeavesOnly clock held_since old new (Reached AllButGate (may_hold old)) → IfSome told (λ m. IsInstalled size (may_hold old) m → LeavesOnly clock held_since old new (StandsFor size (m Image)))
   while_closing run =
       where_told told (λ m is done.
       weaken clock held_since old new (Reached AllButGate (may_hold old)) (StandsFor size (m Image)) run
       (λ c from. ⊎_elim (λ was. was) (λ with_it. record { image = with_it.image ∙ done.same; sound = with_it.sound }) (gate_law size (may_hold old) m done.quiet done.sound c from)))
 
   -- the same but for the blocks in K
-  pub while_behind_but : (K : ℕ → Bool) → Keeps clock held_since may_hold BehindGate old new → IfSome told (λ m. AtRestBut K (may_hold old) m → LeavesOnly clock held_since old new (StandsForBut K size (m Image)))
+  pub while_behind_but : (K : ℕ → Bool) → LeavesOnly clock held_since old new (Reached BehindGate (may_hold old)) → IfSome told (λ m. AtRestBut K (may_hold old) m → LeavesOnly clock held_since old new (StandsForBut K size (m Image)))
   while_behind_but K run =
       where_told told (λ m is rest. weaken clock held_since old new (Reached BehindGate (may_hold old)) (StandsForBut K size (m Image)) run (behind_but K size (may_hold old) m rest.quiet rest.shut))
 
-  pub while_gate_but : (K : ℕ → Bool) (ps : Batch) → Keeps clock held_since may_hold AllButGate old new
+  pub while_gate_but : (K : ℕ → Bool) (ps : Batch) → LeavesOnly clock held_since old new (Reached AllButGate (may_hold old))
       → IfSome told (λ m. IsReadyBut K size ps (may_hold old) m → LeavesOnly clock held_since old new (λ c. StandsForBut K size (m Image) c ⊎ StandsForBut K size (with_batch ps (m Image)) c))
   while_gate_but K ps run =
       where_told told (λ m is ready.
       weaken clock held_since old new (Reached AllButGate (may_hold old)) (λ c. StandsForBut K size (m Image) c ⊎ StandsForBut K size (with_batch ps (m Image)) c) run
       (λ c from. subst (λ (l : Batch). StandsForBut K size (m Image) c ⊎ StandsForBut K size (with_batch l (m Image)) c) ready.stands (gate_but K size (may_hold old) m ready.quiet ready.sound c from)))
 
-  pub while_homes_but : (K : ℕ → Bool) (ps : Batch) → Keeps clock held_since may_hold (AllButHomes (homes_of ps)) old new
+  pub while_homes_but : (K : ℕ → Bool) (ps : Batch) → LeavesOnly clock held_since old new (Reached (AllButHomes (homes_of ps)) (may_hold old))
       → IfSome told (λ m. IsWaitingBut K size ps (may_hold old) m → LeavesOnly clock held_since old new (StandsForBut K size (with_batch ps (m Image))))
   while_homes_but K ps run =
       where_told told (λ m is waits.
       weaken clock held_since old new (Reached (AllButHomes (homes_of ps)) (may_hold old)) (StandsForBut K size (with_batch ps (m Image))) run
       (homes_but K size (may_hold old) m waits.ready.quiet ps waits.opened waits.ready.stands waits.ready.sound))
 
-  pub while_closing_but : (K : ℕ → Bool) → Keeps clock held_since may_hold AllButGate old new → IfSome told (λ m. IsInstalledBut K size (may_hold old) m → LeavesOnly clock held_since old new (StandsForBut K size (m Image)))
+  pub while_closing_but : (K : ℕ → Bool) → LeavesOnly clock held_since old new (Reached AllButGate (may_hold old)) → IfSome told (λ m. IsInstalledBut K size (may_hold old) m → LeavesOnly clock held_since old new (StandsForBut K size (m Image)))
   while_closing_but K run =
       where_told told (λ m is done.
       weaken clock held_since old new (Reached AllButGate (may_hold old)) (StandsForBut K size (m Image)) run
       (λ c from. ⊎_elim (λ was. was) (λ with_it. record { image = λ b out. with_it.image b out ∙ done.same b out; sound = with_it.sound }) (gate_but K size (may_hold old) m done.quiet done.sound c from)))
 
-  pub while_recovering : (bytes : List ℕ) → table_fault size bytes ≡ None → IfSome told (IsFound bytes (may_hold old)) → Keeps clock held_since may_hold (AllButHomes (table_numbers bytes)) old new
+  pub while_recovering : (bytes : List ℕ) → table_fault size bytes ≡ None → IfSome told (IsFound bytes (may_hold old)) → LeavesOnly clock held_since old new (Reached (AllButHomes (table_numbers bytes)) (may_hold old))
       → IfSome told (λ m. LeavesOnly clock held_since old new (StandsFor size (after_crash m)))
   while_recovering bytes none found run =
       where_told told (λ m is.

@@ -1,7 +1,8 @@
 ghost use Rattle.std.specs.Prelude.{◌≡◌, ◌≤◌, ◌<◌, ◌+◌, ◌^◌, ◌↔◌, ℕ, Bool, true, length, slice_index, OnOk, IsErrOf};
-ghost use Rattle.blk_device.specs.Causes.{HasCause, Rose};
+ghost use Rattle.blk_device.specs.Causes.{HasCause, any_error, Rose};
 ghost use Rattle.blk_device.specs.Contents.{map_told, put};
-ghost use Rattle.blk_device.specs.Crash.{IsDurable, Keeps};
+ghost use Rattle.blk_device.specs.Crash.{IsDurable};
+ghost use Rattle.blk_device.specs.Reading.{Keeps};
 ghost use Rattle.blk_device.specs.declared.device.Region.TheVariants.{Image, Redo};
 ghost use Rattle.redo_area.specs.Area.{Batch, put_copies, put_homes, homes_of, BehindGate, AllButGate, AllButHomes, bytes_of, gate_bytes, staged, with_batch};
 ghost use Rattle.redo_area.specs.Calls.{LeavesFrom, Reaches};
@@ -20,10 +21,10 @@ fn write_copies<D: Device>(dev: &mut D, batch: &[(u64, Block)]) -> Result<(), De
     requires few { length batch.now ≤ MAX_BATCH }
     requires room { REDO_BLOCKS ≤ D.blocks dev.old Redo }
     ensures written { OnOk result (D.content dev.new ≡ map_told (put_copies batch.now FIRST_COPY) (D.content dev.old)) }
-    ensures moments { Keeps D.clock D.may_have_held_since D.may_hold_now BehindGate dev.old dev.new }
+    ensures moments { Keeps D.Device BehindGate dev.old dev.new }
     ensures told { StaysTold (D.content dev.old) (D.content dev.new) }
     ensures sizes { D.blocks dev.new ≡ D.blocks dev.old }
-    ensures cause { HasCause (D.faults dev.old) (D.faults dev.new) result }
+    ensures cause { HasCause any_error (D.faults dev.old) (D.faults dev.new) result }
     ensures reads { D.reads dev.new ≡ D.reads dev.old }
 {
     let mut rest = batch;
@@ -40,10 +41,10 @@ fn write_copies<D: Device>(dev: &mut D, batch: &[(u64, Block)]) -> Result<(), De
 fn write_homes<D: Device>(dev: &mut D, batch: &[(u64, Block)]) -> Result<(), DeviceFailed>
     requires { rises 0 (D.blocks dev.old Image) (places batch.now) ≡ true }
     ensures written { OnOk result (D.content dev.new ≡ map_told (put_homes (bytes_of batch.now)) (D.content dev.old)) }
-    ensures moments { Keeps D.clock D.may_have_held_since D.may_hold_now (AllButHomes (homes_of (bytes_of batch.now))) dev.old dev.new }
+    ensures moments { Keeps D.Device (AllButHomes (homes_of (bytes_of batch.now))) dev.old dev.new }
     ensures told { StaysTold (D.content dev.old) (D.content dev.new) }
     ensures sizes { D.blocks dev.new ≡ D.blocks dev.old }
-    ensures cause { HasCause (D.faults dev.old) (D.faults dev.new) result }
+    ensures cause { HasCause any_error (D.faults dev.old) (D.faults dev.new) result }
     ensures reads { D.reads dev.new ≡ D.reads dev.old }
 {
     let mut rest = batch;
@@ -70,10 +71,10 @@ fn write_gate<D: Device>(dev: &mut D, gate: &Block) -> Result<(), DeviceFailed>
     requires { REDO_BLOCKS ≤ D.blocks dev.old Redo }
     ensures written { OnOk result (D.content dev.new ≡ map_told (put Redo 0 gate.now.bytes) (D.content dev.old)) }
     ensures durable { OnOk result (IsDurable Redo (D.content dev.new) (D.may_hold_now dev.new)) }
-    ensures moments { Keeps D.clock D.may_have_held_since D.may_hold_now AllButGate dev.old dev.new }
+    ensures moments { Keeps D.Device AllButGate dev.old dev.new }
     ensures told { StaysTold (D.content dev.old) (D.content dev.new) }
     ensures sizes { D.blocks dev.new ≡ D.blocks dev.old }
-    ensures cause { HasCause (D.faults dev.old) (D.faults dev.new) result }
+    ensures cause { HasCause any_error (D.faults dev.old) (D.faults dev.new) result }
     ensures reads { D.reads dev.new ≡ D.reads dev.old }
 {
     dev.write(Region::Redo, GATE_BLOCK, gate)?;
@@ -86,11 +87,11 @@ fn stage<D: Device>(dev: &mut D, batch: &[(u64, Block)]) -> Result<(), DeviceFai
     requires room { REDO_BLOCKS ≤ D.blocks dev.old Redo }
     ensures written { OnOk result (D.content dev.new ≡ map_told (staged (D.blocks dev.old Image) batch.now) (D.content dev.old)) }
     ensures durable { OnOk result (IsDurable Redo (D.content dev.new) (D.may_hold_now dev.new)) }
-    ensures moments { Keeps D.clock D.may_have_held_since D.may_hold_now BehindGate dev.old dev.new }
+    ensures moments { Keeps D.Device BehindGate dev.old dev.new }
     ensures bound { D.blocks dev.old Image < 2 ^ 64 }
     ensures told { StaysTold (D.content dev.old) (D.content dev.new) }
     ensures sizes { D.blocks dev.new ≡ D.blocks dev.old }
-    ensures cause { HasCause (D.faults dev.old) (D.faults dev.new) result }
+    ensures cause { HasCause any_error (D.faults dev.old) (D.faults dev.new) result }
     ensures reads { D.reads dev.new ≡ D.reads dev.old }
 {
     let table = table_block(batch, dev.size(Region::Image));
@@ -148,7 +149,7 @@ pub fn open_gate<D: Device>(dev: &mut D) -> Result<(), DeviceFailed>
         (IsReadyBut K (D.blocks dev.old Image) batch) (BeforeOrAfterBut K (with_batch batch)) }
     ensures told { StaysTold (D.content dev.old) (D.content dev.new) }
     ensures sizes { D.blocks dev.new ≡ D.blocks dev.old }
-    ensures cause { HasCause (D.faults dev.old) (D.faults dev.new) result }
+    ensures cause { HasCause any_error (D.faults dev.old) (D.faults dev.new) result }
     ensures reads { D.reads dev.new ≡ D.reads dev.old }
 {
     write_gate(dev, &gate_block(1))
@@ -173,7 +174,7 @@ pub fn install<D: Device>(dev: &mut D, batch: &[(u64, Block)]) -> Result<(), Dev
         (IsWaitingBut K (D.blocks dev.old Image) (bytes_of batch.now)) (AfterBut K (with_batch (bytes_of batch.now))) }
     ensures told { StaysTold (D.content dev.old) (D.content dev.new) }
     ensures sizes { D.blocks dev.new ≡ D.blocks dev.old }
-    ensures cause { HasCause (D.faults dev.old) (D.faults dev.new) result }
+    ensures cause { HasCause any_error (D.faults dev.old) (D.faults dev.new) result }
     ensures reads { D.reads dev.new ≡ D.reads dev.old }
 {
     write_homes(dev, batch)?;
@@ -194,7 +195,7 @@ pub fn close_gate<D: Device>(dev: &mut D) -> Result<(), DeviceFailed>
         (IsInstalledBut K (D.blocks dev.old Image)) (StandsForBut K) }
     ensures told { StaysTold (D.content dev.old) (D.content dev.new) }
     ensures sizes { D.blocks dev.new ≡ D.blocks dev.old }
-    ensures cause { HasCause (D.faults dev.old) (D.faults dev.new) result }
+    ensures cause { HasCause any_error (D.faults dev.old) (D.faults dev.new) result }
     ensures reads { D.reads dev.new ≡ D.reads dev.old }
 {
     write_gate(dev, &gate_block(0))

@@ -1,7 +1,8 @@
 ghost use Rattle.std.specs.Prelude.{◌≡◌, ◌≤◌, ◌<◌, ◌≢◌, ◌+◌, ◌⊎◌, ◌↔◌, ℕ, true, false, length, None, IfSome, IfOk, IfErr, OnOk, OnErr, IsErrOf};
-ghost use Rattle.blk_device.specs.Causes.{HasCause, Rose, one_more};
+ghost use Rattle.blk_device.specs.Causes.{HasCause, any_error, Rose, one_more};
 ghost use Rattle.blk_device.specs.Contents.{map_told, Becomes};
-ghost use Rattle.blk_device.specs.Crash.{Elapses, IsDurable, Keeps, LeavesOnly, NoMore};
+ghost use Rattle.blk_device.specs.Crash.{Elapses, IsDurable, LeavesOnly, NoMore};
+ghost use Rattle.blk_device.specs.Reading.{Keeps};
 ghost use Rattle.blk_device.specs.declared.device.Region.TheVariants.{Image, Redo};
 ghost use Rattle.redo_area.specs.Area.{put_waiting, AllButHomes, after_crash, after_recovery, closed_over, is_open};
 ghost use Rattle.redo_area.specs.Calls.{Leaves};
@@ -24,10 +25,10 @@ fn write_waiting<D: Device>(dev: &mut D, table: &Block) -> Result<(), DeviceFail
     requires room { REDO_BLOCKS ≤ D.blocks dev.old Redo }
     requires rise { rises 0 (D.blocks dev.old Image) (table_numbers table.now.bytes) ≡ true }
     ensures written { OnOk result (D.content dev.new ≡ map_told (put_waiting (table_numbers table.now.bytes) 2) (D.content dev.old)) }
-    ensures moments { Keeps D.clock D.may_have_held_since D.may_hold_now (AllButHomes (table_numbers table.now.bytes)) dev.old dev.new }
+    ensures moments { Keeps D.Device (AllButHomes (table_numbers table.now.bytes)) dev.old dev.new }
     ensures told { StaysTold (D.content dev.old) (D.content dev.new) }
     ensures sizes { D.blocks dev.new ≡ D.blocks dev.old }
-    ensures cause { HasCause (D.faults dev.old) (D.faults dev.new) result }
+    ensures cause { HasCause any_error (D.faults dev.old) (D.faults dev.new) result }
     ensures reads { RaisedUpTo MAX_BATCH (D.reads dev.old) (D.reads dev.new) }
 {
     let mut copy = Block::zeroed();
@@ -54,7 +55,7 @@ fn look<D: Device>(dev: &mut D, table: &mut Block) -> Result<bool, DeviceFailed>
     ensures crash { NoMore (D.may_hold_now dev.old) (D.may_hold_now dev.new) }
     ensures moments { LeavesOnly D.clock D.may_have_held_since dev.old dev.new (D.may_hold_now dev.old) }
     ensures sizes { D.blocks dev.new ≡ D.blocks dev.old }
-    ensures cause { HasCause (D.faults dev.old) (D.faults dev.new) result }
+    ensures cause { HasCause any_error (D.faults dev.old) (D.faults dev.new) result }
     ensures reads { RaisedUpTo 2 (D.reads dev.old) (D.reads dev.new) }
 {
     dev.sync(Region::Image)?;
@@ -78,7 +79,7 @@ fn install_waiting<D: Device>(dev: &mut D, table: &Block) -> Result<(), DeviceFa
     ensures any_moment { IfSome (D.content dev.old) (λ m. Leaves D.Device dev.old dev.new (StandsFor (D.blocks dev.old Image) (after_crash m))) }
     ensures told { StaysTold (D.content dev.old) (D.content dev.new) }
     ensures sizes { D.blocks dev.new ≡ D.blocks dev.old }
-    ensures cause { HasCause (D.faults dev.old) (D.faults dev.new) result }
+    ensures cause { HasCause any_error (D.faults dev.old) (D.faults dev.new) result }
     ensures reads { RaisedUpTo MAX_BATCH (D.reads dev.old) (D.reads dev.new) }
 {
     write_waiting(dev, table)?;
@@ -95,7 +96,7 @@ fn finish<D: Device>(dev: &mut D, table: &Block) -> Result<(), DeviceFailed>
     ensures any_moment { IfSome (D.content dev.old) (λ m. Leaves D.Device dev.old dev.new (StandsFor (D.blocks dev.old Image) (after_crash m))) }
     ensures told { StaysTold (D.content dev.old) (D.content dev.new) }
     ensures sizes { D.blocks dev.new ≡ D.blocks dev.old }
-    ensures cause { HasCause (D.faults dev.old) (D.faults dev.new) result }
+    ensures cause { HasCause any_error (D.faults dev.old) (D.faults dev.new) result }
     ensures reads { RaisedUpTo MAX_BATCH (D.reads dev.old) (D.reads dev.new) }
 {
     install_waiting(dev, table)?;

@@ -2,10 +2,10 @@
 use Rattle.std.proofs.Common.{◌≡◌, ℕ, ◌+◌, ◌<◌, ◌≤◌, List, [], ◌∷◌, ◌++◌, length, false, Result, Ok, Err, IfErr, IsErr, refl, sym, ◌∙◌, ap, subst, append_assoc, arith}
 use Rattle.std.specs.Prelude.{IsErrAnd}
 use Rattle.std.proofs.lemmas.List.{append-nil}
-use Rattle.blk_device.specs.Causes.{MovesOnly}
+use Rattle.blk_device.specs.Causes.{HasCause, MovesOnly}
 use Rattle.fs_model.specs.declared.entry.Entry.{Entry}
 use Rattle.space_check.specs.Events.{Event, Moment, reads_of, entries_of, most_entries, HasRoom, AreDone, IsCutOff, EndsAt, StopsIn, Does}
-use Rattle.space_check.specs.Progress.{is_failed, Adds, HasCause, IsOutside, IsOwn}
+use Rattle.space_check.specs.Progress.{is_failed, Adds, IsOutside, IsOwn}
 use Rattle.space_check.specs.declared.halt.Halt.{Halt}
 use Rattle.space_check.specs.declared.halt.Halt.TheVariants as halts
 
@@ -98,12 +98,12 @@ pub with_err : {T : Type 0} (P : Result T Halt → Type 0) (halt : Halt) (result
 with_err P halt (Ok done) is p = absurd is.1
 with_err P halt (Err e) is p = subst (λ (h : Halt). P (Err h)) (sym is.1) p
 
-pub err_cause : {T : Type 0} (before mid now : ℕ) (halt : Halt) (result : Result T Halt) → IsErr result × IsErrAnd result (λ e. e ≡ halt) → mid ≡ before → MovesOnly (is_failed halt) mid now → HasCause before now result
+pub err_cause : {T : Type 0} (before mid now : ℕ) (halt : Halt) (result : Result T Halt) → IsErr result × IsErrAnd result (λ e. e ≡ halt) → mid ≡ before → MovesOnly (is_failed halt) mid now → HasCause is_failed before now result
 err_cause before mid now halt (Ok done) is same cause = absurd is.1
 err_cause before mid now halt (Err e) is same cause =
     subst (λ (h : Halt). MovesOnly (is_failed h) before now) (sym is.1) (subst (λ (n : ℕ). MovesOnly (is_failed halt) n now) same cause)
 
-pub own_cause : {T : Type 0} (now : ℕ) (result : Result T Halt) → IfErr result IsOwn → HasCause now now result
+pub own_cause : {T : Type 0} (now : ℕ) (result : Result T Halt) → IfErr result IsOwn → HasCause is_failed now now result
 own_cause now (Ok done) own = refl
 own_cause now (Err halt) own = rw own refl
 

@@ -6,7 +6,7 @@ use Rattle.ag_headers.specs.Agfl.{agfl_fault}
 use Rattle.ag_headers.specs.Agi.{agi_fault}
 use Rattle.ag_headers.specs.declared.agf.Agf.{Agf as SpaceHead}
 use Rattle.ag_headers.specs.declared.fault.HeadFault.{HeadFault}
-use Rattle.blk_device.specs.Causes.{HasCauseBy}
+use Rattle.blk_device.specs.Causes.{HasCause}
 use Rattle.blk_device.specs.Taken.{IsFront}
 use Rattle.fs_model.specs.declared.entry.Entry.{Entry}
 use Rattle.fs_model.specs.declared.unit.Head.{Head}
@@ -136,7 +136,7 @@ MeetsCheck decided (Err stop) = MeetsHalt decided stop.cause stop.journal.items
 
 -- a failed device is told only where its count rose, and no other answer moves the count
 abbrev pub CheckCause : ℕ → ℕ → Result (Vec Entry) CheckStop → Type 0
-CheckCause before now result = HasCauseBy (λ stop. is_failed stop.cause) before now result
+CheckCause before now result = HasCause (λ stop. is_failed stop.cause) before now result
 
 -- ---- steps of the check
 

@@ -2,7 +2,6 @@
 use Rattle.std.specs.Prelude.{◌≡◌, ◌<◌, ◌≤◌, ⊤, ℕ, ◌+◌, Bool, true, false, List, ◌++◌, length, Option, Some, None, Result, Ok, Err}
 use Rattle.std.specs.Global.{Vec}
 use Rattle.ag_headers.specs.declared.fault.HeadFault.{HeadFault}
-use Rattle.blk_device.specs.Causes.{HasCauseBy}
 use Rattle.fs_model.specs.declared.entry.Entry.{Entry}
 use Rattle.fs_model.specs.declared.fault.Fault.{Fault}
 use Rattle.fs_model.specs.declared.unit.Head.{Head}
@@ -16,10 +15,6 @@ is_failed (halts.Head g head fault) = false
 is_failed halts.Full = false
 is_failed halts.Failed = true
 is_failed halts.Memory = false
-
--- a failed device is told only where its count rose, and no other answer moves the count
-abbrev pub HasCause : {T : Type 0} → ℕ → ℕ → Result T Halt → Type 0
-HasCause before now result = HasCauseBy is_failed before now result
 
 -- the device failed, or there was no memory
 abbrev pub IsOutside : Halt → Type 0

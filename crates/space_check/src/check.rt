@@ -8,7 +8,8 @@ ghost use Rattle.geom.specs.Places.{layout};
 ghost use Rattle.space_check.specs.Checked.{CheckCause, EndsCheck, IsCheck, MeetsCheck, agfs_from, checked, events_from, heads_at};
 ghost use Rattle.space_check.specs.Events.{Does, moment};
 ghost use Rattle.space_check.specs.Groups.{group_events};
-ghost use Rattle.space_check.specs.Progress.{HasCause};
+ghost use Rattle.blk_device.specs.Causes.{HasCause};
+ghost use Rattle.space_check.specs.Progress.{is_failed};
 ghost use Rattle.space_check.specs.Session.{AddsGroup, AddsGroups, EndsInSession, IsSession};
 
 use crate::group::check_group;
@@ -44,7 +45,7 @@ fn check_one<D: Device, L: Ledger>(
     ensures exact { (c : Contents) → D.content dev.old ≡ Some c → Does (group_events (layout geo.now) (c Image) g (agf_of (heads_at (layout geo.now) (c Image) g))) (moment journal.old.entries.items steps.old.reads) (moment journal.new.entries.items steps.new.reads) result }
     ensures group { AddsGroup g journal.old.entries.items journal.new.entries.items result }
     ensures reading { OnlyRead D.Device dev.old dev.new steps.old steps.new }
-    ensures cause { HasCause (D.faults dev.old) (D.faults dev.new) result }
+    ensures cause { HasCause is_failed (D.faults dev.old) (D.faults dev.new) result }
     ensures agrees { AgreesTold cache.new (D.content dev.new) }
 {
     check_group(alloc, dev, cache, geo, g, &agfs[g as usize], journal, steps)
@@ -67,7 +68,7 @@ fn check_groups<D: Device, L: Ledger>(
     ensures exact { (c : Contents) → D.content dev.old ≡ Some c → Does (events_from (layout geo.now) (c Image) 0 geo.now.agcount) (moment journal.old.entries.items steps.old.reads) (moment journal.new.entries.items steps.new.reads) result }
     ensures groups { AddsGroups geo.now.agcount journal.old.entries.items journal.new.entries.items result }
     ensures reading { OnlyRead D.Device dev.old dev.new steps.old steps.new }
-    ensures cause { HasCause (D.faults dev.old) (D.faults dev.new) result }
+    ensures cause { HasCause is_failed (D.faults dev.old) (D.faults dev.new) result }
 {
     for g in 0..geo.agcount {
         check_one(alloc, dev, cache, geo, g, agfs, journal, steps)?;
@@ -90,7 +91,7 @@ fn check_all<D: Device, L: Ledger>(
     ensures exact { (c : Contents) → D.content dev.old ≡ Some c → EndsCheck (layout geo.now) (c Image) (moment [] steps.old.reads) (moment journal.new.entries.items steps.new.reads) result }
     ensures session { EndsInSession geo.now.agcount journal.new.entries.items result }
     ensures reading { OnlyRead D.Device dev.old dev.new steps.old steps.new }
-    ensures cause { HasCause (D.faults dev.old) (D.faults dev.new) result }
+    ensures cause { HasCause is_failed (D.faults dev.old) (D.faults dev.new) result }
 {
     let agfs = test_heads(alloc, dev, cache, geo, steps)?;
     check_groups(alloc, dev, cache, geo, agfs.as_slice(), journal, steps)
@@ -109,7 +110,7 @@ fn check_into<D: Device, L: Ledger>(
     ensures exact { (c : Contents) → D.content dev.old ≡ Some c → EndsCheck (layout geo.now) (c Image) (moment [] steps.old.reads) (moment journal.new.entries.items steps.new.reads) result }
     ensures session { EndsInSession geo.now.agcount journal.new.entries.items result }
     ensures reading { OnlyRead D.Device dev.old dev.new steps.old steps.new }
-    ensures cause { HasCause (D.faults dev.old) (D.faults dev.new) result }
+    ensures cause { HasCause is_failed (D.faults dev.old) (D.faults dev.new) result }
 {
     let mut cache = BlkCache::new(alloc, 0)?;
     check_all(alloc, dev, &mut cache, geo, journal, steps)

@@ -8,7 +8,8 @@ ghost use Rattle.rmap_recs.specs.Rmap.{rmap_form};
 ghost use Rattle.space_check.specs.Events.{Does, moment, most_entries};
 ghost use Rattle.space_check.specs.Faults.{free_faults, shared_faults};
 ghost use Rattle.space_check.specs.Groups.{blocks_read, tree_of, free_reads, free_event, shared_event, judged_events, group_events};
-ghost use Rattle.space_check.specs.Progress.{AreFaults, HasCause, HasRead, IsOutside};
+ghost use Rattle.blk_device.specs.Causes.{HasCause};
+ghost use Rattle.space_check.specs.Progress.{is_failed, AreFaults, HasRead, IsOutside};
 ghost use Rattle.space_check.specs.Session.{AddsGroup, AddsUnit};
 ghost use Rattle.space_check.specs.Reads.{reading_of, IsSound};
 ghost use Rattle.span_recs.specs.Refcounts.{refc_form};
@@ -52,7 +53,7 @@ fn free_faults_of<D: Device, L: Ledger>(
     ensures counted { (c : Contents) → D.content dev.old ≡ Some c → HasRead steps.old.reads (free_reads (layout geo.now) (c Image) g agf.now) steps.new.reads result }
     ensures outside { IfErr result IsOutside }
     ensures reading { OnlyRead D.Device dev.old dev.new steps.old steps.new }
-    ensures cause { HasCause (D.faults dev.old) (D.faults dev.new) result }
+    ensures cause { HasCause is_failed (D.faults dev.old) (D.faults dev.new) result }
     ensures agrees { AgreesTold cache.new (D.content dev.new) }
 {
     let by_start = bno_tree(agf, g);
@@ -84,7 +85,7 @@ fn check_free<D: Device, L: Ledger>(
         → Does (free_event (layout geo.now) (c Image) g agf.now mapped.now.recs.items (length mapped.now.blocks.items) n ∷ []) (moment journal.old.entries.items before) (moment journal.new.entries.items steps.new.reads) result }
     ensures unit { AddsUnit g Unit.Free journal.old.entries.items journal.new.entries.items result }
     ensures reading { OnlyRead D.Device dev.old dev.new steps.old steps.new }
-    ensures cause { HasCause (D.faults dev.old) (D.faults dev.new) result }
+    ensures cause { HasCause is_failed (D.faults dev.old) (D.faults dev.new) result }
     ensures agrees { AgreesTold cache.new (D.content dev.new) }
 {
     let faults = free_faults_of(alloc, dev, cache, geo, g, agf, mapped, steps)?;
@@ -110,7 +111,7 @@ fn shared_faults_of<D: Device, L: Ledger>(
     ensures counted { (c : Contents) → D.content dev.old ≡ Some c → HasRead steps.old.reads (blocks_read (layout geo.now) (c Image) g refc_form agf.now.refcount_root agf.now.refcount_level) steps.new.reads result }
     ensures outside { IfErr result IsOutside }
     ensures reading { OnlyRead D.Device dev.old dev.new steps.old steps.new }
-    ensures cause { HasCause (D.faults dev.old) (D.faults dev.new) result }
+    ensures cause { HasCause is_failed (D.faults dev.old) (D.faults dev.new) result }
     ensures agrees { AgreesTold cache.new (D.content dev.new) }
 {
     let counts = refc_tree(agf, g);
@@ -138,7 +139,7 @@ fn check_shared<D: Device, L: Ledger>(
     ensures exact { (c : Contents) → D.content dev.old ≡ Some c → Does (shared_event (layout geo.now) (c Image) g agf.now mappings.now ∷ []) (moment journal.old.entries.items steps.old.reads) (moment journal.new.entries.items steps.new.reads) result }
     ensures unit { AddsUnit g Unit.Refc journal.old.entries.items journal.new.entries.items result }
     ensures reading { OnlyRead D.Device dev.old dev.new steps.old steps.new }
-    ensures cause { HasCause (D.faults dev.old) (D.faults dev.new) result }
+    ensures cause { HasCause is_failed (D.faults dev.old) (D.faults dev.new) result }
     ensures agrees { AgreesTold cache.new (D.content dev.new) }
 {
     journal.begin()?;
@@ -167,7 +168,7 @@ fn check_units<D: Device, L: Ledger>(
         → Does (free_event (layout geo.now) (c Image) g agf.now mapped.now.recs.items (length mapped.now.blocks.items) n ∷ shared_event (layout geo.now) (c Image) g agf.now mapped.now.recs.items ∷ []) (moment journal.old.entries.items before) (moment journal.new.entries.items steps.new.reads) result }
     ensures group { AddsGroup g journal.old.entries.items journal.new.entries.items result }
     ensures reading { OnlyRead D.Device dev.old dev.new steps.old steps.new }
-    ensures cause { HasCause (D.faults dev.old) (D.faults dev.new) result }
+    ensures cause { HasCause is_failed (D.faults dev.old) (D.faults dev.new) result }
     ensures agrees { AgreesTold cache.new (D.content dev.new) }
 {
     check_free(alloc, dev, cache, geo, g, agf, mapped, journal, steps)?;
@@ -196,7 +197,7 @@ fn check_by<D: Device, L: Ledger>(
         → Does (judged_events (layout geo.now) (c Image) g agf.now n (reading_of rmap.now)) (moment journal.old.entries.items before) (moment journal.new.entries.items steps.new.reads) result }
     ensures group { AddsGroup g journal.old.entries.items journal.new.entries.items result }
     ensures reading { OnlyRead D.Device dev.old dev.new steps.old steps.new }
-    ensures cause { HasCause (D.faults dev.old) (D.faults dev.new) result }
+    ensures cause { HasCause is_failed (D.faults dev.old) (D.faults dev.new) result }
     ensures agrees { AgreesTold cache.new (D.content dev.new) }
 {
     match rmap {
@@ -227,7 +228,7 @@ pub fn check_group<D: Device, L: Ledger>(
     ensures exact { (c : Contents) → D.content dev.old ≡ Some c → Does (group_events (layout geo.now) (c Image) g agf.now) (moment journal.old.entries.items steps.old.reads) (moment journal.new.entries.items steps.new.reads) result }
     ensures group { AddsGroup g journal.old.entries.items journal.new.entries.items result }
     ensures reading { OnlyRead D.Device dev.old dev.new steps.old steps.new }
-    ensures cause { HasCause (D.faults dev.old) (D.faults dev.new) result }
+    ensures cause { HasCause is_failed (D.faults dev.old) (D.faults dev.new) result }
     ensures agrees { AgreesTold cache.new (D.content dev.new) }
 {
     journal.begin()?;

@@ -5,7 +5,8 @@ ghost use Rattle.blk_device.specs.Contents.{Contents};
 ghost use Rattle.blk_device.specs.declared.device.Region.TheVariants.{Image};
 ghost use Rattle.geom.specs.Places.{layout};
 ghost use Rattle.space_check.specs.Checked.{agfs_from, bad_head, heads_at, LooksAtHeads};
-ghost use Rattle.space_check.specs.Progress.{HasCause, IsHead, IsNotFull, IsOutside, MeetsHead};
+ghost use Rattle.blk_device.specs.Causes.{HasCause};
+ghost use Rattle.space_check.specs.Progress.{is_failed, IsHead, IsNotFull, IsOutside, MeetsHead};
 ghost use Rattle.blk_device.specs.Reading.{OnlyRead};
 
 use crate::halt::Halt;
@@ -63,7 +64,7 @@ fn load_heads<D: Device, L: Ledger>(
     ensures told { IfOk result (λ block. (c : Contents) → D.content dev.old ≡ Some c → block.bytes ≡ heads_at (layout geo.now) (c Image) g) }
     ensures outside { IfErr result IsOutside }
     ensures reading { OnlyRead D.Device dev.old dev.new steps.old steps.new }
-    ensures cause { HasCause (D.faults dev.old) (D.faults dev.new) result }
+    ensures cause { HasCause is_failed (D.faults dev.old) (D.faults dev.new) result }
     ensures agrees { AgreesTold cache.new (D.content dev.new) }
 {
     let site = Site::of_group(geo, g);
@@ -97,7 +98,7 @@ fn test_group<D: Device, L: Ledger>(
     ensures counted { steps.new.reads ≡ steps.old.reads + 1 }
     ensures clear { IfErr result IsNotFull }
     ensures reading { OnlyRead D.Device dev.old dev.new steps.old steps.new }
-    ensures cause { HasCause (D.faults dev.old) (D.faults dev.new) result }
+    ensures cause { HasCause is_failed (D.faults dev.old) (D.faults dev.new) result }
     ensures agrees { AgreesTold cache.new (D.content dev.new) }
 {
     let block = load_heads(dev, cache, geo, g, steps)?;
@@ -123,7 +124,7 @@ pub fn test_heads<D: Device, L: Ledger>(
     ensures all { IfOk result (λ agfs. length agfs.items ≡ geo.now.agcount) }
     ensures clear { IfErr result IsNotFull }
     ensures reading { OnlyRead D.Device dev.old dev.new steps.old steps.new }
-    ensures cause { HasCause (D.faults dev.old) (D.faults dev.new) result }
+    ensures cause { HasCause is_failed (D.faults dev.old) (D.faults dev.new) result }
     ensures agrees { AgreesTold cache.new (D.content dev.new) }
 {
     let mut agfs = Vec::new(alloc);

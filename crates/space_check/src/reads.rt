@@ -5,7 +5,8 @@ ghost use Rattle.blk_device.specs.declared.device.Region.TheVariants.{Image};
 ghost use Rattle.geom.specs.Places.{layout};
 ghost use Rattle.space_check.specs.Faults.{Reading};
 ghost use Rattle.space_check.specs.Groups.{blocks_read, tree_of};
-ghost use Rattle.space_check.specs.Progress.{HasCause, HasRead, IsOutside};
+ghost use Rattle.blk_device.specs.Causes.{HasCause};
+ghost use Rattle.space_check.specs.Progress.{is_failed, HasRead, IsOutside};
 ghost use Rattle.space_check.specs.Reads.{IsBad, IsReading, IsSound};
 ghost use Rattle.tree_blocks.specs.Meets.{Refuses};
 ghost use Rattle.blk_device.specs.Reading.{OnlyRead};
@@ -34,7 +35,7 @@ pub enum IndexRead<R> {
 // What a walk that read no tree says of it.
 fn unread<R>(fault: WalkFault) -> Result<IndexRead<R>, Halt>
     ensures exact { (read : Reading R) → Refuses read fault → IsReading read result }
-    ensures cause { (before now : ℕ) → CauseOf before now fault → HasCause before now result }
+    ensures cause { (before now : ℕ) → CauseOf before now fault → HasCause is_failed before now result }
     ensures counted { (before n after : ℕ) → CountedBy before n after fault → HasRead before n after result }
     ensures bad { IfOk result IsBad }
     ensures outside { IfErr result IsOutside }
@@ -66,7 +67,7 @@ pub fn read_index<K: RecKind, D: Device, L: Ledger>(
     ensures outside { IfErr result IsOutside }
     ensures sound { IfOk result (IsSound K.form (bounds_of (layout geo.now) tree.now.group)) }
     ensures reading { OnlyRead D.Device dev.old dev.new steps.old steps.new }
-    ensures cause { HasCause (D.faults dev.old) (D.faults dev.new) result }
+    ensures cause { HasCause is_failed (D.faults dev.old) (D.faults dev.new) result }
     ensures agrees { AgreesTold cache.new (D.content dev.new) }
 {
     match walk::<K, D, L>(alloc, dev, cache, geo, tree, steps) {

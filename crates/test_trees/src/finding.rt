@@ -3,7 +3,8 @@ ghost use Rattle.std.specs.Prelude.{◌≡◌};
 ghost use Rattle.sblock.specs.declared.kind.Kind.TheVariants.{Bno};
 
 use crate::build::{BNO, NONE, header_of};
-use crate::small::{device_of, one_group, summed, tree_at, with_word, with_words};
+use crate::read::tree_at;
+use crate::small::{device_of, one_group, summed, with_word, with_words};
 use blk_cache::BlkCache;
 use blk_device::{Device, MemDevice, Region};
 use byte_fields::{Block, Steps};

@@ -5,10 +5,8 @@ use crate::build::{UUID, put_block_sum, put_word, put_words};
 use blk_device::MemDevice;
 use byte_fields::Block;
 use geom::Geometry;
-use sblock::Kind;
 use std::alloc::{AllocError, Global};
 use std::collections::BTreeMap;
-use tree_walk::TreeAt;
 
 /// The group, which is the only one.
 pub fn one_group() -> Geometry
@@ -24,20 +22,6 @@ pub fn one_group() -> Geometry
         log: None,
         kept: [192, 193, 194, 0, 0, 0],
         inobtcount: true,
-    }
-}
-
-/// The tree of this kind with this root and so many levels.
-pub fn tree_at(kind: Kind, root: u32, levels: u32) -> TreeAt
-    ensures kind { result.kind ≡ kind }
-    ensures group { result.group ≡ 0 }
-{
-    TreeAt {
-        kind,
-        group: 0,
-        root,
-        levels,
-        lsn: 0,
     }
 }
 

@@ -1,6 +1,6 @@
 -- What a call that only reads does to a group's blocks, and when it may tell a failed device.
-use Rattle.std.specs.Prelude.{◌≡◌, ℕ, ◌≤◌, Bool, true, false, List, Option, Result}
-use Rattle.blk_device.specs.Causes.{MovesOnly, HasCauseBy}
+use Rattle.std.specs.Prelude.{◌≡◌, ℕ, ◌≤◌, Bool, true, false, List, Option}
+use Rattle.blk_device.specs.Causes.{MovesOnly}
 use Rattle.tree_defs.specs.declared.site.Site.{Site}
 use Rattle.tree_blocks.specs.declared.tree.WalkFault.{WalkFault}
 use Rattle.tree_blocks.specs.declared.tree.WalkFault.TheVariants.{Bad, Failed, Memory}
@@ -21,6 +21,3 @@ is_failed Memory = false
 -- a failed device is told only where its count rose, and no other answer moves the count
 abbrev pub CauseOf : ℕ → ℕ → WalkFault → Type 0
 CauseOf before now fault = MovesOnly (is_failed fault) before now
-
-abbrev pub HasCause : {A : Type 0} → ℕ → ℕ → Result A WalkFault → Type 0
-HasCause before now result = HasCauseBy is_failed before now result

@@ -4,7 +4,8 @@ ghost use Rattle.tree_defs.specs.Tree.{want_of};
 ghost use Rattle.tree_defs.specs.Claims.{lone_fault};
 ghost use Rattle.tree_blocks.specs.Meets.{RefusesTold, IsNoMemory};
 ghost use Rattle.tree_blocks.specs.Calls.{Reads};
-ghost use Rattle.tree_blocks.specs.Reading.{HasCause};
+ghost use Rattle.blk_device.specs.Causes.{HasCause};
+ghost use Rattle.tree_blocks.specs.Reading.{is_failed};
 
 use crate::blocks::Blocks;
 use crate::tree::WalkFault;
@@ -75,7 +76,7 @@ pub fn open_block<K: RecKind, B: Blocks>(
     ensures refused { IfErr result (RefusesTold (B.told blocks.old) p (lone_fault K.form site.now level root p)) }
     ensures no_memory { IfErr result IsNoMemory }
     ensures reading { Reads B.Blocks blocks.old blocks.new }
-    ensures cause { HasCause (B.faults blocks.old) (B.faults blocks.new) result }
+    ensures cause { HasCause is_failed (B.faults blocks.old) (B.faults blocks.new) result }
     ensures one { B.count blocks.new ≡ B.count blocks.old + 1 }
 {
     let block = blocks.load(p)?;

@@ -1,6 +1,7 @@
 ghost use Rattle.std.specs.Prelude.{◌≡◌, ◌+◌, ◌*◌, ◌^◌, ◌<◌, ◌≤◌, ℕ, List, Option, Some, IfOk, IfErr};
 ghost use Rattle.tree_defs.specs.declared.site.Site.{Site as GhostSite};
-ghost use Rattle.tree_blocks.specs.Reading.{HasCause, ReadsBy};
+ghost use Rattle.blk_device.specs.Causes.{HasCause};
+ghost use Rattle.tree_blocks.specs.Reading.{ReadsBy, is_failed};
 
 use crate::tree::WalkFault;
 use byte_fields::Block;
@@ -27,7 +28,7 @@ pub trait Blocks {
         ensures told { IfOk result (λ block. (m : ℕ → List ℕ) → told self.old ≡ Some m → block.bytes ≡ m p) }
         ensures failed { IfErr result (λ fault. fault ≡ WalkFault.Failed) }
         ensures reading { ReadsBy told place faults follows self.old self.new }
-        ensures cause { HasCause (faults self.old) (faults self.new) result }
+        ensures cause { HasCause is_failed (faults self.old) (faults self.new) result }
         ensures one { count self.new ≡ count self.old + 1 };
 
     ghost fits: { (s : Self) → 8 * ((place s).first + (place s).bounds.length) < 2 ^ 64 };

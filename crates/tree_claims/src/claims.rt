@@ -9,7 +9,8 @@ ghost use Rattle.tree_defs.specs.Sites.{site_of};
 ghost use Rattle.tree_blocks.specs.Told.{OfTree};
 ghost use Rattle.tree_blocks.specs.Calls.{Reads};
 ghost use Rattle.blk_device.specs.Reading.{OnlyRead};
-ghost use Rattle.tree_blocks.specs.Reading.{HasCause};
+ghost use Rattle.blk_device.specs.Causes.{HasCause};
+ghost use Rattle.tree_blocks.specs.Reading.{is_failed};
 ghost use Rattle.tree_claims.specs.Looks.{IsOutside, LieBelow};
 ghost use Rattle.tree_claims.specs.Rows.{AreClaims, ReadsInGroup, ReadsRows};
 
@@ -50,7 +51,7 @@ fn claimed_from<K: RecKind, B: Blocks>(
     ensures lies { IfOk result (λ set. LieBelow site.now.bounds.length (has set)) }
     ensures refused { IfErr result IsOutside }
     ensures reading { Reads B.Blocks blocks.old blocks.new }
-    ensures cause { HasCause (B.faults blocks.old) (B.faults blocks.new) result }
+    ensures cause { HasCause is_failed (B.faults blocks.old) (B.faults blocks.new) result }
     ensures few { B.count blocks.new ≤ B.count blocks.old + 9 * site.now.bounds.length }
     ensures each { (m : ℕ → List ℕ) → B.told blocks.old ≡ Some m → OnOk result (ReadsRows K.form site.now m root levels (B.count blocks.old) (B.count blocks.new)) }
 {
@@ -85,7 +86,7 @@ fn claimed_at<K: RecKind, B: Blocks>(
     ensures lies { IfOk result (λ set. LieBelow site.now.bounds.length (has set)) }
     ensures refused { IfErr result IsOutside }
     ensures reading { Reads B.Blocks blocks.old blocks.new }
-    ensures cause { HasCause (B.faults blocks.old) (B.faults blocks.new) result }
+    ensures cause { HasCause is_failed (B.faults blocks.old) (B.faults blocks.new) result }
     ensures few { B.count blocks.new ≤ B.count blocks.old + 9 * site.now.bounds.length }
     ensures each { (m : ℕ → List ℕ) → B.told blocks.old ≡ Some m → OnOk result (ReadsInGroup K.form site.now m tree.now.root tree.now.levels (B.count blocks.old) (B.count blocks.new)) }
 {
@@ -118,7 +119,7 @@ pub fn claimed<K: RecKind, D: Device, L: Ledger>(
     ensures inside { IfOk result (λ set. (b : ℕ) → has set b ≡ true → b < group_len_of (layout geo.now) tree.now.group) }
     ensures refused { IfErr result IsOutside }
     ensures reading { OnlyRead D.Device dev.old dev.new steps.old steps.new }
-    ensures cause { HasCause (D.faults dev.old) (D.faults dev.new) result }
+    ensures cause { HasCause is_failed (D.faults dev.old) (D.faults dev.new) result }
     ensures agrees { AgreesTold cache.new (D.content dev.new) }
     ensures few { steps.new.reads ≤ steps.old.reads + 9 * group_len_of (layout geo.now) tree.now.group }
     ensures each { OfTree (layout geo.now) tree.now (D.content dev.old) (λ s m r n. OnOk result (ReadsInGroup K.form s m r n steps.old.reads steps.new.reads)) }

@@ -7,7 +7,8 @@ ghost use Rattle.sblock.specs.Kinds.{node_most_of};
 ghost use Rattle.tree_defs.specs.Claims.{Leads, is_named};
 ghost use Rattle.tree_blocks.specs.Meets.{IsMemory};
 ghost use Rattle.tree_blocks.specs.Calls.{Reads};
-ghost use Rattle.tree_blocks.specs.Reading.{HasCause};
+ghost use Rattle.blk_device.specs.Causes.{HasCause};
+ghost use Rattle.tree_blocks.specs.Reading.{is_failed};
 ghost use Rattle.tree_claims.specs.Lists.{lists};
 ghost use Rattle.tree_claims.specs.Looks.{blocks_in, Grows, IsOutside, LieBelow, Looks};
 
@@ -103,7 +104,7 @@ fn look_at<K: RecKind, B: Blocks>(
     ensures next_lies { LieBelow site.now.bounds.length (lists next.old.items) → OnOk result (LieBelow site.now.bounds.length (lists next.new.items)) }
     ensures refused { IfErr result IsOutside }
     ensures reading { Reads B.Blocks blocks.old blocks.new }
-    ensures cause { HasCause (B.faults blocks.old) (B.faults blocks.new) result }
+    ensures cause { HasCause is_failed (B.faults blocks.old) (B.faults blocks.new) result }
     ensures one { B.count blocks.new ≡ B.count blocks.old + 1 }
 {
     let block = blocks.load(p)?;
@@ -129,7 +130,7 @@ fn look_along<K: RecKind, B: Blocks>(
     ensures next_lies { LieBelow site.now.bounds.length (lists next.old.items) → OnOk result (LieBelow site.now.bounds.length (lists next.new.items)) }
     ensures refused { IfErr result IsOutside }
     ensures reading { Reads B.Blocks blocks.old blocks.new }
-    ensures cause { HasCause (B.faults blocks.old) (B.faults blocks.new) result }
+    ensures cause { HasCause is_failed (B.faults blocks.old) (B.faults blocks.new) result }
     ensures most_reads { B.count blocks.new ≤ B.count blocks.old + run.now.count }
     ensures each { OnOk result (B.count blocks.new ≡ B.count blocks.old + run.now.count) }
 {
@@ -160,7 +161,7 @@ pub fn look_level<K: RecKind, B: Blocks>(
     ensures next_lies { IfOk result (λ next. LieBelow site.now.bounds.length (lists next.items)) }
     ensures refused { IfErr result IsOutside }
     ensures reading { Reads B.Blocks blocks.old blocks.new }
-    ensures cause { HasCause (B.faults blocks.old) (B.faults blocks.new) result }
+    ensures cause { HasCause is_failed (B.faults blocks.old) (B.faults blocks.new) result }
     ensures few { B.count blocks.new ≤ B.count blocks.old + site.now.bounds.length }
     ensures each { OnOk result (B.count blocks.new ≡ B.count blocks.old + blocks_in (runs_of reached.now)) }
 {

@@ -1,7 +1,8 @@
 ghost use Rattle.std.specs.Prelude.{◌≡◌, List, ℕ, ◌+◌, ◌-◌, ◌<◌, ◌≤◌, IfOk, IfErr, IfSome, Some};
 ghost use Rattle.tree_blocks.specs.Meets.{IsNoMemory};
 ghost use Rattle.tree_blocks.specs.Calls.{Reads};
-ghost use Rattle.tree_blocks.specs.Reading.{HasCause};
+ghost use Rattle.blk_device.specs.Causes.{HasCause};
+ghost use Rattle.tree_blocks.specs.Reading.{is_failed};
 ghost use Rattle.tree_cover.specs.Covers.{IsSought};
 ghost use Rattle.tree_cover.specs.Covering.{spare_in, spare_of as spare_of_lem, resumed, cover_in};
 ghost use Rattle.tree_cover.specs.Found.{MeetsSearch, IsSpare, most_behind};
@@ -33,7 +34,7 @@ fn search_spare<K: RecKind, B: Blocks>(
     ensures sought { IfOk result (λ found. IfSome found (IsSought K.form site.now.bounds asked.now.run asked.now.after)) }
     ensures no_memory { IfErr result IsNoMemory }
     ensures reading { Reads B.Blocks blocks.old blocks.new }
-    ensures cause { HasCause (B.faults blocks.old) (B.faults blocks.new) result }
+    ensures cause { HasCause is_failed (B.faults blocks.old) (B.faults blocks.new) result }
     ensures few { B.count blocks.new ≤ B.count blocks.old + (level + 1) }
 {
     let block = match open_block::<K, B>(blocks, site, level, false, p) {
@@ -74,7 +75,7 @@ fn resume<K: RecKind, B: Blocks>(
     ensures sought { IfOk result (λ found. IfSome found (IsSought K.form site.now.bounds asked.now.run asked.now.after)) }
     ensures no_memory { IfErr result IsNoMemory }
     ensures reading { Reads B.Blocks blocks.old blocks.new }
-    ensures cause { HasCause (B.faults blocks.old) (B.faults blocks.new) result }
+    ensures cause { HasCause is_failed (B.faults blocks.old) (B.faults blocks.new) result }
     ensures few { B.count blocks.new ≤ B.count blocks.old + most_behind 0 spare }
 {
     match spare {
@@ -101,7 +102,7 @@ pub fn search<K: RecKind, B: Blocks>(
     ensures sought { IfOk result (λ found. IfSome found (IsSought K.form site.now.bounds asked.now.run asked.now.after)) }
     ensures no_memory { IfErr result IsNoMemory }
     ensures reading { Reads B.Blocks blocks.old blocks.new }
-    ensures cause { HasCause (B.faults blocks.old) (B.faults blocks.new) result }
+    ensures cause { HasCause is_failed (B.faults blocks.old) (B.faults blocks.new) result }
     ensures few { B.count blocks.new ≤ B.count blocks.old + (level + 1 + most_behind level spare) }
 {
     let block = match open_block::<K, B>(blocks, site, level, root, p) {

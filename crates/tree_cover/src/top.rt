@@ -8,7 +8,8 @@ ghost use Rattle.tree_blocks.specs.Told.{OfTree};
 ghost use Rattle.tree_blocks.specs.Meets.{RefusesBlock, IsNoMemory};
 ghost use Rattle.tree_blocks.specs.Calls.{Reads};
 ghost use Rattle.blk_device.specs.Reading.{OnlyRead};
-ghost use Rattle.tree_blocks.specs.Reading.{HasCause, CauseOf};
+ghost use Rattle.blk_device.specs.Causes.{HasCause};
+ghost use Rattle.tree_blocks.specs.Reading.{CauseOf, is_failed};
 ghost use Rattle.tree_cover.specs.Answers.{AnswersReadable};
 ghost use Rattle.tree_cover.specs.Covers.{IsSought};
 ghost use Rattle.tree_cover.specs.Covering.{covering_in};
@@ -55,7 +56,7 @@ fn search_site<K: RecKind, B: Blocks>(
     ensures sought { IfOk result (λ found. IfSome found (IsSought K.form site.now.bounds asked.now.run asked.now.after)) }
     ensures no_memory { IfErr result IsNoMemory }
     ensures reading { Reads B.Blocks blocks.old blocks.new }
-    ensures cause { HasCause (B.faults blocks.old) (B.faults blocks.new) result }
+    ensures cause { HasCause is_failed (B.faults blocks.old) (B.faults blocks.new) result }
     ensures few { B.count blocks.new ≤ B.count blocks.old + 18 }
     ensures two_a_level { 1 ≤ tree.now.levels → B.count blocks.new ≤ B.count blocks.old + 2 * tree.now.levels }
 {
@@ -99,7 +100,7 @@ pub fn covering<K: Covers, D: Device, L: Ledger>(
     ensures sought { IfOk result (λ found. IfSome found (IsSought K.form (bounds_of (layout geo.now) tree.now.group) run after)) }
     ensures no_memory { IfErr result IsNoMemory }
     ensures reading { OnlyRead D.Device dev.old dev.new steps.old steps.new }
-    ensures cause { HasCause (D.faults dev.old) (D.faults dev.new) result }
+    ensures cause { HasCause is_failed (D.faults dev.old) (D.faults dev.new) result }
     ensures agrees { AgreesTold cache.new (D.content dev.new) }
     ensures few { steps.new.reads ≤ steps.old.reads + 18 }
     ensures two_a_level { 1 ≤ tree.now.levels → steps.new.reads ≤ steps.old.reads + 2 * tree.now.levels }

@@ -7,7 +7,8 @@ ghost use Rattle.tree_blocks.specs.Told.{OfTree};
 ghost use Rattle.tree_blocks.specs.Meets.{IsNoMemory};
 ghost use Rattle.tree_blocks.specs.Calls.{Reads};
 ghost use Rattle.blk_device.specs.Reading.{OnlyRead};
-ghost use Rattle.tree_blocks.specs.Reading.{HasCause};
+ghost use Rattle.blk_device.specs.Causes.{HasCause};
+ghost use Rattle.tree_blocks.specs.Reading.{is_failed};
 ghost use Rattle.tree_find.specs.Find.{find_below, find_in, way_of};
 ghost use Rattle.tree_find.specs.Laws.{WhereHolds, IsFound};
 ghost use Rattle.tree_find.specs.Meets.{Meets, Finds};
@@ -37,7 +38,7 @@ fn find_node<K: RecKind, B: Blocks>(
     ensures sound { IfOk result (λ found. IfSome found (λ rec. IsFound K.form site.now.bounds key.now rec)) }
     ensures no_memory { IfErr result IsNoMemory }
     ensures reading { Reads B.Blocks blocks.old blocks.new }
-    ensures cause { HasCause (B.faults blocks.old) (B.faults blocks.new) result }
+    ensures cause { HasCause is_failed (B.faults blocks.old) (B.faults blocks.new) result }
     ensures few { B.count blocks.new ≤ B.count blocks.old + (if nat_le level 8 then level + 1 else 1) }
 {
     let block = match open_block::<K, B>(blocks, site, level, root, p) {
@@ -65,7 +66,7 @@ pub fn find_site<K: RecKind, B: Blocks>(
     ensures sound { IfOk result (λ found. IfSome found (λ rec. IsFound K.form site.now.bounds key.now rec)) }
     ensures no_memory { IfErr result IsNoMemory }
     ensures reading { Reads B.Blocks blocks.old blocks.new }
-    ensures cause { HasCause (B.faults blocks.old) (B.faults blocks.new) result }
+    ensures cause { HasCause is_failed (B.faults blocks.old) (B.faults blocks.new) result }
     ensures few { B.count blocks.new ≤ B.count blocks.old + way_of tree.now.levels }
 {
     let root = tree.root;
@@ -101,7 +102,7 @@ pub fn find<K: RecKind, D: Device, L: Ledger>(
     ensures sound { IfOk result (λ found. IfSome found (λ rec. IsFound K.form (bounds_of (layout geo.now) tree.now.group) key rec)) }
     ensures no_memory { IfErr result IsNoMemory }
     ensures reading { OnlyRead D.Device dev.old dev.new steps.old steps.new }
-    ensures cause { HasCause (D.faults dev.old) (D.faults dev.new) result }
+    ensures cause { HasCause is_failed (D.faults dev.old) (D.faults dev.new) result }
     ensures agrees { AgreesTold cache.new (D.content dev.new) }
     ensures few { steps.new.reads ≤ steps.old.reads + way_of tree.now.levels }
 {

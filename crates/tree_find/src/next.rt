@@ -4,7 +4,8 @@ ghost use Rattle.sblock.specs.Blocks.{numrecs, is_rising, records_of};
 ghost use Rattle.sblock.specs.Kinds.{leaf_most_of, node_most_of};
 ghost use Rattle.tree_blocks.specs.Meets.{IsMemory};
 ghost use Rattle.tree_blocks.specs.Calls.{Reads};
-ghost use Rattle.tree_blocks.specs.Reading.{HasCause};
+ghost use Rattle.blk_device.specs.Causes.{HasCause};
+ghost use Rattle.tree_blocks.specs.Reading.{is_failed};
 ghost use Rattle.tree_find.specs.Meets.{MeetsRecords, MeetsFound};
 ghost use Rattle.tree_find.specs.Next.{some_of, records_above, first_below, leaf_behind, next_below, AreAbove};
 
@@ -58,7 +59,7 @@ fn first_node<K: RecKind, B: Blocks>(
     ensures exact { (m : ℕ → List ℕ) → B.told blocks.old ≡ Some m → MeetsRecords (first_below K.form site.now m after.now level p) result }
     ensures sound { IfOk result (λ recs. AreAbove K.form site.now.bounds after.now recs.items) }
     ensures reading { Reads B.Blocks blocks.old blocks.new }
-    ensures cause { HasCause (B.faults blocks.old) (B.faults blocks.new) result }
+    ensures cause { HasCause is_failed (B.faults blocks.old) (B.faults blocks.new) result }
     ensures few { B.count blocks.new ≤ B.count blocks.old + level + 1 }
 {
     let block = match open_block::<K, B>(blocks, site, level, false, p) {
@@ -88,7 +89,7 @@ fn behind<K: RecKind, B: Blocks>(
     ensures exact { (m : ℕ → List ℕ) → B.told blocks.old ≡ Some m → MeetsFound (leaf_behind K.form site.now m after.now level block.now.bytes i) result }
     ensures sound { IfOk result (λ found. IfSome found (λ recs. AreAbove K.form site.now.bounds after.now recs.items)) }
     ensures reading { Reads B.Blocks blocks.old blocks.new }
-    ensures cause { HasCause (B.faults blocks.old) (B.faults blocks.new) result }
+    ensures cause { HasCause is_failed (B.faults blocks.old) (B.faults blocks.new) result }
     ensures few { B.count blocks.new ≤ B.count blocks.old + level + 1 }
     ensures none { IfOk result (λ found. IfNone found (B.count blocks.new ≡ B.count blocks.old)) }
 {
@@ -118,7 +119,7 @@ pub fn next_node<K: RecKind, B: Blocks>(
     ensures exact { (m : ℕ → List ℕ) → B.told blocks.old ≡ Some m → MeetsFound (next_below K.form site.now m after.now level root p) result }
     ensures sound { IfOk result (λ found. IfSome found (λ recs. AreAbove K.form site.now.bounds after.now recs.items)) }
     ensures reading { Reads B.Blocks blocks.old blocks.new }
-    ensures cause { HasCause (B.faults blocks.old) (B.faults blocks.new) result }
+    ensures cause { HasCause is_failed (B.faults blocks.old) (B.faults blocks.new) result }
     ensures few { B.count blocks.new ≤ B.count blocks.old + (if nat_le level 8 then 2 * level + 1 else 1) }
     ensures none { IfOk result (λ found. IfNone found (B.count blocks.new ≤ B.count blocks.old + level + 1)) }
 {

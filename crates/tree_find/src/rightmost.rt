@@ -9,7 +9,8 @@ ghost use Rattle.tree_defs.specs.Sites.{bounds_of};
 ghost use Rattle.tree_blocks.specs.Told.{OfTree};
 ghost use Rattle.tree_blocks.specs.Meets.{IsNoMemory};
 ghost use Rattle.tree_blocks.specs.Calls.{Reads};
-ghost use Rattle.tree_blocks.specs.Reading.{HasCause};
+ghost use Rattle.blk_device.specs.Causes.{HasCause};
+ghost use Rattle.tree_blocks.specs.Reading.{is_failed};
 ghost use Rattle.tree_find.specs.Find.{way_of};
 ghost use Rattle.tree_find.specs.Last.{last_of, last_below, last_in, IsSoundOne};
 ghost use Rattle.tree_find.specs.Laws.{WhereHolds};
@@ -51,7 +52,7 @@ fn last_node<K: RecKind, B: Blocks>(
     ensures sound { IfOk result (λ found. IfSome found (IsSoundOne K.form site.now.bounds)) }
     ensures no_memory { IfErr result IsNoMemory }
     ensures reading { Reads B.Blocks blocks.old blocks.new }
-    ensures cause { HasCause (B.faults blocks.old) (B.faults blocks.new) result }
+    ensures cause { HasCause is_failed (B.faults blocks.old) (B.faults blocks.new) result }
     ensures few { B.count blocks.new ≤ B.count blocks.old + (if nat_le level 8 then level + 1 else 1) }
 {
     let block = match open_block::<K, B>(blocks, site, level, root, p) {
@@ -77,7 +78,7 @@ pub fn last_site<K: RecKind, B: Blocks>(
     ensures sound { IfOk result (λ found. IfSome found (IsSoundOne K.form site.now.bounds)) }
     ensures no_memory { IfErr result IsNoMemory }
     ensures reading { Reads B.Blocks blocks.old blocks.new }
-    ensures cause { HasCause (B.faults blocks.old) (B.faults blocks.new) result }
+    ensures cause { HasCause is_failed (B.faults blocks.old) (B.faults blocks.new) result }
     ensures few { B.count blocks.new ≤ B.count blocks.old + way_of tree.now.levels }
 {
     let root = tree.root;
@@ -111,7 +112,7 @@ pub fn last<K: RecKind, D: Device, L: Ledger>(
     ensures sound { IfOk result (λ found. IfSome found (IsSoundOne K.form (bounds_of (layout geo.now) tree.now.group))) }
     ensures no_memory { IfErr result IsNoMemory }
     ensures reading { OnlyRead D.Device dev.old dev.new steps.old steps.new }
-    ensures cause { HasCause (D.faults dev.old) (D.faults dev.new) result }
+    ensures cause { HasCause is_failed (D.faults dev.old) (D.faults dev.new) result }
     ensures agrees { AgreesTold cache.new (D.content dev.new) }
     ensures few { steps.new.reads ≤ steps.old.reads + way_of tree.now.levels }
 {

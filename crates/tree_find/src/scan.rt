@@ -6,7 +6,8 @@ ghost use Rattle.tree_defs.specs.Sites.{bounds_of};
 ghost use Rattle.tree_blocks.specs.Told.{OfTree};
 ghost use Rattle.tree_blocks.specs.Calls.{Reads};
 ghost use Rattle.blk_device.specs.Reading.{OnlyRead};
-ghost use Rattle.tree_blocks.specs.Reading.{HasCause};
+ghost use Rattle.blk_device.specs.Causes.{HasCause};
+ghost use Rattle.tree_blocks.specs.Reading.{is_failed};
 ghost use Rattle.tree_find.specs.Find.{way_of};
 ghost use Rattle.tree_find.specs.Laws.{WhereHolds};
 ghost use Rattle.tree_find.specs.Meets.{MeetsRecords, GivesNext};
@@ -46,7 +47,7 @@ fn next_site<K: RecKind, B: Blocks>(
     ensures exact { (m : ℕ → List ℕ) → B.told blocks.old ≡ Some m → MeetsRecords (next_in K.form site.now m tree.now.root tree.now.levels after.now) result }
     ensures sound { IfOk result (λ recs. AreAbove K.form site.now.bounds after.now recs.items) }
     ensures reading { Reads B.Blocks blocks.old blocks.new }
-    ensures cause { HasCause (B.faults blocks.old) (B.faults blocks.new) result }
+    ensures cause { HasCause is_failed (B.faults blocks.old) (B.faults blocks.new) result }
     ensures few { B.count blocks.new ≤ B.count blocks.old + 2 * way_of tree.now.levels }
 {
     let root = tree.root;
@@ -86,7 +87,7 @@ pub fn next_leaf<K: RecKind, D: Device, L: Ledger>(
     ensures right { OfTree (layout geo.now) tree.now (D.content dev.old) (λ s m r n. WhereHolds K.form s m r n (λ recs. GivesNext K.form after recs result)) }
     ensures sound { IfOk result (λ recs. AreAbove K.form (bounds_of (layout geo.now) tree.now.group) after recs.items) }
     ensures reading { OnlyRead D.Device dev.old dev.new steps.old steps.new }
-    ensures cause { HasCause (D.faults dev.old) (D.faults dev.new) result }
+    ensures cause { HasCause is_failed (D.faults dev.old) (D.faults dev.new) result }
     ensures agrees { AgreesTold cache.new (D.content dev.new) }
     ensures few { steps.new.reads ≤ steps.old.reads + 2 * way_of tree.now.levels }
 {

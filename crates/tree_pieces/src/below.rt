@@ -4,7 +4,8 @@ ghost use Rattle.sblock.specs.Blocks.{numrecs, is_rising, records_of};
 ghost use Rattle.sblock.specs.Kinds.{leaf_most_of, node_most_of};
 ghost use Rattle.tree_blocks.specs.Calls.{Reads};
 ghost use Rattle.tree_blocks.specs.Meets.{IsMemory};
-ghost use Rattle.tree_blocks.specs.Reading.{HasCause};
+ghost use Rattle.blk_device.specs.Causes.{HasCause};
+ghost use Rattle.tree_blocks.specs.Reading.{is_failed};
 ghost use Rattle.tree_find.specs.Next.{place_above, records_above, AreAbove};
 ghost use Rattle.tree_pieces.specs.Meets.{MeetsFirst, MeetsMet};
 ghost use Rattle.tree_pieces.specs.Pieces.{first_piece as first_piece_of, piece_behind as piece_behind_of, piece_below, leaf_piece, is_first, met_with};
@@ -54,7 +55,7 @@ fn first_piece<K: RecKind, B: Blocks>(
     ensures exact { (m : ℕ → List ℕ) → B.told blocks.old ≡ Some m → MeetsFirst (first_piece_of K.form site.now m after.now level p met.old.items) result met.new.items }
     ensures sound { IfOk result (λ recs. AreAbove K.form site.now.bounds after.now recs.items) }
     ensures reading { Reads B.Blocks blocks.old blocks.new }
-    ensures cause { HasCause (B.faults blocks.old) (B.faults blocks.new) result }
+    ensures cause { HasCause is_failed (B.faults blocks.old) (B.faults blocks.new) result }
     ensures few { B.count blocks.new ≤ B.count blocks.old + level + 1 }
 {
     let block = match open_block::<K, B>(blocks, site, level, false, p) {
@@ -89,7 +90,7 @@ fn piece_behind<K: RecKind, B: Blocks>(
     ensures exact { (m : ℕ → List ℕ) → B.told blocks.old ≡ Some m → MeetsMet (piece_behind_of K.form site.now m after.now level block.now.bytes i met.old.items) result met.new.items }
     ensures sound { IfOk result (λ found. IfSome found (λ recs. AreAbove K.form site.now.bounds after.now recs.items)) }
     ensures reading { Reads B.Blocks blocks.old blocks.new }
-    ensures cause { HasCause (B.faults blocks.old) (B.faults blocks.new) result }
+    ensures cause { HasCause is_failed (B.faults blocks.old) (B.faults blocks.new) result }
     ensures few { B.count blocks.new ≤ B.count blocks.old + level + 1 }
     ensures none { IfOk result (λ found. IfNone found (B.count blocks.new ≡ B.count blocks.old)) }
 {
@@ -151,7 +152,7 @@ pub fn piece_node<K: RecKind, B: Blocks>(
     ensures exact { (m : ℕ → List ℕ) → B.told blocks.old ≡ Some m → MeetsMet (piece_below K.form site.now m after.now level root p met.old.items) result met.new.items }
     ensures sound { IfOk result (λ found. IfSome found (λ recs. AreAbove K.form site.now.bounds after.now recs.items)) }
     ensures reading { Reads B.Blocks blocks.old blocks.new }
-    ensures cause { HasCause (B.faults blocks.old) (B.faults blocks.new) result }
+    ensures cause { HasCause is_failed (B.faults blocks.old) (B.faults blocks.new) result }
     ensures few { B.count blocks.new ≤ B.count blocks.old + (if nat_le level 8 then 2 * level + 1 else 1) }
     ensures none { IfOk result (λ found. IfNone found (B.count blocks.new ≤ B.count blocks.old + level + 1)) }
 {

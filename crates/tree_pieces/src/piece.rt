@@ -6,7 +6,8 @@ ghost use Rattle.geom.specs.Places.{layout};
 ghost use Rattle.tree_defs.specs.Sites.{bounds_of};
 ghost use Rattle.tree_blocks.specs.Told.{OfTree};
 ghost use Rattle.tree_blocks.specs.Calls.{Reads};
-ghost use Rattle.tree_blocks.specs.Reading.{HasCause};
+ghost use Rattle.blk_device.specs.Causes.{HasCause};
+ghost use Rattle.tree_blocks.specs.Reading.{is_failed};
 ghost use Rattle.tree_find.specs.Find.{way_of};
 ghost use Rattle.tree_find.specs.Laws.{WhereHolds};
 ghost use Rattle.tree_find.specs.Next.{AreAbove};
@@ -47,7 +48,7 @@ pub fn piece_site<K: RecKind, B: Blocks>(
     ensures exact { (m : ℕ → List ℕ) → B.told blocks.old ≡ Some m → MeetsPiece (piece_in K.form site.now m tree.now.root tree.now.levels after.now) result }
     ensures sound { IfOk result (λ piece. AreAbove K.form site.now.bounds after.now piece.recs.items) }
     ensures reading { Reads B.Blocks blocks.old blocks.new }
-    ensures cause { HasCause (B.faults blocks.old) (B.faults blocks.new) result }
+    ensures cause { HasCause is_failed (B.faults blocks.old) (B.faults blocks.new) result }
     ensures few { B.count blocks.new ≤ B.count blocks.old + 2 * way_of tree.now.levels }
 {
     let root = tree.root;
@@ -92,7 +93,7 @@ pub fn path_piece<K: RecKind, D: Device, L: Ledger>(
     ensures right { OfTree (layout geo.now) tree.now (D.content dev.old) (λ s m r n. WhereHolds K.form s m r n (GivesPiece K.form m r n after result)) }
     ensures sound { IfOk result (λ piece. AreAbove K.form (bounds_of (layout geo.now) tree.now.group) after piece.recs.items) }
     ensures reading { OnlyRead D.Device dev.old dev.new steps.old steps.new }
-    ensures cause { HasCause (D.faults dev.old) (D.faults dev.new) result }
+    ensures cause { HasCause is_failed (D.faults dev.old) (D.faults dev.new) result }
     ensures agrees { AgreesTold cache.new (D.content dev.new) }
     ensures few { steps.new.reads ≤ steps.old.reads + 2 * way_of tree.now.levels }
 {

@@ -2,7 +2,8 @@ ghost use Rattle.std.specs.Prelude.{◌≡◌, List, ℕ, ◌+◌, ◌*◌, ◌^
 ghost use Rattle.tree_defs.specs.Tree.{order_fault, fault_here, noted};
 ghost use Rattle.tree_blocks.specs.Meets.{RefusesBlock};
 ghost use Rattle.tree_blocks.specs.Calls.{Reads};
-ghost use Rattle.tree_blocks.specs.Reading.{HasCause};
+ghost use Rattle.blk_device.specs.Causes.{HasCause};
+ghost use Rattle.tree_blocks.specs.Reading.{is_failed};
 ghost use Rattle.tree_walk.specs.Trails.{trail_of};
 
 use crate::seen::{Seen, does_come_after, sibling_fault_of, sooner_of};
@@ -65,7 +66,7 @@ pub fn enter<K: RecKind, B: Blocks>(
     ensures told { IfOk result (λ block. (m : ℕ → List ℕ) → B.told blocks.old ≡ Some m → block.bytes ≡ m p) }
     ensures refused { IfErr result (λ fault. (m : ℕ → List ℕ) → B.told blocks.old ≡ Some m → RefusesBlock p (fault_here K.form site.now (trail_of seen.old) level root p (m p)) fault) }
     ensures reading { Reads B.Blocks blocks.old blocks.new }
-    ensures cause { HasCause (B.faults blocks.old) (B.faults blocks.new) result }
+    ensures cause { HasCause is_failed (B.faults blocks.old) (B.faults blocks.new) result }
     ensures one { B.count blocks.new ≡ B.count blocks.old + 1 }
 {
     let block = match blocks.load(p) {

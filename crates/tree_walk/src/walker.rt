@@ -11,7 +11,8 @@ ghost use Rattle.tree_defs.specs.Walked.{walked_node, walked};
 ghost use Rattle.tree_walk.specs.Meets.{MeetsNode, MeetsTree, HasRead, CountedBy};
 ghost use Rattle.tree_blocks.specs.Calls.{Reads};
 ghost use Rattle.blk_device.specs.Reading.{OnlyRead};
-ghost use Rattle.tree_blocks.specs.Reading.{HasCause, CauseOf};
+ghost use Rattle.blk_device.specs.Causes.{HasCause};
+ghost use Rattle.tree_blocks.specs.Reading.{CauseOf, is_failed};
 ghost use Rattle.tree_walk.specs.Trails.{trail_of, AreSound, LieInside};
 
 use crate::enter::enter;
@@ -64,7 +65,7 @@ fn walk_node<K: RecKind, B: Blocks>(
     ensures lie { LieInside site.now.bounds.length seen.old.blocks.items → OnOk result (LieInside site.now.bounds.length seen.new.blocks.items) }
     ensures counted { (m : ℕ → List ℕ) → B.told blocks.old ≡ Some m → HasRead (B.count blocks.old) (walked_node K.form site.now m level root p (trail_of seen.old)) (B.count blocks.new) result }
     ensures reading { Reads B.Blocks blocks.old blocks.new }
-    ensures cause { HasCause (B.faults blocks.old) (B.faults blocks.new) result }
+    ensures cause { HasCause is_failed (B.faults blocks.old) (B.faults blocks.new) result }
     ensures each { OnOk result (B.count blocks.new + length seen.old.blocks.items ≡ B.count blocks.old + length seen.new.blocks.items) }
 {
     let block = match enter::<K, B>(blocks, site, level, root, p, seen) {
@@ -137,7 +138,7 @@ fn walk_levels<K: RecKind, B: Blocks>(
     ensures lie { IfOk result (λ read. LieInside site.now.bounds.length read.blocks.items) }
     ensures counted { (m : ℕ → List ℕ) → B.told blocks.old ≡ Some m → HasRead (B.count blocks.old) (walked_node K.form site.now m (levels - 1) true root fresh) (B.count blocks.new) result }
     ensures reading { Reads B.Blocks blocks.old blocks.new }
-    ensures cause { HasCause (B.faults blocks.old) (B.faults blocks.new) result }
+    ensures cause { HasCause is_failed (B.faults blocks.old) (B.faults blocks.new) result }
     ensures each { IfOk result (λ read. B.count blocks.new ≡ B.count blocks.old + length read.blocks.items) }
 {
     let mut seen = fresh_seen::<K::Rec>(alloc);
@@ -171,7 +172,7 @@ fn walk_site<K: RecKind, B: Blocks>(
     ensures lie { IfOk result (λ read. LieInside site.now.bounds.length read.blocks.items) }
     ensures counted { (m : ℕ → List ℕ) → B.told blocks.old ≡ Some m → HasRead (B.count blocks.old) (walked K.form site.now m tree.now.root tree.now.levels) (B.count blocks.new) result }
     ensures reading { Reads B.Blocks blocks.old blocks.new }
-    ensures cause { HasCause (B.faults blocks.old) (B.faults blocks.new) result }
+    ensures cause { HasCause is_failed (B.faults blocks.old) (B.faults blocks.new) result }
     ensures each { IfOk result (λ read. B.count blocks.new ≡ B.count blocks.old + length read.blocks.items) }
 {
     let root = tree.root;
@@ -208,7 +209,7 @@ pub fn walk<K: RecKind, D: Device, L: Ledger>(
     ensures lie { IfOk result (λ read. LieInside (bounds_of (layout geo.now) tree.now.group).length read.blocks.items) }
     ensures counted { OfTree (layout geo.now) tree.now (D.content dev.old) (λ s m r n. HasRead steps.old.reads (walked K.form s m r n) steps.new.reads result) }
     ensures reading { OnlyRead D.Device dev.old dev.new steps.old steps.new }
-    ensures cause { HasCause (D.faults dev.old) (D.faults dev.new) result }
+    ensures cause { HasCause is_failed (D.faults dev.old) (D.faults dev.new) result }
     ensures agrees { AgreesTold cache.new (D.content dev.new) }
     ensures each { IfOk result (λ read. steps.new.reads ≡ steps.old.reads + length read.blocks.items) }
 {

@@ -1,7 +1,8 @@
 ghost use Rattle.std.proofs.Props.{props};
 ghost use Rattle.std.specs.Prelude.{◌≡◌, ◌+◌, ◌*◌, ◌^◌, ◌<◌, ◌≤◌};
 ghost use Rattle.blk_device.specs.Reading.{OnlyRead};
-ghost use Rattle.tree_blocks.specs.Reading.{HasCause};
+ghost use Rattle.blk_device.specs.Causes.{HasCause};
+ghost use Rattle.tree_blocks.specs.Reading.{is_failed};
 ghost use Rattle.txn_blocks.specs.Through.{OfEdited, FindsIn};
 ghost use Rattle.blk_cache.specs.Cache.{AgreesTold};
 ghost use Rattle.blk_device.specs.declared.device.Region.TheVariants.{Image};
@@ -76,7 +77,7 @@ pub fn find_edited<K: RecKind, D: Device, L: Ledger>(
     ensures right { OfEdited edit.old.site edit.old.txn.now (D.content edit.old.dev.now) (λ m. FindsIn K.form edit.old.site m tree.now key.now result) }
     ensures joined { edit.new.txn.now ≡ edit.old.txn.now }
     ensures reading { OnlyRead D.Device edit.old.dev.now edit.new.dev.now edit.old.steps.now edit.new.steps.now }
-    ensures cause { HasCause (D.faults edit.old.dev.now) (D.faults edit.new.dev.now) result }
+    ensures cause { HasCause is_failed (D.faults edit.old.dev.now) (D.faults edit.new.dev.now) result }
 {
     let site = edit.site;
     find_site::<K, Edited<D, L>>(edit, &site, tree, key)

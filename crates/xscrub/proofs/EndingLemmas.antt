@@ -7,7 +7,7 @@ use Rattle.blk_device.specs.Taken.{Takes, TakesFront, IsFront}
 use Rattle.blk_device.proofs.TakenLemmas.{then, whole_front, takes_nothing}
 use Rattle.xscrub.proofs.ShownLemmas.{told_nothing}
 use Rattle.std.specs.List.{list_all}
-use Rattle.xscrub.specs.Ending.{IsShown, IsToldOf, IsFoundBy, Decides, EndsFor, HasCause, IsSettled, IsOutcome, IsAsked, IsShort, IsOfImage, IsWorded, IsImageLine, EndsByWords, CameBack, FindsKept, TellsKept}
+use Rattle.xscrub.specs.Ending.{IsShown, IsToldOf, IsFoundBy, Decides, EndsFor, HasOutcomeCause, IsSettled, IsOutcome, IsAsked, IsShort, IsOfImage, IsWorded, IsImageLine, EndsByWords, CameBack, FindsKept, TellsKept}
 use Rattle.xscrub.specs.Command.{Job, check_of, unbuilt, usage}
 use Rattle.xscrub.specs.Stored.{Stored, Request}
 use Rattle.xscrub.specs.Units.{HasAllUnits, HasFirstUnits, HasUnits}
@@ -111,10 +111,10 @@ told_memory found told journal cut n f g of lt is ends =
 -- ---- from what was found to what is told
 
 -- the cause of a status, along the status
-at_status : (told : Outcome) (s : Status) (h h' d d' k k' : ℕ) → told.status ≡ s → EndsFor s told h h' d d' k k' → HasCause told h h' d d' k k'
+at_status : (told : Outcome) (s : Status) (h h' d d' k k' : ℕ) → told.status ≡ s → EndsFor s told h h' d d' k k' → HasOutcomeCause told h h' d d' k k'
 at_status told s h h' d d' k k' is ends = subst (λ (t : Status). EndsFor t told h h' d d' k k') (sym is) ends
 
-judged_ends : (journal : List Entry) (h h' d d' k k' : ℕ) → h' ≡ h → d' ≡ d → k' ≡ k → HasCause (judged_outcome journal) h h' d d' k k'
+judged_ends : (journal : List Entry) (h h' d d' k k' : ℕ) → h' ≡ h → d' ≡ d → k' ≡ k → HasOutcomeCause (judged_outcome journal) h h' d d' k k'
 judged_ends journal h h' d d' k k' i j l =
     elim (both_ways (list_all is_calm journal)) [
       | inl calm ↦ at_status (judged_outcome journal) statuses.Clean h h' d d' k k' (ap (λ (b : Bool). cond b statuses.Clean statuses.Faulty) calm) (calm, refl, i, j, l)
@@ -125,7 +125,7 @@ judged_ends journal h h' d d' k k' i j l =
     both_ways true = inl refl
     both_ways false = inr refl
 
-found_ends : (finding : Finding) (h h' d d' k k' : ℕ) → IsFoundBy finding h h' d d' → ((outcome_of finding).last ≡ None → k' ≡ k) → HasCause (outcome_of finding) h h' d d' k k'
+found_ends : (finding : Finding) (h h' d d' k k' : ℕ) → IsFoundBy finding h h' d d' → ((outcome_of finding).last ≡ None → k' ≡ k) → HasOutcomeCause (outcome_of finding) h h' d d' k k'
 found_ends (findings.Judged journal) h h' d d' k k' cause calm = judged_ends journal.items h h' d d' k k' cause.0 cause.1 (calm refl)
 found_ends (findings.Full journal) h h' d d' k k' cause calm = refl
 found_ends (findings.Refused line) h h' d d' k k' cause calm = (line, refl)
@@ -134,11 +134,11 @@ found_ends (findings.DeviceFailed journal) h h' d d' k k' cause calm = inl (refl
 found_ends findings.HostFailed h h' d d' k k' cause calm = inr (refl, inl cause)
 found_ends (findings.Memory journal) h h' d d' k k' cause calm = refl
 
-pub told_cause : (finding : Finding) (told : Outcome) (h h' d d' k k' : ℕ) → IsFoundBy finding h h' d d' → IsToldOf (outcome_of finding) k k' told → HasCause told h h' d d' k k'
+pub told_cause : (finding : Finding) (told : Outcome) (h h' d d' k k' : ℕ) → IsFoundBy finding h h' d d' → IsToldOf (outcome_of finding) k k' told → HasOutcomeCause told h h' d d' k k'
 told_cause finding told h h' d d' k k' cause (inl same) =
-    subst (λ (o : Outcome). HasCause o h h' d d' k k') (sym same.0) (found_ends finding h h' d d' k k' cause same.1)
+    subst (λ (o : Outcome). HasOutcomeCause o h h' d d' k k') (sym same.0) (found_ends finding h h' d d' k k' cause same.1)
 told_cause finding told h h' d d' k k' cause (inr (inl failed)) =
-    subst (λ (o : Outcome). HasCause o h h' d d' k k') (sym failed.0) (inr (refl, inr failed.1))
+    subst (λ (o : Outcome). HasOutcomeCause o h h' d d' k k') (sym failed.0) (inr (refl, inr failed.1))
 told_cause finding told h h' d d' k k' cause (inr (inr memory)) = at_status told statuses.Memory h h' d d' k k' memory.0 memory.1
 
 -- a stopped run isn't settled

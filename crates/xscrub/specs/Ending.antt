@@ -155,8 +155,8 @@ EndsFor statuses.Failed told host host' devices devices' sink sink' =
 EndsFor statuses.Full told host host' devices devices' sink sink' = told.last ≡ Some lines.JournalFull
 EndsFor statuses.Memory told host host' devices devices' sink sink' = told.last ≡ Some lines.Memory
 
-abbrev pub HasCause : Outcome → (host host' devices devices' sink sink' : ℕ) → Type 0
-HasCause told host host' devices devices' sink sink' = EndsFor told.status told host host' devices devices' sink sink'
+abbrev pub HasOutcomeCause : Outcome → (host host' devices devices' sink sink' : ℕ) → Type 0
+HasOutcomeCause told host host' devices devices' sink sink' = EndsFor told.status told host host' devices devices' sink sink'
 
 -- neither a fault nor want of memory ended it
 abbrev pub IsSettled : Status → Type 0
@@ -202,7 +202,7 @@ pub record IsRun (command : Job) (told : Outcome) (stored : List ℕ → Option 
   pub starts : end.starts ≡ 0 ∷ length told.journal ∷ length told.journal ∷ []
   pub words : EndsByWords command told
   pub decided : IfSome (decided_by command stored) (IsOutcome told)
-  pub cause : HasCause told host host' devices devices' sink sink'
+  pub cause : HasOutcomeCause told host host' devices devices' sink sink'
   pub units : HasUnits told.status told.journal
   pub shown : IsShown told.journal told.last sink sink' taken taken'
   pub asked_for : IsAsked command (told.status ≡ statuses.Memory) asked asked'

@@ -2,7 +2,7 @@
 use Rattle.std.specs.Prelude.{◌≡◌, ◌≤◌, ℕ, ◌+◌, List, ◌∷◌, ◌++◌, Bool, true, false, Option, Result, Ok, Err, IfSome}
 use Rattle.std.specs.Global.{Vec}
 use Rattle.ag_headers.specs.declared.fault.HeadFault.{HeadFault}
-use Rattle.blk_device.specs.Causes.{HasCauseBy}
+use Rattle.blk_device.specs.Causes.{HasCause}
 use Rattle.blk_device.specs.Contents.{Contents}
 use Rattle.blk_device.specs.declared.device.Region.TheVariants.{Image}
 use Rattle.blk_device.specs.Taken.{IsFront}
@@ -48,7 +48,7 @@ is_device (Memory journal) = false
 
 -- a failed device is told only where its count rose, and no other answer moves the count
 abbrev pub JudgeCause : {T : Type 0} → ℕ → ℕ → Result T JudgeFault → Type 0
-JudgeCause before now result = HasCauseBy is_device before now result
+JudgeCause before now result = HasCause is_device before now result
 
 -- Of these events the first were done, with these entries, and the device was read no more than for
 -- them and for the next one.

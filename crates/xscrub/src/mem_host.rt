@@ -68,7 +68,7 @@ impl MemHost {
 impl Sink for MemHost {
     ghost use Rattle.std.proofs.Common.{rules};
     ghost use Rattle.std.specs.Prelude.{◌<◌, ◌≤◌, length, take, OnErr, IsErr, Contains};
-    ghost use Rattle.blk_device.specs.Causes.{HasCause, one_more};
+    ghost use Rattle.blk_device.specs.Causes.{HasCause, any_error, one_more};
     ghost use Rattle.blk_device.specs.Taken.{Takes};
     ghost use Rattle.xscrub.specs.MemHost.{Keeps};
 
@@ -90,7 +90,7 @@ impl Sink for MemHost {
         ensures bytes { IfOk result (λ n. Takes (take n piece.now) (Some self.old.report.items) (Some self.new.report.items)) }
         ensures none { OnErr result (Some self.new.report.items ≡ Some self.old.report.items) }
         ensures rest { Keeps self.old self.new }
-        ensures cause { HasCause self.old.sink_faults self.new.sink_faults result }
+        ensures cause { HasCause any_error self.old.sink_faults self.new.sink_faults result }
         ensures chosen { Contains self.old.failing_puts.items self.old.puts → IsErr result }
         ensures whole { IfOk result (λ n. n ≡ length piece.now) }
         ensures asked { self.new.puts ≡ one_more self.old.puts }

@@ -35,7 +35,7 @@ loop-block-preserved g c =
       moments = then_keeps d.clock d.may_have_held_since d.may_hold_now met.only_now met.counts_now BehindGate _ _ _ s.invariant.moments
           (write_keeps d.clock d.may_have_held_since d.may_hold_now met.only_now met.counts_now BehindGate Redo s.at _ _ (λ here. omega (arith, here, s.invariant.behind)) c.write.ensures.crash c.write.ensures.time);
       sizes = c.write.ensures.sizes ∙ s.invariant.sizes;
-      faults = c.in_ok-write.ensures.cause.calm ∙ s.invariant.faults;
+      faults = c.in_ok-write.ensures.cause ∙ s.invariant.faults;
       reads = c.write.ensures.reads ∙ s.invariant.reads;
     }
 

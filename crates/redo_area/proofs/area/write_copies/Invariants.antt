@@ -1,6 +1,6 @@
 use Rattle.std.proofs.Common.{◌≡◌, ◌<◌, ◌+◌, length}
 use Rattle.blk_device.specs.Contents.{map_told}
-use Rattle.blk_device.specs.Crash.{Keeps}
+use Rattle.blk_device.specs.Reading.{Keeps}
 use Rattle.redo_area.specs.Area.{put_copies, BehindGate}
 use Rattle.redo_area.proofs.area.write_copies.Given as goal
 
@@ -9,7 +9,7 @@ invariant-loop-block g l = record {
   count : length l.rest + l.at ≡ length l.batch + 2;
   behind : 0 < l.at;
   content : map_told (put_copies l.rest l.at) (g.D.Device.content l.dev) ≡ map_told (put_copies l.batch 2) (g.D.Device.content l.initial.dev);
-  moments : Keeps g.D.Device.clock g.D.Device.may_have_held_since g.D.Device.may_hold_now BehindGate l.initial.dev l.dev;
+  moments : Keeps g.D.Device BehindGate l.initial.dev l.dev;
   sizes : g.D.Device.blocks l.dev ≡ g.D.Device.blocks l.initial.dev;
   faults : g.D.Device.faults l.dev ≡ g.D.Device.faults l.initial.dev;
   reads : g.D.Device.reads l.dev ≡ g.D.Device.reads l.initial.dev;

@@ -55,7 +55,7 @@ loop-number-preserved g c =
       moments = then_keeps d.clock d.may_have_held_since d.may_hold_now met.only_now met.counts_now K _ _ _ s.invariant.moments
           (write_keeps d.clock d.may_have_held_since d.may_hold_now met.only_now met.counts_now K Image p.0 _ _ (λ missed. hits_first p.0 (places later) _ places_is (subst (λ (l : List ℕ). Misses l p.0) (homes_of_bytes s.rest.now) (s.invariant.among p.0 missed))) c.write.ensures.crash c.write.ensures.time);
       sizes = c.write.ensures.sizes ∙ s.invariant.sizes;
-      faults = c.in_ok-write.ensures.cause.calm ∙ s.invariant.faults;
+      faults = c.in_ok-write.ensures.cause ∙ s.invariant.faults;
       reads = c.write.ensures.reads ∙ s.invariant.reads;
     }
 

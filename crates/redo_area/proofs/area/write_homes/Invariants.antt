@@ -1,6 +1,6 @@
 use Rattle.std.proofs.Common.{◌≡◌, ℕ, true, length}
 use Rattle.blk_device.specs.Contents.{map_told}
-use Rattle.blk_device.specs.Crash.{Keeps}
+use Rattle.blk_device.specs.Reading.{Keeps}
 use Rattle.blk_device.specs.declared.device.Region.TheVariants.{Image}
 use Rattle.redo_area.specs.Area.{put_homes, homes_of, bytes_of, AllButHomes, Misses}
 use Rattle.redo_area.specs.Table.{places, rises}
@@ -11,7 +11,7 @@ invariant-loop-number g l = record {
   rise : (least : ℕ) × (rises least (g.D.Device.blocks l.initial.dev Image) (places l.rest) ≡ true);
   among : (b : ℕ) → Misses (homes_of (bytes_of l.batch)) b → Misses (homes_of (bytes_of l.rest)) b;
   content : map_told (put_homes (bytes_of l.rest)) (g.D.Device.content l.dev) ≡ map_told (put_homes (bytes_of l.batch)) (g.D.Device.content l.initial.dev);
-  moments : Keeps g.D.Device.clock g.D.Device.may_have_held_since g.D.Device.may_hold_now (AllButHomes (homes_of (bytes_of l.batch))) l.initial.dev l.dev;
+  moments : Keeps g.D.Device (AllButHomes (homes_of (bytes_of l.batch))) l.initial.dev l.dev;
   sizes : g.D.Device.blocks l.dev ≡ g.D.Device.blocks l.initial.dev;
   faults : g.D.Device.faults l.dev ≡ g.D.Device.faults l.initial.dev;
   reads : g.D.Device.reads l.dev ≡ g.D.Device.reads l.initial.dev;

@@ -74,7 +74,7 @@ loop-left-preserved g c =
           (sync_keeps d.clock d.may_have_held_since d.may_hold_now met.only_now met.counts_now K s.dev c.read.new.self c.read.ensures.crash c.read.ensures.time))
           (write_keeps d.clock d.may_have_held_since d.may_hold_now met.only_now met.counts_now K Image n c.read.new.self c.write.new.self (λ missed. hits_first n ns xs is (s.invariant.among n missed)) c.write.ensures.crash c.write.ensures.time);
       sizes = c.write.ensures.sizes ∙ c.read.ensures.sizes ∙ s.invariant.sizes;
-      faults = c.in_ok-write.ensures.cause.calm ∙ c.in_ok-read.ensures.cause.calm ∙ s.invariant.faults;
+      faults = c.in_ok-write.ensures.cause ∙ c.in_ok-read.ensures.cause ∙ s.invariant.faults;
       reads = (s.invariant.reads.0 + 1, omega (arith, s.invariant.reads.1), c.write.ensures.reads ∙ raised_more (d.reads c.args.dev.now) s.invariant.reads.0 (d.reads s.dev) (d.reads c.read.new.self) s.invariant.reads.2 c.read.ensures.reads);
     }
 

@@ -1,6 +1,6 @@
 use Rattle.std.proofs.Common.{◌≡◌, ◌≤◌, ◌+◌, ◌*◌, ℕ, true, drop}
 use Rattle.blk_device.specs.Contents.{map_told}
-use Rattle.blk_device.specs.Crash.{Keeps}
+use Rattle.blk_device.specs.Reading.{Keeps}
 use Rattle.blk_device.specs.declared.device.Region.TheVariants.{Image}
 use Rattle.redo_area.specs.Area.{put_waiting, AllButHomes, Misses}
 use Rattle.redo_area.specs.Counts.{raised}
@@ -14,7 +14,7 @@ invariant-loop-left g l = record {
   rise : (least : ℕ) × (rises least (g.D.Device.blocks l.initial.dev Image) (numbers l.left (drop l.at l.table.bytes)) ≡ true);
   among : (b : ℕ) → Misses (table_numbers l.table.bytes) b → Misses (numbers l.left (drop l.at l.table.bytes)) b;
   content : map_told (put_waiting (numbers l.left (drop l.at l.table.bytes)) l.place) (g.D.Device.content l.dev) ≡ map_told (put_waiting (table_numbers l.table.bytes) 2) (g.D.Device.content l.initial.dev);
-  moments : Keeps g.D.Device.clock g.D.Device.may_have_held_since g.D.Device.may_hold_now (AllButHomes (table_numbers l.table.bytes)) l.initial.dev l.dev;
+  moments : Keeps g.D.Device (AllButHomes (table_numbers l.table.bytes)) l.initial.dev l.dev;
   sizes : g.D.Device.blocks l.dev ≡ g.D.Device.blocks l.initial.dev;
   faults : g.D.Device.faults l.dev ≡ g.D.Device.faults l.initial.dev;
   reads : (k : ℕ) × (k + 2 ≤ l.place) × (g.D.Device.reads l.dev ≡ raised (g.D.Device.reads l.initial.dev) k);
