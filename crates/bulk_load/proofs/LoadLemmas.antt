@@ -7,21 +7,24 @@ use Rattle.byte_fields.specs.declared.block.Block.{Block}
 use Rattle.sblock.specs.Area.{area_of}
 use Rattle.sblock.specs.Form.{Form}
 use Rattle.sblock.specs.declared.block.Frame.{Frame}
-use Rattle.bulk_load.specs.Loaded.{IsHeaded, header_for, Has, IsLaid, IsNumber, AreLaid, IsLoaded}
+use Rattle.bulk_load.specs.Leaf.{block_bytes}
+use Rattle.bulk_load.specs.Loaded.{area_bytes, IsHeaded, header_for, Has, IsLaid, IsNumber, AreLaid, IsLoaded}
 use Rattle.bulk_load.specs.Shapes.{width, start}
 use Rattle.bulk_load.proofs.ShapeLemmas.{one_level}
 
 module _ {R K : Type 0} (form : Form R K) (list : List R) (claimed : List ℕ) (frame : Frame) where
   -- a block that was made for its place has its number
   pub has_number : (level i k : ℕ) (bytes : List ℕ) → start form.kind (length list) level ≤ k → k < start form.kind (length list) (suc level) → start form.kind (length list) level + i ≡ k
-      → IsHeaded form.kind (header_for form.kind (length list) claimed frame.lsn level i) frame (slice_index claimed k) bytes → Has form list claimed level i (area_of bytes) → IsNumber form list claimed frame k bytes
-  has_number level i k bytes from to is head has j x lt e =
+      → IsHeaded form.kind (header_for form.kind (length list) claimed frame.lsn level i) frame (slice_index claimed k) bytes → Has form list claimed level i (area_of bytes)
+      → bytes ≡ block_bytes form.kind (header_for form.kind (length list) claimed frame.lsn level i) frame (slice_index claimed k) (area_bytes form list claimed level i) → IsNumber form list claimed frame k bytes
+  has_number level i k bytes from to is head has exact j x lt e =
       let l : j ≡ level = one_level form.kind (length list) j x k level lt e from to in
       let s : start form.kind (length list) level + x ≡ k = subst (λ (a : ℕ). start form.kind (length list) a + x ≡ k) l e in
       let y : i ≡ x = omega (arith, s, is) in
       let here : IsLaid form list claimed frame level i bytes = record {
         head = subst (λ (b : ℕ). IsHeaded form.kind (header_for form.kind (length list) claimed frame.lsn level i) frame (slice_index claimed b) bytes) (sym is) head;
         has = has;
+        exact = subst (λ (b : ℕ). bytes ≡ block_bytes form.kind (header_for form.kind (length list) claimed frame.lsn level i) frame (slice_index claimed b) (area_bytes form list claimed level i)) (sym is) exact;
       } in
       subst (λ (a : ℕ). IsLaid form list claimed frame a x bytes) (sym l) (subst (λ (b : ℕ). IsLaid form list claimed frame level b bytes) y here)
 

@@ -4,7 +4,7 @@ use Rattle.std.specs.Prelude.{◌≡◌, ⊤, ℕ, zero, suc, ◌+◌, ◌-◌, 
 use Rattle.byte_fields.specs.Checksum.{has_sum}
 use Rattle.byte_fields.specs.Fields.{field, has_uuid}
 use Rattle.byte_fields.specs.declared.block.Block.{Block}
-use Rattle.sblock.specs.Area.{area_of, child_of}
+use Rattle.sblock.specs.Area.{area_of, child_of, with_child}
 use Rattle.sblock.specs.Blocks.{numrecs}
 use Rattle.sblock.specs.Form.{Form, same_key}
 use Rattle.sblock.specs.Headers.{no_block, level_of, left_of, right_of, place_of, owner_of}
@@ -15,6 +15,7 @@ use Rattle.sblock.specs.declared.block.Frame.{Frame}
 use Rattle.sblock.specs.declared.block.Header.{Header}
 use Rattle.sblock.specs.declared.kind.Kind.{Kind}
 use Rattle.sblock.specs.declared.spans.Span.{Span}
+use Rattle.bulk_load.specs.Leaf.{block_bytes, with_records, empty_area}
 use Rattle.bulk_load.specs.Shapes.{width, start, count, begin, first_record}
 
 -- the items from one number on, below another
@@ -38,6 +39,11 @@ pub record IsHeaded (kind : Kind) (header : Header) (frame : Frame) (p : ℕ) (b
 abbrev pub AreKeys : {R K : Type 0} → Form R K → K → K → Option (Span K) → Type 0
 AreKeys form low high None = ⊤
 AreKeys form low high (Some s) = (same_key form low s.low ≡ true) × (has_high_keys_of form.kind ≡ true → same_key form high s.high ≡ true)
+
+-- the area with these keys as those of entry e, where there are any
+abbrev pub with_span : {R K : Type 0} → Form R K → List ℕ → ℕ → Option (Span K) → List ℕ
+with_span form area e None = area
+with_span form area e (Some s) = form.with_keys area e s.low s.high
 
 module _ (kind : Kind) (n : ℕ) (claimed : List ℕ) where
   -- the claimed block for block i of level j
@@ -78,10 +84,25 @@ module _ {R K : Type 0} (form : Form R K) (list : List R) (claimed : List ℕ) w
   Has zero i area = HasRecords form (below form list zero i) area
   Has (suc j) i area = AreEntries j (begin form.kind (length list) (suc j) i) area (count form.kind (length list) (suc j) i)
 
-  -- these bytes are block i of level j
+  -- the area in which entry e leads to block c of level j, and has the keys of the records below it as the kind stores them
+  abbrev pub with_entry : ℕ → ℕ → List ℕ → ℕ → List ℕ
+  with_entry j c area e = with_child form.kind (with_span form area e (span_of form (below form list j c))) e (at_level form.kind (length list) claimed j c)
+
+  -- the first n entries of a node that begins with block c of level j
+  unfoldable pub with_entries : ℕ → ℕ → ℕ → List ℕ → List ℕ
+  with_entries j c zero area = area
+  with_entries j c (suc n) area = with_entry j (c + n) (with_entries j c n area) n
+
+  -- each byte behind the header of block i of a level: its records or entries, and zeros where none of them stands
+  unfoldable pub area_bytes : ℕ → ℕ → List ℕ
+  area_bytes zero i = with_records form (below form list zero i) 0 empty_area
+  area_bytes (suc j) i = with_entries j (begin form.kind (length list) (suc j) i) (count form.kind (length list) (suc j) i) empty_area
+
+  -- these bytes are block i of level j: what a reader finds in them, and each of them
   pub record IsLaid (frame : Frame) (j i : ℕ) (bytes : List ℕ) : Type 0 where
     pub head : IsHeaded form.kind (header_for form.kind (length list) claimed frame.lsn j i) frame (at_level form.kind (length list) claimed j i) bytes
     pub has : Has j i (area_of bytes)
+    pub exact : bytes ≡ block_bytes form.kind (header_for form.kind (length list) claimed frame.lsn j i) frame (at_level form.kind (length list) claimed j i) (area_bytes j i)
 
   -- these bytes are block number k
   abbrev pub IsNumber : Frame → ℕ → List ℕ → Type 0

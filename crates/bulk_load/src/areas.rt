@@ -1,8 +1,8 @@
 ghost use Rattle.std.specs.Prelude.{◌≡◌, ◌≢◌, ◌+◌, ◌<◌, ◌≤◌, ℕ, List, suc, length, true, All};
-ghost use Rattle.sblock.specs.Area.{child_of};
+ghost use Rattle.sblock.specs.Area.{child_of, with_child};
 ghost use Rattle.sblock.specs.Kinds.{leaf_most_of, node_most_of};
-ghost use Rattle.bulk_load.specs.Leaf.{with_records};
-ghost use Rattle.bulk_load.specs.Loaded.{AreKeys, AreEntries, HasRecords, Has};
+ghost use Rattle.bulk_load.specs.Leaf.{empty_area, with_records};
+ghost use Rattle.bulk_load.specs.Loaded.{AreKeys, AreEntries, HasRecords, Has, with_span, with_entries, area_bytes};
 ghost use Rattle.bulk_load.specs.Shapes.{width, start, begin, count, HasLevel};
 
 use crate::keys::{first_record, keys_below, number_of, part};
@@ -11,6 +11,14 @@ use sblock::{RecKind, Span, put_child};
 
 // The bytes of a block behind its header.
 pub(crate) const AREA: usize = 4040;
+
+// An area of zeros.
+#[tactic(auto, unfolding(crate::specs::Leaf::empty_area))]
+pub(crate) fn blank_area() -> [u8; 4040]
+    ensures { result ≡ empty_area }
+{
+    [0; AREA]
+}
 
 // Writes the records of a leaf.
 pub(crate) fn put_records<K: RecKind>(area: &mut [u8], recs: &[K::Rec])
@@ -28,6 +36,7 @@ pub(crate) fn put_records<K: RecKind>(area: &mut [u8], recs: &[K::Rec])
 fn put_span<K: RecKind>(area: &mut [u8], e: usize, span: &Option<Span<K::Key>>)
     requires whole { length area.old ≡ 4040 }
     requires room { e < node_most_of K.form.kind }
+    ensures written { area.new ≡ with_span K.form area.old e span.now }
     ensures keys { AreKeys K.form (K.form.key_at area.new e) (K.form.high_key_at area.new e) span.now }
     ensures low { (k : ℕ) → k < node_most_of K.form.kind → k ≢ e → K.form.key_at area.new k ≡ K.form.key_at area.old k }
     ensures high { (k : ℕ) → k < node_most_of K.form.kind → k ≢ e → K.form.high_key_at area.new k ≡ K.form.high_key_at area.old k }
@@ -43,6 +52,7 @@ fn put_span<K: RecKind>(area: &mut [u8], e: usize, span: &Option<Span<K::Key>>)
 fn put_entry<K: RecKind>(area: &mut [u8], e: usize, span: &Option<Span<K::Key>>, child: u32)
     requires whole { length area.old ≡ 4040 }
     requires room { e < node_most_of K.form.kind }
+    ensures written { area.new ≡ with_child K.form.kind (with_span K.form area.old e span.now) e child }
     ensures child { child_of K.form.kind area.new e ≡ child }
     ensures keys { AreKeys K.form (K.form.key_at area.new e) (K.form.high_key_at area.new e) span.now }
     ensures low { (k : ℕ) → k < node_most_of K.form.kind → k ≢ e → K.form.key_at area.new k ≡ K.form.key_at area.old k }
@@ -69,7 +79,8 @@ fn put_entries<K: RecKind>(
     requires within { first + count ≤ width K.form.kind (length list.now) level }
     requires claimed { start K.form.kind (length list.now) (suc level) ≤ length claimed.now }
     requires ends { All (λ r. K.form.has_end r ≡ true) list.now }
-    ensures { AreEntries K.form list.now claimed.now level first area.new count }
+    ensures read { AreEntries K.form list.now claimed.now level first area.new count }
+    ensures written { area.new ≡ with_entries K.form list.now claimed.now level first count area.old }
 {
     let row = Row::of_level(number_of(list), K::kind(), level);
     for e in 0..count {
@@ -83,12 +94,13 @@ fn put_entries<K: RecKind>(
 // What leaf `i` has behind its header.
 fn leaf_area<K: RecKind>(list: &[K::Rec], i: u64) -> [u8; 4040]
     requires { i < width K.form.kind (length list.now) 0 }
-    ensures { (claimed : List ℕ) → Has K.form list.now claimed 0 i result }
+    ensures has { (claimed : List ℕ) → Has K.form list.now claimed 0 i result }
+    ensures exact { (claimed : List ℕ) → result ≡ area_bytes K.form list.now claimed 0 i }
 {
     let records = number_of(list);
     let from = first_record(records, K::kind(), 0, i);
     let to = first_record(records, K::kind(), 0, i + 1);
-    let mut area = [0; AREA];
+    let mut area = blank_area();
     put_records::<K>(&mut area, part(list, from as usize, to as usize));
     area
 }
@@ -99,10 +111,11 @@ fn node_area<K: RecKind>(list: &[K::Rec], claimed: &[u32], level: u32, i: u64) -
     requires within { i < width K.form.kind (length list.now) (suc level) }
     requires claimed { start K.form.kind (length list.now) (suc level) ≤ length claimed.now }
     requires ends { All (λ r. K.form.has_end r ≡ true) list.now }
-    ensures { Has K.form list.now claimed.now (suc level) i result }
+    ensures has { Has K.form list.now claimed.now (suc level) i result }
+    ensures exact { result ≡ area_bytes K.form list.now claimed.now (suc level) i }
 {
     let row = Row::of_level(number_of(list), K::kind(), level + 1);
-    let mut area = [0; AREA];
+    let mut area = blank_area();
     put_entries::<K>(
         &mut area,
         list,
@@ -125,7 +138,8 @@ pub(crate) fn area_for<K: RecKind>(
     requires within { i < width K.form.kind (length list.now) level }
     requires claimed { start K.form.kind (length list.now) level ≤ length claimed.now }
     requires ends { All (λ r. K.form.has_end r ≡ true) list.now }
-    ensures { Has K.form list.now claimed.now level i result }
+    ensures has { Has K.form list.now claimed.now level i result }
+    ensures exact { result ≡ area_bytes K.form list.now claimed.now level i }
 {
     if level == 0 {
         return leaf_area::<K>(list, i);

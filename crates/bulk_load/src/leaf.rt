@@ -1,21 +1,13 @@
 ghost use Rattle.std.specs.Prelude.{◌≡◌, ◌+◌, ◌*◌, ◌^◌, ◌<◌, ◌≤◌, length, [], ◌∷◌};
 ghost use Rattle.sblock.specs.Kinds.{leaf_most_of};
-ghost use Rattle.bulk_load.specs.Leaf.{empty_area, leaf_bytes};
+ghost use Rattle.bulk_load.specs.Leaf.{leaf_bytes};
 ghost use Rattle.bulk_load.specs.Loaded.{IsLaid};
 
-use crate::areas::{AREA, put_records};
+use crate::areas::{blank_area, put_records};
 use crate::header::block_of;
 use crate::load::NO_BLOCK;
 use byte_fields::Block;
 use sblock::{Frame, Header, RecKind};
-
-// An area of zeros.
-#[tactic(auto, unfolding(crate::specs::Leaf::empty_area))]
-fn blank_area() -> [u8; 4040]
-    ensures { result ≡ empty_area }
-{
-    [0; AREA]
-}
 
 /// The block of a tree of these records that is one leaf, for block `at` of its group. Each of its
 /// bytes is told: what no record has is zero
