@@ -1,0 +1,3 @@
+mod Lying
+mod Needs
+mod Spares

@@ -1,0 +1,28 @@
+ghost use Rattle.plan_laws.specs.Agreed.{LowestAgrees, NeedAgrees, SpareAgrees, TreeNeedAgrees};
+ghost use Rattle.plan_laws.specs.Lying.{LieApart};
+
+/// A law: the blocks that a plan calls spare for a unit are those that its step may take, and the lowest of
+/// them in the group is the block that the step takes
+/// (XFS Online Fsck Design, "Reserving New B+Tree Blocks").
+pub fn spare_agrees()
+    ensures each { SpareAgrees }
+    ensures lowest { LowestAgrees }
+{}
+
+/// A law: what a plan calls the need of a unit, for as many records as the lists have that its switch
+/// would derive, is the number of blocks that the switch takes; so for each kind of btree by itself. It is
+/// said of fewer than 2^32 blocks, as a group has
+/// (XFS Online Fsck Design, "Reserving New B+Tree Blocks").
+pub fn need_agrees()
+    ensures tree { TreeNeedAgrees }
+    ensures unit { NeedAgrees }
+{}
+
+/// A law: where pieces of claims have no overlap, in whatever order they were handed in, the reverse
+/// mappings that they stand for, put in order, have no common tuple: they are what the derivation of
+/// reverse mappings takes. Of written file data, which may be shared, it is asked that no file maps a
+/// block at one offset twice
+/// (XFS Online Fsck Design, "Case Study: Rebuilding Reverse Mapping Records").
+pub fn pieces_lie_apart()
+    ensures { LieApart }
+{}

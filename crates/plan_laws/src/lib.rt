@@ -1,0 +1,7 @@
+//! What is planned over lists and pieces is what a repair is defined by: the need and the spare blocks of a
+//! unit, and pieces of claims without an overlap as pieces of reverse mappings.
+#![tactic(auto)]
+
+mod laws;
+
+pub use laws::{need_agrees, pieces_lie_apart, spare_agrees};
