@@ -1,3 +1,4 @@
+mod Losing
 mod Lying
 mod Needs
 mod Spares

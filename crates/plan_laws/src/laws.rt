@@ -1,4 +1,6 @@
 ghost use Rattle.plan_laws.specs.Agreed.{LowestAgrees, NeedAgrees, SpareAgrees, TreeNeedAgrees};
+ghost use Rattle.fs_model.specs.declared.unit.Unit.TheVariants.{Free, Refc};
+ghost use Rattle.plan_laws.specs.Losing.{LostNothing, LostUnclaimed, LostUnlisted};
 ghost use Rattle.plan_laws.specs.Lying.{LieApart};
 
 /// A law: the blocks that a plan calls spare for a unit are those that its step may take, and the lowest of
@@ -25,4 +27,14 @@ pub fn need_agrees()
 /// (XFS Online Fsck Design, "Case Study: Rebuilding Reverse Mapping Records").
 pub fn pieces_lie_apart()
     ensures { LieApart }
+{}
+
+/// A law: the runs of lost blocks that a set of claims tells are exactly the blocks that a unit's switch
+/// puts into limbo, its surplus aside; of reverse mappings none, where free space can't be read
+/// (XFS Online Fsck Design, "Reaping After Repairing Ondisk Metadata").
+pub fn lost_agrees()
+    ensures mappings { LostUnlisted }
+    ensures nothing { LostNothing }
+    ensures free { LostUnclaimed Free }
+    ensures counts { LostUnclaimed Refc }
 {}

@@ -4,4 +4,4 @@
 
 mod laws;
 
-pub use laws::{need_agrees, pieces_lie_apart, spare_agrees};
+pub use laws::{lost_agrees, need_agrees, pieces_lie_apart, spare_agrees};

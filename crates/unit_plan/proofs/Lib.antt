@@ -1,6 +1,7 @@
 pub mod Counting
 pub mod FoundLemmas
 pub mod LawLemmas
+pub mod LostLemmas
 pub mod NeedLemmas
 pub mod OrderLemmas
 pub mod SortedLemmas

@@ -1,5 +1,6 @@
 pub mod Firsts
 pub mod Laws
+pub mod Lost
 pub mod Need
 pub mod Order
 pub mod Pieces

@@ -1,9 +1,11 @@
+use crate::lost::{unclaimed, unlisted};
 use crate::order::shown;
 use crate::piece::{Among, Memory, Piece};
 use crate::spare::{SpaceTrust, lowest_for, may_spare};
 use crate::sweep::{first_met, firsts_on};
 use fs_model::{Evidence, Unit};
 use rmap_recs::RmapRec;
+use run_sets::Run;
 use span_recs::SpanRec;
 use std::alloc::Global;
 
@@ -16,10 +18,13 @@ pub struct ClaimSet {
 }
 
 impl ClaimSet {
-    ghost use Rattle.std.specs.Prelude.{◌≡◌, ℕ, [], ◌∷◌, ◌++◌, OnOk, OnErr};
+    ghost use Rattle.std.specs.Prelude.{◌≡◌, ℕ, [], ◌∷◌, ◌++◌, map, IfOk, OnOk, OnErr};
     ghost use Rattle.std.specs.List.Sorted.{IsPermutation};
-    ghost use Rattle.unit_plan.specs.Sets.{pieces_of, IsFirstOverlap};
-    ghost use Rattle.unit_plan.specs.Spans.{MappingsRise, SpansFit};
+    ghost use Rattle.derive_defs.specs.Mappings.{EndWithin};
+    ghost use Rattle.run_sets.specs.Runs.{AreRunsBelow, EndWithin as RunsEnd};
+    ghost use Rattle.unit_plan.specs.Lost.{is_unclaimed, is_unlisted};
+    ghost use Rattle.unit_plan.specs.Sets.{pieces_of, IsFirstOverlap, LieBelow};
+    ghost use Rattle.unit_plan.specs.Spans.{MappingsRise, SpansFit, span_run};
     ghost use Rattle.unit_plan.specs.Spare.{IsLowest, is_spare};
 
     /// No claims. It takes no memory.
@@ -78,5 +83,43 @@ impl ClaimSet {
             return None;
         }
         lowest_for(unit, free, mappings, self.pieces.as_slice())
+    }
+
+    /// The limbo of a switch of reverse mappings: the maximal runs of the blocks of a group of `length`
+    /// blocks that nothing claims, the old btree of reverse mappings aside, and that the btree of free
+    /// space by start doesn't list. `free` are its records; where it can't be read, nothing is lost.
+    /// It takes memory for a record a piece, however many blocks that has
+    /// (XFS Online Fsck Design, "Reaping After Repairing Ondisk Metadata").
+    pub fn lost_unlisted(
+        &self,
+        alloc: Global,
+        length: u32,
+        free: &[SpanRec],
+    ) -> Result<Vec<Run>, Memory>
+        requires pieces { LieBelow length (pieces_of self.now) }
+        requires free { RunsEnd length (map span_run free.now) }
+        ensures { IfOk result (λ runs. AreRunsBelow (is_unlisted free.now (pieces_of self.now)) length runs.items) }
+    {
+        Ok(unlisted(alloc, length, self.pieces.as_slice(), free)?)
+    }
+
+    /// The limbo of a switch of another unit: the maximal runs of the blocks of a group of `length`
+    /// blocks that the reverse mappings give to the unit's owner and that nothing claims, the unit's old
+    /// btrees aside. It takes memory for a record a piece and for the owner's mappings
+    /// (XFS Online Fsck Design, "Reaping After Repairing Ondisk Metadata").
+    pub fn lost_unclaimed(
+        &self,
+        alloc: Global,
+        unit: Unit,
+        length: u32,
+        owner: u64,
+        mappings: &[RmapRec],
+    ) -> Result<Vec<Run>, Memory>
+        requires pieces { LieBelow length (pieces_of self.now) }
+        requires mappings { EndWithin length mappings.now }
+        ensures { IfOk result (λ runs. AreRunsBelow (is_unclaimed unit owner mappings.now (pieces_of self.now)) length runs.items) }
+    {
+        let pieces = self.pieces.as_slice();
+        Ok(unclaimed(alloc, unit, length, pieces, owner, mappings)?)
     }
 }

@@ -5,6 +5,7 @@
 
 mod claims;
 mod laws;
+mod lost;
 mod needs;
 mod order;
 mod piece;

@@ -4,7 +4,7 @@ ghost use Rattle.unit_plan.specs.Pieces.{is_hard as is_hard_of, has_block as has
 
 use fs_model::Claim;
 use run_sets::Run;
-use std::alloc::AllocFailed;
+use std::alloc::{AllocError, AllocFailed};
 use std::mem::size_of;
 use thiserror::Error;
 
@@ -36,7 +36,7 @@ pub enum Among {
     Metadata,
 }
 
-/// There was no memory for a piece.
+/// There was no memory for a piece, or for an answer.
 #[derive(Clone, Copy, Debug, PartialEq, Eq, Error)]
 #[error("memory")]
 pub struct Memory;
@@ -45,6 +45,14 @@ impl From<AllocFailed<Piece>> for Memory {
     ghost from_gives = { λ _ e. e ≡ record {} };
 
     fn from(_: AllocFailed<Piece>) -> Self {
+        Memory
+    }
+}
+
+impl From<AllocError> for Memory {
+    ghost from_gives = { λ _ e. e ≡ record {} };
+
+    fn from(_: AllocError) -> Self {
         Memory
     }
 }
