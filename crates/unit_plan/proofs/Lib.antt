@@ -1,5 +1,7 @@
 pub mod Counting
 pub mod FoundLemmas
+pub mod InOrder
+pub mod JoinLemmas
 pub mod LawLemmas
 pub mod LostLemmas
 pub mod NeedLemmas

@@ -1,4 +1,5 @@
 pub mod Firsts
+pub mod Joined
 pub mod Laws
 pub mod Lost
 pub mod Need

@@ -1,6 +1,7 @@
 use crate::lost::{unclaimed, unlisted};
 use crate::order::shown;
 use crate::piece::{Among, Memory, Piece};
+use crate::runs::OwnerRuns;
 use crate::spare::{SpaceTrust, lowest_for, may_spare};
 use crate::sweep::{first_met, firsts_on};
 use fs_model::{Evidence, Unit};
@@ -18,11 +19,15 @@ pub struct ClaimSet {
 }
 
 impl ClaimSet {
-    ghost use Rattle.std.specs.Prelude.{◌≡◌, ℕ, [], ◌∷◌, ◌++◌, map, IfOk, OnOk, OnErr};
+    ghost use Rattle.std.specs.Prelude.{◌≡◌, ℕ, [], ◌∷◌, ◌++◌, List, map, IfOk, OnOk, OnErr};
     ghost use Rattle.std.specs.List.Sorted.{IsPermutation};
     ghost use Rattle.derive_defs.specs.Mappings.{EndWithin};
     ghost use Rattle.run_sets.specs.Runs.{AreRunsBelow, EndWithin as RunsEnd};
-    ghost use Rattle.unit_plan.specs.Lost.{is_unclaimed, is_unlisted};
+    ghost use Rattle.rmap_recs.specs.Runs.{AreRuns};
+    ghost use Rattle.rmap_recs.specs.declared.tuples.Tuple.{Tuple};
+    ghost use Rattle.run_edits.specs.Pieces.{AreTuplesOf};
+    ghost use Rattle.unit_plan.specs.Joined.{ClaimOnce, runs_of};
+    ghost use Rattle.unit_plan.specs.Lost.{is_unclaimed, is_unlisted, of_piece};
     ghost use Rattle.unit_plan.specs.Sets.{pieces_of, IsFirstOverlap, LieBelow};
     ghost use Rattle.unit_plan.specs.Spans.{MappingsRise, SpansFit, span_run};
     ghost use Rattle.unit_plan.specs.Spare.{IsLowest, is_spare};
@@ -83,6 +88,18 @@ impl ClaimSet {
             return None;
         }
         lowest_for(unit, free, mappings, self.pieces.as_slice())
+    }
+
+    /// The maximal runs of all owners: what the reverse mapping btree of a group must hold whose claims
+    /// these are. No block is claimed twice for one owner at one offset, and a block behind each piece
+    /// has a number. The runs are made of the pieces in their places: it takes no memory, and beside the
+    /// sort it costs a binary search for each piece, however many blocks that has
+    /// (XFS Online Fsck Design, "Case Study: Rebuilding Reverse Mapping Records").
+    pub fn into_runs(self) -> OwnerRuns
+        requires { ClaimOnce (pieces_of self) }
+        ensures { (ts : List Tuple) → AreTuplesOf ts (map of_piece (pieces_of self)) → AreRuns ts (runs_of result) }
+    {
+        OwnerRuns::of_pieces(self.pieces)
     }
 
     /// The limbo of a switch of reverse mappings: the maximal runs of the blocks of a group of `length`

@@ -9,6 +9,7 @@ mod lost;
 mod needs;
 mod order;
 mod piece;
+mod runs;
 mod spare;
 mod sweep;
 
@@ -16,4 +17,5 @@ pub use claims::ClaimSet;
 pub use laws::{any_order, in_group, one_need, spare_in_group};
 pub use needs::need;
 pub use piece::{Among, Memory, PIECE_BYTES, Piece};
+pub use runs::OwnerRuns;
 pub use spare::SpaceTrust;

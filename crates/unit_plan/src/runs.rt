@@ -1,0 +1,169 @@
+// The maximal runs of the owners, made of the pieces in their places.
+ghost use Rattle.std.specs.Prelude.{◌≡◌, ◌≢◌, ◌<◌, ◌≤◌, ◌+◌, ◌^◌, ℕ, true, false, All, Contains, IfSome, IsNone, List, Some, get_or, length, map};
+ghost use Rattle.rmap_recs.specs.Rmap.{can_join as can_join_of};
+ghost use Rattle.rmap_recs.specs.Words.{word_goes_on};
+ghost use Rattle.rmap_recs.specs.declared.records.RmapRec.{RmapRec as GhostRec};
+ghost use Rattle.run_edits.specs.Edits.{is_before as is_before_of};
+ghost use Rattle.run_edits.specs.Pieces.{ArePieces};
+ghost use Rattle.sblock.specs.Lists.{Rises};
+ghost use Rattle.unit_plan.specs.Joined.{AreJoinedFrom, Fits, counted, key_in_order};
+ghost use Rattle.unit_plan.specs.Lost.{of_piece};
+
+use crate::piece::Piece;
+use rmap_recs::{RmapKind, RmapRec, is_fork_data};
+use sblock::RecKind;
+
+/// The maximal runs of consecutive blocks with one owner and the same flags and, for blocks that a fork
+/// maps, consecutive offsets, in the order of reverse mappings. They stand where the pieces stood that
+/// they are made of.
+#[derive(Drop)]
+pub struct OwnerRuns {
+    pieces: Vec<Piece>,
+}
+
+// One more than the greatest offset.
+const OFFSETS: u64 = 1 << 54;
+
+fn rec_of(piece: &Piece) -> RmapRec
+    ensures { result ≡ of_piece piece.now }
+{
+    RmapRec {
+        start: piece.run.start,
+        count: piece.run.count,
+        owner: piece.owner,
+        word: piece.word,
+    }
+}
+
+// What pieces are put in order by: start, owner, and the word without its unwritten flag.
+fn sort_key(piece: &Piece) -> (u32, u64, u64)
+    ensures { result ≡ key_in_order piece.now }
+{
+    let key = RmapKind::key_of(&rec_of(piece));
+    (key.start, key.owner, key.word)
+}
+
+// Whether the piece comes before the record.
+fn is_before(piece: &Piece, next: &RmapRec) -> bool
+    ensures { result ≡ is_before_of (of_piece piece.now) next.now }
+{
+    RmapKind::is_before(&RmapKind::key_of(&rec_of(piece)), &RmapKind::key_of(next))
+}
+
+// The offset word that a record would have that goes on behind the run.
+fn word_behind(run: &RmapRec) -> Option<u64>
+    ensures { (next : ℕ) → word_goes_on run.now.owner run.now.word run.now.count next ≡ true → result ≡ Some next }
+{
+    if !is_fork_data(run.owner, run.word) {
+        return Some(run.word);
+    }
+    if run.word % OFFSETS + u64::from(run.count) >= OFFSETS {
+        return None;
+    }
+    Some(run.word + u64::from(run.count))
+}
+
+// Where the piece stands that comes not before this record.
+fn place_of(pieces: &[Piece], next: &RmapRec) -> usize
+    requires { Rises is_before_of (map of_piece pieces.now) }
+    ensures within { result ≤ length pieces.now }
+    ensures before { (k : ℕ) (d : GhostRec) → k < result → is_before_of (get_or (map of_piece pieces.now) k d) next.now ≡ true }
+    ensures others { (k : ℕ) (d : GhostRec) → result ≤ k → k < length pieces.now → is_before_of (get_or (map of_piece pieces.now) k d) next.now ≡ false }
+{
+    pieces.partition_point(|other| is_before(other, next))
+}
+
+// The place of the piece that goes on behind the run, where there is one.
+fn place_behind(pieces: &[Piece], run: &RmapRec) -> Option<usize>
+    requires sorted { Rises is_before_of (map of_piece pieces.now) }
+    requires room { run.now.start + run.now.count < 2 ^ 32 }
+    ensures found { IfSome result (λ i. (i < length pieces.now) × ((d : GhostRec) → can_join_of run.now (get_or (map of_piece pieces.now) i d) ≡ true)) }
+    ensures none { IsNone result → (q : GhostRec) → Contains (map of_piece pieces.now) q → can_join_of run.now q ≡ false }
+{
+    let word = word_behind(run)?;
+    let next = RmapRec {
+        start: run.start + run.count,
+        count: 1,
+        owner: run.owner,
+        word,
+    };
+    let place = place_of(pieces, &next);
+    if place < pieces.len() && run.can_join(&rec_of(&pieces[place])) {
+        return Some(place);
+    }
+    None
+}
+
+// Gives the piece so many blocks.
+fn set_count(pieces: &mut [Piece], at: usize, count: u32)
+    requires { at < length pieces.old }
+    ensures long { length pieces.new ≡ length pieces.old }
+    ensures there { (d : GhostRec) → get_or (map of_piece pieces.new) at d ≡ counted count (get_or (map of_piece pieces.old) at d) }
+    ensures others { (k : ℕ) (d : GhostRec) → k ≢ at → get_or (map of_piece pieces.new) k d ≡ get_or (map of_piece pieces.old) k d }
+{
+    pieces[at].run.count = count;
+}
+
+// Joins the piece with the one that goes on behind it, where the later ones are joined.
+fn join_at(pieces: &mut [Piece], at: usize)
+    requires within { at < length pieces.old }
+    requires sorted { Rises is_before_of (map of_piece pieces.old) }
+    requires rooms { All Fits (map of_piece pieces.old) }
+    ensures long { length pieces.new ≡ length pieces.old }
+    ensures rooms { All Fits (map of_piece pieces.new) }
+    ensures joined { (recs : List GhostRec) → ArePieces recs → AreJoinedFrom recs (at + 1) (map of_piece pieces.old) → AreJoinedFrom recs at (map of_piece pieces.new) }
+{
+    let run = rec_of(&pieces[at]);
+    if let Some(behind) = place_behind(pieces, &run) {
+        let more = pieces[behind].run.count;
+        set_count(pieces, at, run.count + more);
+        set_count(pieces, behind, 0);
+    }
+}
+
+// Joins all of them, from the last to the first.
+fn join_all(pieces: &mut [Piece])
+    requires { ArePieces (map of_piece pieces.old) }
+    ensures { AreJoinedFrom (map of_piece pieces.old) 0 (map of_piece pieces.new) }
+{
+    let mut left = pieces.len();
+    while left > 0 {
+        left -= 1;
+        join_at(pieces, left);
+    }
+}
+
+impl OwnerRuns {
+    ghost use Rattle.std.specs.Prelude.{◌≡◌, ◌<◌, List, get_or, length};
+    ghost use Rattle.rmap_recs.specs.Runs.{AreRuns};
+    ghost use Rattle.rmap_recs.specs.declared.records.RmapRec.{RmapRec as OneRec};
+    ghost use Rattle.rmap_recs.specs.declared.tuples.Tuple.{Tuple};
+    ghost use Rattle.run_edits.specs.Pieces.{AreTuplesOf};
+    ghost use Rattle.unit_plan.specs.Joined.{ClaimOnce, runs_of};
+
+    // The runs of these pieces.
+    pub(crate) fn of_pieces(mut pieces: Vec<Piece>) -> Self
+        requires { ClaimOnce pieces.items }
+        ensures { (ts : List Tuple) → AreTuplesOf ts (map of_piece pieces.items) → AreRuns ts (runs_of result) }
+    {
+        pieces.sort_unstable_by_key(|piece| sort_key(piece));
+        join_all(&mut pieces);
+        pieces.retain(|piece| piece.run.count > 0);
+        OwnerRuns { pieces }
+    }
+
+    /// How many runs there are.
+    pub fn len(&self) -> usize
+        ensures { result ≡ length (runs_of self.now) }
+    {
+        self.pieces.len()
+    }
+
+    /// Run number `i`, counted from 0, in the order of reverse mappings.
+    pub fn run(&self, i: usize) -> RmapRec
+        requires { i < length (runs_of self.now) }
+        ensures { (d : OneRec) → result ≡ get_or (runs_of self.now) i d }
+    {
+        rec_of(&self.pieces[i])
+    }
+}
