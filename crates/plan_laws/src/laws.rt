@@ -1,7 +1,7 @@
 ghost use Rattle.plan_laws.specs.Agreed.{LowestAgrees, NeedAgrees, SpareAgrees, TreeNeedAgrees};
 ghost use Rattle.fs_model.specs.declared.unit.Unit.TheVariants.{Free, Refc};
 ghost use Rattle.plan_laws.specs.Losing.{LostNothing, LostUnclaimed, LostUnlisted};
-ghost use Rattle.plan_laws.specs.Lying.{LieApart};
+ghost use Rattle.plan_laws.specs.Lying.{AreClaimedOnce, LieApart};
 
 /// A law: the blocks that a plan calls spare for a unit are those that its step may take, and the lowest of
 /// them in the group is the block that the step takes
@@ -27,6 +27,13 @@ pub fn need_agrees()
 /// (XFS Online Fsck Design, "Case Study: Rebuilding Reverse Mapping Records").
 pub fn pieces_lie_apart()
     ensures { LieApart }
+{}
+
+/// A law: where pieces of claims have no overlap, no block is claimed twice for one owner at one offset,
+/// as their runs ask it; of written file data it is asked for itself
+/// (XFS Online Fsck Design, "Case Study: Rebuilding Reverse Mapping Records").
+pub fn pieces_claim_once()
+    ensures { AreClaimedOnce }
 {}
 
 /// A law: the runs of lost blocks that a set of claims tells are exactly the blocks that a unit's switch
