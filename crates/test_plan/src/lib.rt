@@ -2,8 +2,6 @@
 #![tactic(auto)]
 
 #[cfg(test)]
-mod lost;
-#[cfg(test)]
 mod needs;
 #[cfg(test)]
 mod overlaps;

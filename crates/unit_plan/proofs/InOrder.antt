@@ -1,5 +1,5 @@
 -- Pieces that claim no block twice for one owner at one offset, put in order, are pieces of reverse mappings.
-use Rattle.std.proofs.Common.{◌≡◌, ◌<◌, ◌≤◌, ◌+◌, ◌-◌, ◌^◌, ℕ, zero, suc, Bool, true, false, cond, eqb, ◌&&◌, ◌||◌, ◌==◌, List, [], ◌∷◌, ◌++◌, get_or, length, map, filter, take, All, Contains, refl, sym, ap, ◌∙◌, subst, inl, inr, arith}
+use Rattle.std.proofs.Common.{◌≡◌, ◌<◌, ◌≤◌, ◌+◌, ◌-◌, ℕ, zero, suc, Bool, true, false, cond, eqb, ◌&&◌, ◌||◌, ◌==◌, List, [], ◌∷◌, ◌++◌, get_or, length, map, filter, take, All, Contains, refl, sym, ap, ◌∙◌, subst, inl, inr, arith}
 use Rattle.std.specs.Prelude.{if◌then◌else◌, nat_lt, nat_le}
 use Rattle.std.specs.List.Sorted.{IsPermutation, IsSortedByKey}
 use Rattle.std.specs.Fn.{Called, ComputesKey, Mut}
@@ -8,7 +8,7 @@ use Rattle.std.specs.declared.cmp.Ordering.{Ordering}
 use Rattle.std.specs.declared.cmp.Ordering.TheVariants.{Less, Equal, Greater}
 use Rattle.std.proofs.Math.Seq.{take-length}
 use Rattle.std.proofs.lemmas.List.{take-append-le}
-use Rattle.std.proofs.lemmas.Bool.{and_from, cases_lt, cases_order, eq-eqb, false≢true, le-leb, lt-ltb}
+use Rattle.std.proofs.lemmas.Bool.{and_from, cases_order, eq-eqb, le-leb, lt-ltb}
 use Rattle.std.proofs.lemmas.Bool.Decides.{nat_tests}
 use Rattle.std.proofs.lemmas.Fn.{always_returns_same}
 use Rattle.std.proofs.lemmas.List.Sorted.{All-permutation, Contains-permutation, IsPermutation-map, IsPermutation-sym}
@@ -24,7 +24,7 @@ use Rattle.rmap_recs.proofs.WordLemmas.{key_word_twice}
 use Rattle.run_edits.specs.EditLaws.{IsOf}
 use Rattle.run_edits.specs.Edits.{HasRoom, is_before}
 use Rattle.run_edits.specs.Pieces.{ArePieces, AreTuplesOf, joined_pieces}
-use Rattle.run_edits.proofs.ChainLemmas.{first_is, first_of}
+use Rattle.run_edits.proofs.ChainLemmas.{first_is}
 use Rattle.run_edits.proofs.PieceLemmas.{piece_some, pieces_exact}
 use Rattle.unit_plan.specs.declared.piece.Piece.{Piece}
 use Rattle.unit_plan.specs.Joined.{AreJoinedFrom, ClaimOnce, has_key, how_many, key_in_order}

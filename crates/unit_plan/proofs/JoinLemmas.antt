@@ -1,5 +1,5 @@
 -- Pieces that take in those behind them, from the last to the first, become the maximal runs.
-use Rattle.std.proofs.Common.{◌≡◌, ◌≢◌, ◌<◌, ◌≤◌, ◌+◌, ◌-◌, ◌%◌, ◌^◌, ℕ, zero, suc, Bool, true, false, not, cond, ◌&&◌, ◌||◌, ◌==◌, List, [], ◌∷◌, get_or, drop, length, map, set, All, Contains, Option, Some, None, find, filter, refl, sym, ap, ◌∙◌, subst, inl, inr, arith}
+use Rattle.std.proofs.Common.{◌≡◌, ◌≢◌, ◌<◌, ◌≤◌, ◌+◌, ◌-◌, ◌^◌, ℕ, zero, suc, Bool, true, false, not, cond, ◌&&◌, ◌||◌, ◌==◌, List, [], ◌∷◌, get_or, drop, length, map, set, All, Contains, Option, Some, None, find, filter, refl, sym, ap, ◌∙◌, subst, inl, inr, arith}
 use Rattle.std.specs.Prelude.{if◌then◌else◌, nat_lt}
 use Rattle.std.specs.List.{list_any}
 use Rattle.std.specs.Option.{option_map_or}
@@ -13,10 +13,9 @@ use Rattle.rmap_recs.specs.Rmap.{can_join, key_of, is_key_before}
 use Rattle.rmap_recs.specs.Runs.{goes_on, tuple_at}
 use Rattle.rmap_recs.specs.Words.{flags_of, is_fork_data, key_word, offset_of, word_goes_on}
 use Rattle.rmap_recs.specs.declared.records.RmapRec.{RmapRec}
-use Rattle.rmap_recs.specs.declared.tuples.Tuple.{Tuple}
 use Rattle.rmap_recs.proofs.RisingLemmas.{any_found, any_here, at_place, before_later, false_by, found_by_find, in_front, in_rest, none_by_find, same_default}
 use Rattle.rmap_recs.proofs.WordLemmas.{same_flags, same_sort}
-use Rattle.run_edits.specs.Edits.{HasRoom, is_before, joined}
+use Rattle.run_edits.specs.Edits.{is_before, joined}
 use Rattle.run_edits.specs.Pieces.{ArePieces, chain, is_followed, joined_pieces, run_of}
 use Rattle.run_edits.proofs.ChainLemmas.{in_row, join_is, offset_then, only_ahead}
 use Rattle.run_edits.proofs.FitLemmas.{ends_at, has_room_at}

@@ -1,4 +1,4 @@
-use Rattle.std.proofs.Common.{◌≡◌, ◌<◌, ◌+◌, ◌^◌, ℕ, true, get_or, length, map, ap, refl, sym, subst, ◌∙◌, arith}
+use Rattle.std.proofs.Common.{◌≡◌, ◌+◌, true, get_or, map, ap, refl, sym, subst, ◌∙◌, arith}
 use Rattle.rmap_recs.specs.Rmap.{can_join}
 use Rattle.rmap_recs.specs.declared.records.RmapRec.{RmapRec}
 use Rattle.run_edits.proofs.FitLemmas.{ends_at}
