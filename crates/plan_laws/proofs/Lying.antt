@@ -24,7 +24,7 @@ use Rattle.unit_plan.proofs.Counting.{many, any_some, many_both, many_map}
 use Rattle.unit_plan.proofs.FoundLemmas.{shown, blocks_shown, length_shown, hard_shown}
 use Rattle.unit_plan.proofs.LawLemmas.{any_order_lem}
 use Rattle.unit_plan.proofs.SweepLemmas.{there, hard_there}
-use Rattle.unit_plan.specs.Joined.{ClaimOnce, has_key, how_many}
+use Rattle.unit_plan.specs.Joined.{has_key, how_many}
 use Rattle.unit_plan.specs.Lost.{of_piece}
 use Rattle.plan_laws.specs.Lying.{AreClaimedOnce, LieApart}
 

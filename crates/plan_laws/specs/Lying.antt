@@ -2,7 +2,6 @@
 use Rattle.std.specs.Prelude.{◌≡◌, ◌≤◌, ◌&&◌, not, List, None, false, map, All, Contains}
 use Rattle.std.specs.List.Sorted.{IsPermutation}
 use Rattle.rmap_recs.specs.declared.records.Key.{Key}
-use Rattle.rmap_recs.specs.declared.records.RmapRec.{RmapRec}
 use Rattle.rmap_recs.specs.declared.tuples.Tuple.{Tuple}
 use Rattle.run_edits.specs.EditLaws.{IsOf}
 use Rattle.run_edits.specs.Edits.{HasRoom, is_before}
