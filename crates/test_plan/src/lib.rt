@@ -2,6 +2,8 @@
 #![tactic(auto)]
 
 #[cfg(test)]
+mod lost;
+#[cfg(test)]
 mod needs;
 #[cfg(test)]
 mod overlaps;
