@@ -27,7 +27,7 @@ use Rattle.fs_change.specs.Forget.{Forget, forgotten}
 use Rattle.fs_change.specs.Parts.{at_only, stands_in, records_in}
 use Rattle.fs_change.specs.Run.{Leads, RunAll}
 use Rattle.fs_change.specs.Scan.{visited, held_tuples, shadow_of}
-use Rattle.fs_change.specs.Step.{Step, Row, may_leave, edited_kinds, group_of_entry, group_of_inode}
+use Rattle.fs_change.specs.Step.{Step, Row, may_leave, leaves_faults, edited_kinds, group_of_entry, group_of_inode}
 use Rattle.fs_change.specs.Switch.{switched}
 
 -- ---- what an entry decides is allowed: all blocks may stay where they are
@@ -37,7 +37,7 @@ abbrev pub AreWords : Group → Type 0
 AreWords p = (name : Counter) → p.counters name < 2 ^ 32
 
 abbrev pub DecidedStands : Type 0
-DecidedStands = (a x : State) (left : List Kind) (e : Entry) → Row a left e x → list_all (λ k. is_among k (may_leave e)) left ≡ true → AreWords (x.group (group_of_entry a e)) → Step a left e x
+DecidedStands = (a x : State) (left : List Kind) (e : Entry) → Row a left e x → list_all (λ k. is_among k (may_leave a e)) left ≡ true → leaves_faults a left e ≡ true → AreWords (x.group (group_of_entry a e)) → Step a left e x
 
 -- ---- journals one after the other
 
@@ -85,16 +85,16 @@ abbrev pub with_owners : List Kind → List Kind
 with_owners [] = []
 with_owners (k ∷ ks) = Rmap ∷ k ∷ ks
 
-abbrev pub changed_kinds : Entry → List Kind
-changed_kinds (entries.Marked g k cause) = k ∷ []
-changed_kinds (entries.Fault g unit fault) = kind_of_fault fault ∷ []
-changed_kinds (entries.Verdict g unit verdict) = kinds_of unit
-changed_kinds (entries.Switched g unit root second) = kinds_of unit
-changed_kinds e = with_owners (edited_kinds e)
+abbrev pub changed_kinds : State → Entry → List Kind
+changed_kinds a (entries.Marked g k cause) = k ∷ []
+changed_kinds a (entries.Fault g unit fault) = kind_of_fault fault ∷ []
+changed_kinds a (entries.Verdict g unit verdict) = kinds_of unit
+changed_kinds a (entries.Switched g unit root second) = kinds_of unit
+changed_kinds a e = with_owners (edited_kinds a e)
 
 -- all other trees are as they were, blocks, records and trust
 abbrev pub KeepsOtherTrees : Type 0
-KeepsOtherTrees = (a b : State) (left : List Kind) (e : Entry) → Step a left e b → (k : Kind) → is_among k (changed_kinds e) ≡ false
+KeepsOtherTrees = (a b : State) (left : List Kind) (e : Entry) → Step a left e b → (k : Kind) → is_among k (changed_kinds a e) ≡ false
     → (b.group (group_of_entry a e)).tree k ≡ (a.group (group_of_entry a e)).tree k
 
 -- the inodes whose core or fork an entry changes: its own, those of a new chunk, and what a reserved block held
@@ -117,12 +117,12 @@ KeepsOtherInodes = (a b : State) (left : List Kind) (e : Entry) → Step a left 
 -- ---- a switch
 
 -- the unit's trees hold what is derived from the state that the switch reaches
-abbrev pub DerivedAgain : State → ℕ → ScrubUnit → Type 0
-DerivedAgain a g unit = EachTree (λ k. records_in ((switched a g unit).group g) k ≡ derive (switched a g unit) g k) (kinds_of unit)
+abbrev pub DerivedAgain : State → ℕ → ScrubUnit → (Kind → List ℕ) → Type 0
+DerivedAgain a g unit blocks = EachTree (λ k. records_in ((switched a g unit blocks).group g) k ≡ derive (switched a g unit blocks) g k) (kinds_of unit)
 
 -- so do those of free space and of reference counts, whatever these were before
 abbrev pub SpaceDerivedAgain : Type 0
-SpaceDerivedAgain = (a : State) (g : ℕ) → DerivedAgain a g units.Free × DerivedAgain a g units.Refc
+SpaceDerivedAgain = (a : State) (g : ℕ) (blocks : Kind → List ℕ) → DerivedAgain a g units.Free blocks × DerivedAgain a g units.Refc blocks
 
 -- ---- sets of owners
 

@@ -60,6 +60,11 @@ in_blocks blocks (Unreadable block fault claims) = Unreadable block fault blocks
 abbrev pub set_blocks : Kind → List ℕ → Group → Group
 set_blocks k blocks p = change_tree k (λ i. record i { reading = in_blocks blocks i.reading }) p
 
+-- these trees in these blocks
+abbrev pub in_trees : (Kind → List ℕ) → List Kind → Group → Group
+in_trees blocks [] p = p
+in_trees blocks (k ∷ ks) p = set_blocks k (blocks k) (in_trees blocks ks p)
+
 abbrev pub set_trust : Trust → Kind → Group → Group
 set_trust t k p = change_tree k (λ i. record i { trust = t }) p
 

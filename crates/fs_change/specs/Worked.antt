@@ -8,7 +8,7 @@ use Rattle.span_recs.specs.declared.refcount.RefcRec.{RefcRec}
 use Rattle.span_recs.specs.declared.span.SpanRec.{SpanRec}
 use Rattle.fs_change.specs.Choice.{is_guarded}
 use Rattle.fs_change.specs.Changes.{follow, by_count}
-use Rattle.fs_change.specs.Records.{span, by_start, take_span, give_span, give_mapping, take_mapping, counted, count_at, is_stretch, set_count, turn_inode, follow_inode, add_mapping, take_piece}
+use Rattle.fs_change.specs.Records.{span, by_start, take_span, give_span, give_mapping, take_mapping, counted, count_at, stretch, set_count, turn_inode, follow_inode, add_mapping, take_piece}
 use Rattle.fs_change.specs.Switch.{need_of, join_limbo, owned_by}
 
 -- ---- free space
@@ -61,10 +61,11 @@ counts = counted 4 4 2 ∷ counted 8 4 3 ∷ counted 20 2 2 ∷ []
 pub record WorkedCounts : Type 0 where
   pub there : count_at counts 11 ≡ 3
   pub none : count_at counts 12 ≡ 1
-  pub stretch : is_stretch counts 9 3 ≡ true
-  pub beyond : is_stretch counts 9 4 ≡ false
-  pub empty : is_stretch counts 12 8 ≡ true
-  pub meets : is_stretch counts 12 9 ≡ false
+  pub reach : stretch counts 9 3 ≡ 3
+  pub beyond : stretch counts 9 4 ≡ 3
+  pub empty : stretch counts 12 8 ≡ 8
+  pub meets : stretch counts 12 9 ≡ 8
+  pub last : stretch counts 22 5 ≡ 5
   pub risen : set_count 6 2 3 counts ≡ counted 4 2 2 ∷ counted 6 6 3 ∷ counted 20 2 2 ∷ []
   pub gone : set_count 5 1 1 counts ≡ counted 4 1 2 ∷ counted 6 2 2 ∷ counted 8 4 3 ∷ counted 20 2 2 ∷ []
   pub begun : set_count 18 2 2 counts ≡ counted 4 4 2 ∷ counted 8 4 3 ∷ counted 18 4 2 ∷ []

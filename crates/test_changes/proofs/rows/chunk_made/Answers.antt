@@ -10,4 +10,4 @@ use Rattle.test_changes.proofs.rows.chunk_made.Goals as goal
 
 pub returns : goal.returns
 unfolding computing
-returns c = (([], with_chunk, stands all_taken with_chunk (entries.Taken 1 256 5 (Some 32)) (256, (λ g. true, refl, refl, refl, (span 32 224, refl, refl), refl), refl, refl) refl, tt, refl), refl, refl, refl, refl, refl)
+returns c = (([], with_chunk, stands all_taken with_chunk (entries.Taken 1 256 5 (Some 32)) (256, (λ g. true, refl, refl, refl, refl), refl, refl) refl, tt, refl), refl, refl, refl, refl, refl)

@@ -15,7 +15,7 @@ returns c = (
   (
     [],
     converted (piece 1 41 1) unwritten_file,
-    stands unwritten_file (converted (piece 1 41 1) unwritten_file) (entries.Converted (piece 1 41 1)) (changes unwritten_file (piece 1 41 1) refl refl (first unwritten_file 195 refl refl) refl, refl) refl,
+    stands unwritten_file (converted (piece 1 41 1) unwritten_file) (entries.Converted (piece 1 41 1)) (changes unwritten_file (piece 1 41 1) refl refl (first unwritten_file 195 refl refl refl refl refl) refl, refl) refl,
     tt,
     (
       [],

@@ -15,12 +15,12 @@ returns c = (
   (
     [],
     file_made,
-    stands image_a file_made (entries.Taken 1 195 7 None) (195, (λ g. true, refl, (0, ltb-true 0 1 refl, refl), refl), refl, refl) refl,
+    stands image_a file_made (entries.Taken 1 195 7 None) (195, (λ g. true, refl, (0, ltb-true 0 1 refl, refl), refl, refl), refl, refl) refl,
     tt,
     (
       [],
       mapped (piece 0 32 6) file_made,
-      stands (file_made) (mapped (piece 0 32 6) (file_made)) (entries.Mapped (piece 0 32 6)) (record { some = ltb-true 0 6 refl; first = first (file_made) 195 refl refl; unmapped = refl; chosen = (λ g. true, 6, refl); listed = (span 32 224, refl, refl); unowned = refl }, refl) refl,
+      stands (file_made) (mapped (piece 0 32 6) (file_made)) (entries.Mapped (piece 0 32 6)) (record { some = ltb-true 0 6 refl; first = first (file_made) 195 refl refl refl refl refl; unmapped = refl; chosen = (λ g. true, 6, refl); unowned = refl }, refl) refl,
       tt,
       (
         [],
@@ -30,7 +30,7 @@ returns c = (
         (
           [],
           mapped (piece 6 19 1) grown_six,
-          stands (grown_six) (mapped (piece 6 19 1) (grown_six)) (entries.Mapped (piece 6 19 1)) (record { some = ltb-true 0 1 refl; first = first (grown_six) 195 refl refl; unmapped = refl; chosen = (λ g. true, 1, refl); listed = (span 19 5, refl, refl); unowned = refl }, refl) refl,
+          stands (grown_six) (mapped (piece 6 19 1) (grown_six)) (entries.Mapped (piece 6 19 1)) (record { some = ltb-true 0 1 refl; first = first (grown_six) 195 refl refl refl refl refl; unmapped = refl; chosen = (λ g. true, 1, refl); unowned = refl }, refl) refl,
           tt,
           (
             [],

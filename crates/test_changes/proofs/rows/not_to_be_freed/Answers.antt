@@ -10,4 +10,4 @@ no_less h = omega arith
 
 pub returns : goal.returns
 unfolding computing
-returns c = (λ left b s. true≢false (sym s.row.5), λ left b s. no_less s.row.1.some, λ left b s. true≢false (sym s.row.1.in_limbo))
+returns c = (λ left b s. true≢false (sym s.row.5), λ left b s. no_less s.row.0.some, λ left b s. true≢false (sym s.row.0.in_limbo))

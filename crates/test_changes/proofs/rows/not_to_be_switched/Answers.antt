@@ -15,4 +15,4 @@ no_two h = omega arith
 
 pub returns : goal.returns
 unfolding computing
-returns c = (λ left b s. no_two s.row.0.enough, λ left b s. true≢false (ap is_some s.row.0.sound), λ left b s. true≢false (ap is_seven s.row.0.0))
+returns c = (λ left b s. no_two s.row.1.enough, λ left b s. true≢false (ap is_some s.row.1.sound), λ left b s. true≢false (ap is_seven s.row.0.1))

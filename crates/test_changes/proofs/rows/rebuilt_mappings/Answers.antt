@@ -1,7 +1,7 @@
 use Rattle.std.specs.Prelude.{refl, [], ◌∷◌, true, false, Some, None}
 use Rattle.test_changes.proofs.Computing.{computing}
 use Rattle.test_changes.proofs.Stands.{reserve_step, switch_step, reap_step, fault_step, verdict_step}
-use Rattle.test_changes.specs.Repairs.{free_reserved, free_rebuilt, free_reaped, rmap_reserved, rmap_rebuilt, rmap_reaped, ino_reserved, ino_rebuilt, ino_reaped}
+use Rattle.test_changes.specs.Repairs.{in_blocks, free_reserved, free_rebuilt, free_reaped, rmap_reserved, rmap_rebuilt, rmap_reaped, ino_reserved, ino_rebuilt, ino_reaped}
 use Rattle.fs_change.specs.Changes.{marked, reserved}
 use Rattle.fs_change.specs.Switch.{switched}
 use Rattle.fs_model.specs.declared.fault.Fault.TheVariants.{Block, Missing}
@@ -30,18 +30,18 @@ returns c = (
       tt,
       (
         [],
-        switched rmap_reserved 0 units.Rmap,
-        switch_step rmap_reserved units.Rmap 7 0 refl refl refl (refl, refl) refl,
+        switched rmap_reserved 0 units.Rmap (in_blocks (7 ∷ []) []),
+        switch_step rmap_reserved units.Rmap (in_blocks (7 ∷ []) []) 7 0 refl refl refl ((record { same = λ b. refl; root = refl }), tt) (refl, refl) refl,
         tt,
         (
           [],
           rmap_rebuilt,
-          verdict_step (switched rmap_reserved 0 units.Rmap) units.Rmap Rebuilt refl,
+          verdict_step (switched rmap_reserved 0 units.Rmap (in_blocks (7 ∷ []) [])) units.Rmap Rebuilt refl,
           tt,
           (
             [],
             rmap_reaped,
-            reap_step rmap_rebuilt ag 5 1 refl refl refl,
+            reap_step rmap_rebuilt 5 1 refl refl refl refl,
             tt,
             refl,
           ),

@@ -15,7 +15,7 @@ returns c = (
   (
     [],
     unmapped (piece 5 40 1) shared_forty,
-    stands (shared_forty) (unmapped (piece 5 40 1) (shared_forty)) (entries.Unmapped (piece 5 40 1)) (changes (shared_forty) (piece 5 40 1) refl refl (first (shared_forty) 195 refl refl) refl, refl) refl,
+    stands (shared_forty) (unmapped (piece 5 40 1) (shared_forty)) (entries.Unmapped (piece 5 40 1)) (changes (shared_forty) (piece 5 40 1) refl refl (first (shared_forty) 195 refl refl refl refl refl) refl, refl) refl,
     tt,
     (
       [],
@@ -37,7 +37,7 @@ returns c = (
   (
     [],
     unmapped (piece 0 40 1) lost_one,
-    stands (lost_one) (unmapped (piece 0 40 1) (lost_one)) (entries.Unmapped (piece 0 40 1)) (changes (lost_one) (piece 0 40 1) refl refl (first (lost_one) 195 refl refl) refl, refl) refl,
+    stands (lost_one) (unmapped (piece 0 40 1) (lost_one)) (entries.Unmapped (piece 0 40 1)) (changes (lost_one) (piece 0 40 1) refl refl (first (lost_one) 195 refl refl refl refl refl) refl, refl) refl,
     tt,
     (
       [],
