@@ -38,7 +38,7 @@ group_forgets p = record {
   limbo = refl;
 }
 
-session_begins : (a : State) → Forget a (forgotten a)
+pub session_begins : (a : State) → Forget a (forgotten a)
 session_begins a = record {
   geometry = refl;
   groups = λ g. group_forgets (a.group g);

@@ -1,6 +1,8 @@
 mod Again
+mod Alike
 mod Beside
-mod Compose
+pub mod Compose
+mod Counted
 mod Inodes
 mod Owed
 pub mod Sets

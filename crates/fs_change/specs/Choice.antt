@@ -11,7 +11,7 @@ use Rattle.ino_recs.specs.declared.chunk.InoRec.{InoRec}
 use Rattle.rmap_recs.specs.declared.records.RmapRec.{RmapRec}
 use Rattle.span_recs.specs.declared.span.SpanRec.{SpanRec}
 use Rattle.sblock.specs.declared.kind.Kind.{Kind}
-use Rattle.sblock.specs.declared.kind.Kind.TheVariants.{Bno, Cnt, Rmap, Ino, Fino}
+use Rattle.sblock.specs.declared.kind.Kind.TheVariants.{Bno, Cnt, Rmap, Refc, Ino, Fino}
 use Rattle.fs_state.specs.Apart.{is_free}
 use Rattle.fs_state.specs.State.{State, Group, is_readable}
 use Rattle.fs_derive.specs.Claims.{Claimed, claims, metadata_claims}
@@ -38,6 +38,10 @@ is_usable a gates ks g = gates g && none_sick ks (a.group g)
 
 abbrev pub space_kinds : List Kind
 space_kinds = Bno ∷ Cnt ∷ Rmap ∷ []
+
+-- those that are asked before a piece of a file is taken away, shared or made written
+abbrev pub piece_kinds : List Kind
+piece_kinds = Rmap ∷ Refc ∷ Bno ∷ Cnt ∷ []
 
 abbrev pub group_or_first : Option (ℕ × ℕ) → ℕ
 group_or_first None = 0

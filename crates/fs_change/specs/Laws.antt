@@ -14,7 +14,7 @@ use Rattle.sblock.specs.declared.kind.Kind.TheVariants.{Rmap}
 use Rattle.fs_state.specs.Apart.{is_inode}
 use Rattle.fs_state.specs.Frame.{SameFork}
 use Rattle.fs_state.specs.Group.{is_among}
-use Rattle.fs_state.specs.State.{State, Group}
+use Rattle.fs_state.specs.State.{State, Group, blocks_in}
 use Rattle.fs_state.specs.declared.intent.Intent.{Intent}
 use Rattle.fs_derive.specs.Claims.{fork_claims}
 use Rattle.fs_derive.specs.Derive.{derive}
@@ -28,7 +28,7 @@ use Rattle.fs_change.specs.Parts.{at_only, stands_in, records_in}
 use Rattle.fs_change.specs.Run.{Leads, RunAll}
 use Rattle.fs_change.specs.Scan.{visited, held_tuples, shadow_of}
 use Rattle.fs_change.specs.Step.{Step, Row, may_leave, leaves_faults, edited_kinds, group_of_entry, group_of_inode}
-use Rattle.fs_change.specs.Switch.{switched}
+use Rattle.fs_change.specs.Switch.{is_reserve_of, AreLaid, kind_need, prepared, moved, switched}
 
 -- ---- what an entry decides is allowed: all blocks may stay where they are
 
@@ -123,6 +123,17 @@ DerivedAgain a g unit blocks = EachTree (λ k. records_in ((switched a g unit bl
 -- so do those of free space and of reference counts, whatever these were before
 abbrev pub SpaceDerivedAgain : Type 0
 SpaceDerivedAgain = (a : State) (g : ℕ) (blocks : Kind → List ℕ) → DerivedAgain a g units.Free blocks × DerivedAgain a g units.Refc blocks
+
+-- so do those of inodes: what is put in lists the chunks that there were
+abbrev pub InodesDerivedAgain : Type 0
+InodesDerivedAgain = (a : State) (g : ℕ) (blocks : Kind → List ℕ) → DerivedAgain a g units.Inode blocks
+
+-- A block of a unit's reserve counts alike as reserve, as a new tree's and as limbo: the state by which the need is counted
+-- has the derivations of the one that the switch reaches. So list and need don't go round in circles.
+abbrev pub ReserveCountsAlike : Type 0
+ReserveCountsAlike = (a : State) (g : ℕ) (unit : ScrubUnit) (blocks : Kind → List ℕ) → is_reserve_of unit (a.group g) ≡ true
+    → AreLaid (kind_need a g unit) (kinds_of unit) (blocks_in (a.group g).reserve) blocks
+    → EachTree (λ k. derive (moved a g unit blocks) g k ≡ derive (prepared a g unit) g k) (kinds_of unit)
 
 -- ---- sets of owners
 

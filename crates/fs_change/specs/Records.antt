@@ -108,6 +108,10 @@ counter_of rs b = only_where (λ r. nat_lt b (refc_end r)) (last_at (λ r. r.sta
 unfoldable pub count_at : List RefcRec → ℕ → ℕ
 count_at rs b = option_map_or (λ r. r.refcount) (counter_of rs b) 1
 
+-- a block with so many owners isn't shared once more
+abbrev pub most_counted : ℕ
+most_counted = 4294967200
+
 -- How far does one count reach, of n blocks from b on? To the end of the record that has b; else to the next record.
 unfoldable pub stretch : List RefcRec → ℕ → ℕ → ℕ
 stretch rs b n = min n (option_map_or refc_end (counter_of rs b) (option_map_or (λ r. r.start) (find (λ r. nat_lt b r.start) rs) (b + n)) - b)

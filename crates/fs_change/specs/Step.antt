@@ -35,11 +35,11 @@ use Rattle.fs_derive.specs.Claims.{fork_of}
 use Rattle.fs_derive.specs.Lists.{numbers}
 use Rattle.fs_change.specs.Chains.{most_chains, pending, gives, takes, Quiet}
 use Rattle.fs_change.specs.Changes.{extent_of, data_of, mapped, unmapped, converted, shared, rmap_done, ref_done, freed, taken, given, refilled, trimmed, marked, judged, reserved, released, owner_of_run, reaped}
-use Rattle.fs_change.specs.Choice.{is_guarded, none_sick, space_kinds, chosen, chosen_of, spare_block, free_inode, chunk_run, inode_of}
+use Rattle.fs_change.specs.Choice.{is_guarded, none_sick, space_kinds, piece_kinds, chosen, chosen_of, spare_block, free_inode, chunk_run, inode_of}
 pub use Rattle.fs_change.specs.Edited.{group_of_inode, group_of_entry, edits_count, edits_reserve, edits_reaped, edited_kinds, edited_in, may_leave, met_by, leaves_faults}
 use Rattle.fs_change.specs.Loose.{Loosely}
 use Rattle.fs_change.specs.Parts.{sick_in, records_in}
-use Rattle.fs_change.specs.Records.{stretch, has_inode, is_piece, is_unmapped, is_unwritten_at}
+use Rattle.fs_change.specs.Records.{count_at, most_counted, stretch, has_inode, is_piece, is_unmapped, is_unwritten_at}
 use Rattle.fs_change.specs.Switch.{has_owned, owned_by, is_reserve_of, AreLaid, kind_need, need, switched}
 
 -- ---- first events
@@ -79,12 +79,15 @@ pub record MayMap (a : State) (m : Piece) : Type 0 where
 pub record MayChange (a : State) (m : Piece) : Type 0 where
   pub some : 0 < m.count
   pub first : IsFirst a m.chain m.ino
+  pub sound : none_sick piece_kinds (a.group m.group) ≡ true
   pub piece : is_piece m.offset (fs_block_of a.geometry m.group m.block) m.count (data_of a m.ino) ≡ true
 
 pub record MayShare (a : State) (m : SharedPiece) : Type 0 where
   pub some : 0 < m.count
   pub from_first : IsFirst a m.chain m.from
   pub to_first : IsFirst a m.chain m.to
+  pub sound : none_sick piece_kinds (a.group m.group) ≡ true
+  pub below : list_all (λ b. nat_lt (count_at (records_in (a.group m.group) Refc) b) most_counted) (numbers m.block m.count) ≡ true
   pub piece : is_piece m.from_offset (fs_block_of a.geometry m.group m.block) m.count (data_of a m.from) ≡ true
   pub written : is_unwritten_at m.from_offset (data_of a m.from) ≡ false
   pub unmapped : is_unmapped m.to_offset m.count (data_of a m.to) ≡ true

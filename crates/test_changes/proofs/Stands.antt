@@ -28,7 +28,7 @@ use Rattle.fs_derive.specs.Lists.{numbers}
 use Rattle.fs_change.proofs.Stays.{decided_stands}
 use Rattle.fs_change.specs.Chains.{gives, takes, pending, is_quiet}
 use Rattle.fs_change.specs.Changes.{rmap_done, ref_done, freed, reserved, owner_of_run, reaped, marked, judged, data_of}
-use Rattle.fs_change.specs.Choice.{extent}
+use Rattle.fs_change.specs.Choice.{extent, none_sick, piece_kinds}
 use Rattle.fs_change.specs.Laws.{AreWords}
 use Rattle.fs_change.specs.Records.{is_piece}
 use Rattle.fs_change.specs.Step.{Step, Row, IsNext, IsFirst, first_stretch, MayChange, AreRoots, is_ref, is_kept, is_mapping_of, group_of_entry, may_leave}
@@ -91,6 +91,12 @@ stands a x e row w =
 is_next : (a : State) (b n : ℕ) (i : Intent) (rest : List Intent) → a.chains 0 ≡ i ∷ rest → i.group ≡ 0 → i.block ≡ b → nat_lt 0 n ≡ true → nat_le n i.count ≡ true → IsNext a 0 0 b n i rest
 is_next a b n i rest next group block some count = record { next = next; group = group; block = block; some = ltb-true 0 n some; count = leb-true n i.count count }
 
+-- of the inode's
+pub owner_step : (a : State) (ino b n : ℕ) (i : Intent) (rest : List Intent) → a.chains 0 ≡ i ∷ rest → i.group ≡ 0 → i.block ≡ b → nat_lt 0 n ≡ true → nat_le n i.count ≡ true
+    → ((gives i.kind || takes i.kind) ≡ true) → i.ino ≡ ino → i.count ≡ n → is_sound a (entries.RmapDone 0 ino 0 b n) (rmap_done [] 0 i rest a) ≡ true → Step a [] (entries.RmapDone 0 ino 0 b n) (rmap_done [] 0 i rest a)
+owner_step a ino b n i rest next group block some count sort same whole w =
+    stands a (rmap_done [] 0 i rest a) (entries.RmapDone 0 ino 0 b n) (i, rest, is_next a b n i rest next group block some count, sort, same, whole, refl) w
+
 pub mapping_step : (a : State) (b n : ℕ) (i : Intent) (rest : List Intent) → a.chains 0 ≡ i ∷ rest → i.group ≡ 0 → i.block ≡ b → nat_lt 0 n ≡ true → nat_le n i.count ≡ true
     → ((gives i.kind || takes i.kind) ≡ true) → i.ino ≡ 195 → i.count ≡ n → is_sound a (entries.RmapDone 0 195 0 b n) (rmap_done [] 0 i rest a) ≡ true → Step a [] (entries.RmapDone 0 195 0 b n) (rmap_done [] 0 i rest a)
 mapping_step a b n i rest next group block some count sort ino whole w =
@@ -114,8 +120,10 @@ pub first : (a : State) (ino : ℕ) → is_inode a ino ≡ true → is_free (a.c
 first a ino there used readable nothing none =
     record { file = record { inode = there; allocated = used; readable = readable }; open_chain = ltb-true 0 16 refl; owes_nothing = nothing; none_pending = none }
 
-pub changes : (a : State) (m : Piece) → m.chain ≡ 0 → nat_lt 0 m.count ≡ true → IsFirst a m.chain m.ino → is_piece m.offset (fs_block_of a.geometry m.group m.block) m.count (data_of a m.ino) ≡ true → MayChange a m
-changes a m chain some is_first there = record { some = ltb-true 0 m.count some; first = is_first; piece = there }
+pub changes : (a : State) (m : Piece) → m.chain ≡ 0 → nat_lt 0 m.count ≡ true → IsFirst a m.chain m.ino → (is_piece m.offset (fs_block_of a.geometry m.group m.block) m.count (data_of a m.ino) && none_sick piece_kinds (a.group m.group)) ≡ true → MayChange a m
+changes a m chain some is_first there =
+    let v = and_parts (is_piece m.offset (fs_block_of a.geometry m.group m.block) m.count (data_of a m.ino)) (none_sick piece_kinds (a.group m.group)) there in
+    record { some = ltb-true 0 m.count some; first = is_first; sound = v.1; piece = v.0 }
 
 -- ---- rebuilding
 

@@ -15,7 +15,7 @@ returns c = (
   (
     [],
     shared second_place unshared_forty,
-    stands unshared_forty (shared second_place unshared_forty) (entries.Shared second_place) (record { some = ltb-true 0 1 refl; from_first = first unshared_forty 195 refl refl refl refl refl; to_first = first unshared_forty 195 refl refl refl refl refl; piece = refl; written = refl; unmapped = refl }, refl) refl,
+    stands unshared_forty (shared second_place unshared_forty) (entries.Shared second_place) (record { some = ltb-true 0 1 refl; from_first = first unshared_forty 195 refl refl refl refl refl; to_first = first unshared_forty 195 refl refl refl refl refl; sound = refl; below = refl; piece = refl; written = refl; unmapped = refl }, refl) refl,
     tt,
     (
       [],
