@@ -6,10 +6,10 @@ use Rattle.fs_model.specs.declared.claim.Evidence.TheVariants.{Overlap}
 use Rattle.fs_model.specs.declared.entry.Entry.{Entry}
 use Rattle.fs_model.specs.declared.entry.Entry.TheVariants as entries
 use Rattle.fs_model.specs.declared.fault.Fault.{Fault}
-use Rattle.fs_model.specs.declared.fault.Fault.TheVariants.{Missing, Extra}
+use Rattle.fs_model.specs.declared.fault.Fault.TheVariants.{Block, Missing, Extra}
 use Rattle.fs_model.specs.declared.«record».AnyRec.TheVariants as recs
 use Rattle.fs_model.specs.declared.unit.Unit.TheVariants as units
-use Rattle.fs_model.specs.declared.verdict.Reason.TheVariants.{Contradiction}
+use Rattle.fs_model.specs.declared.verdict.Reason.TheVariants.{Space, Contradiction}
 use Rattle.fs_model.specs.declared.verdict.Verdict.{Verdict}
 use Rattle.fs_model.specs.declared.verdict.Verdict.TheVariants.{Good, Rebuilt, GaveUp, Skipped}
 use Rattle.sblock.specs.declared.block.BlockFault.TheVariants.{Checksum}
@@ -22,13 +22,14 @@ use Rattle.fs_derive.specs.Laws.{EachTree}
 use Rattle.fs_derive.specs.Kinds.{all_kinds}
 use Rattle.fs_derive.specs.Lists.{numbers}
 use Rattle.fs_change.specs.Changes.{marked, judged, reserved, reaped}
-use Rattle.fs_change.specs.Choice.{extent}
+use Rattle.fs_change.specs.Choice.{extent, spare_block}
 use Rattle.fs_change.specs.Forget.{Forget, forgotten}
 use Rattle.fs_change.specs.Parts.{records_in}
 use Rattle.fs_change.specs.Run.{Leads}
 use Rattle.fs_change.specs.Switch.{need, switched}
 use Rattle.test_states.specs.Images.{span, mapped as owned, ag, inodes, free_a}
-use Rattle.test_states.specs.Rows.{on_heads}
+use Rattle.test_states.specs.Rows.{full, on_heads}
+use Rattle.test_changes.specs.Files.{cut_off}
 use Rattle.test_changes.specs.Repairs.{in_blocks, free_reserved, rmap_reserved, rmap_rebuilt, rmap_reaped}
 
 -- ---- a file maps the block of the heads: nothing is rebuilt, and nothing is written
@@ -106,3 +107,34 @@ CutSwitched =
     × (records_in ((again_reaped cut_switched).group 0) Bno ≡ span 5 1 ∷ span 7 1 ∷ free_a)
     × NoFaults (again_reaped cut_switched)
     × NoFaults (forgotten rmap_reaped)
+
+-- ---- a crash after an unmapping's fork: reverse mappings are rebuilt, and the run is limbo and then free
+
+abbrev pub cut_unmapped : State
+cut_unmapped = forgotten cut_off
+
+abbrev pub unmapped_reserved : State
+unmapped_reserved = reserved [] 0 units.Rmap 7 false (marked 0 Rmap cut_unmapped)
+
+abbrev pub unmapped_rebuilt : State
+unmapped_rebuilt = judged 0 units.Rmap Rebuilt (switched unmapped_reserved 0 units.Rmap (in_blocks (7 ∷ []) []))
+
+abbrev pub unmapped_reaped : State
+unmapped_reaped = reaped [] ag (extent 0 32 6) (reaped [] ag (extent 0 5 1) unmapped_rebuilt)
+
+abbrev pub CutRun : Type 0
+CutRun =
+    (faults cut_unmapped 0 units.Rmap ≡ Extra (recs.Rmap (owned 32 6 195 (2 ^ 61))) ∷ [])
+    × Leads cut_unmapped (entries.Fault 0 units.Rmap (Extra (recs.Rmap (owned 32 6 195 (2 ^ 61)))) ∷ entries.Reserved 0 units.Rmap 7 false ∷ entries.Switched 0 units.Rmap 7 0 ∷ entries.Verdict 0 units.Rmap Rebuilt ∷ entries.Reaped (extent 0 5 1) ∷ entries.Reaped (extent 0 32 6) ∷ []) unmapped_reaped
+    × (records_in (unmapped_reaped.group 0) Bno ≡ span 5 1 ∷ span 19 5 ∷ span 32 224 ∷ [])
+    × NoFaults unmapped_reaped
+
+-- ---- no block is left for a rebuild: it is given up, with what it has and what it would need
+
+abbrev pub nothing_left : State
+nothing_left = judged 0 units.Free (GaveUp (Space 0 2)) (marked 0 Bno full)
+
+abbrev pub GivenUpSpace : Type 0
+GivenUpSpace =
+    (faults full 0 units.Free ≡ Block Bno 1 Checksum ∷ []) × (need (marked 0 Bno full) 0 units.Free ≡ 2) × (spare_block (marked 0 Bno full) 0 units.Free ≡ None) × ((full.group 0).free_list ≡ [])
+    × Leads full (entries.Fault 0 units.Free (Block Bno 1 Checksum) ∷ entries.Verdict 0 units.Free (GaveUp (Space 0 2)) ∷ []) nothing_left

@@ -1,4 +1,4 @@
-ghost use Rattle.test_changes.specs.Crashes.{CutReserved, CutSwitched, EitherRoot, GivenUpWhole};
+ghost use Rattle.test_changes.specs.Crashes.{CutReserved, CutRun, CutSwitched, EitherRoot, GivenUpSpace, GivenUpWhole};
 ghost use Rattle.test_changes.specs.Scans.{BehindCursor, HeldInode};
 ghost use Rattle.test_changes.specs.Files.{ConvertedPiece, CutUnmapping, GrowingFile, MappedHalfway, OwnerFound, SharedPieceRow, ShrinkingFile};
 ghost use Rattle.test_changes.specs.Lists.{ChunkMade, Forgotten, LeftAlone, ListMoves, NeedGrows};
@@ -153,4 +153,14 @@ pub fn not_to_be_shared()
 /// An owner of free space is found: both indexes are marked, and nothing else changes.
 pub fn owned_space()
     ensures { OwnedSpace }
+{}
+
+/// A crash after an unmapping's fork: the next repair frees its run.
+pub fn cut_run()
+    ensures { CutRun }
+{}
+
+/// A rebuild without a block to take is given up.
+pub fn given_up_space()
+    ensures { GivenUpSpace }
 {}
