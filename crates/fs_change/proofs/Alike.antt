@@ -155,7 +155,7 @@ any_mapped f test [] = refl
 any_mapped f test (x ∷ xs) = ap (λ b. test (f x) || b) (any_mapped f test xs)
 
 -- the number is one of these n from a on
-abbrev is_within : ℕ → ℕ → ℕ → Bool
+abbrev pub is_within : ℕ → ℕ → ℕ → Bool
 is_within a n u = nat_le a u && nat_lt u (a + n)
 
 any_if : (test : ℕ → Bool) (b : Bool) (x : ℕ) (xs : List ℕ) → list_any test (cond b (x ∷ xs) xs) ≡ ((b && test x) || list_any test xs)
@@ -189,7 +189,7 @@ first_or_not p a n u false e =
     not_first true y = refl
     not_first false y = refl
 
-listed_among : (p : ℕ → Bool) (a n u : ℕ) → list_any (λ v. 64 * v == 64 * u) (filter p (numbers a n)) ≡ (p u && is_within a n u)
+pub listed_among : (p : ℕ → Bool) (a n u : ℕ) → list_any (λ v. 64 * v == 64 * u) (filter p (numbers a n)) ≡ (p u && is_within a n u)
 listed_among p a zero u = and_no (p u) ∙ ap (λ b. p u && b) (grind (arith, nat_tests))
 listed_among p a (suc n) u =
     any_if (λ v. 64 * v == 64 * u) (p a) a (filter p (numbers (a + 1) n))
@@ -197,7 +197,7 @@ listed_among p a (suc n) u =
     ∙ first_or_not p a n u (a == u) refl
 
 -- a unit that lies in its group is one of those that are asked
-in_range : (len u : ℕ) → nat_lt (8 * u + 7) len ≡ true → is_within 0 (len / 8) u ≡ true
+pub in_range : (len u : ℕ) → nat_lt (8 * u + 7) len ≡ true → is_within 0 (len / 8) u ≡ true
 in_range len u h = grind (arith, nat_tests)
 
 -- listed by the new records or by reverse mappings: it was a chunk, and is one again

@@ -32,26 +32,26 @@ use Rattle.fs_change.specs.Switch.{unit_owner, is_reserve_of, AreOf, AreLaid, jo
 
 -- ---- tuples of claims
 
-abbrev hasc : List Claimed → Tuple → Bool
+abbrev pub hasc : List Claimed → Tuple → Bool
 hasc cs t = has (map tuple_of cs) t
 
 or_again : (a b c : Bool) → (a || (b || c)) ≡ ((a || b) || c)
 or_again true b c = refl
 or_again false b c = refl
 
-hasc_both : (cs ds : List Claimed) (t : Tuple) → hasc (cs ++ ds) t ≡ (hasc cs t || hasc ds t)
+pub hasc_both : (cs ds : List Claimed) (t : Tuple) → hasc (cs ++ ds) t ≡ (hasc cs t || hasc ds t)
 hasc_both [] ds t = refl
 hasc_both (c ∷ cs) ds t = ap (λ b. is_same t (tuple_of c) || b) (hasc_both cs ds t) ∙ or_again (is_same t (tuple_of c)) (hasc cs t) (hasc ds t)
 
 -- the tuple is that of this block with that owner
-abbrev is_plain : Tuple → ℕ → ℕ → Bool
+abbrev pub is_plain : Tuple → ℕ → ℕ → Bool
 is_plain t owner b = is_same t (record { block = b; owner = owner; word = 0 })
 
-has_blocks : (c : Claim) (owner : ℕ) (bs : List ℕ) (t : Tuple) → hasc (map (claimed_by c owner) bs) t ≡ list_any (is_plain t owner) bs
+pub has_blocks : (c : Claim) (owner : ℕ) (bs : List ℕ) (t : Tuple) → hasc (map (claimed_by c owner) bs) t ≡ list_any (is_plain t owner) bs
 has_blocks c owner [] t = refl
 has_blocks c owner (b ∷ bs) t = ap (λ x. is_plain t owner b || x) (has_blocks c owner bs t)
 
-abbrev is_owned_by : Tuple → Owned → Bool
+abbrev pub is_owned_by : Tuple → Owned → Bool
 is_owned_by t o = is_plain t o.owner o.block
 
 has_pairs : (c : Claim) (os : List Owned) (t : Tuple) → hasc (map (λ (o : Owned). claimed_by c o.owner o.block) os) t ≡ list_any (is_owned_by t) os
@@ -187,10 +187,10 @@ same_any test xs ys same = both_ways (list_any test xs) (list_any test ys)
 
 -- ---- metadata of a group, by its parts
 
-abbrev tree_part : Group → Kind → List Claimed
+abbrev pub tree_part : Group → Kind → List Claimed
 tree_part p k = map (claimed_by (Tree k) (tree_owner k)) (blocks_of (p.tree k).reading)
 
-abbrev parts : Layout → ℕ → Group → List ℕ → List Claimed
+abbrev pub parts : Layout → ℕ → Group → List ℕ → List Claimed
 parts at g p us =
     claimed_by Heads (number_of Fs) 0 ∷ log_claims at.log g
     ++ map (claimed_by FreeList (number_of Ag)) p.free_list
@@ -199,14 +199,27 @@ parts at g p us =
     ++ map (λ (o : Owned). claimed_by Limbo o.owner o.block) p.limbo
     ++ flat_map (λ u. map (claimed_by Chunk (number_of Inodes)) (numbers (8 * u) 8)) us
 
-abbrev chunk_part : List ℕ → List Claimed
+abbrev pub chunk_part : List ℕ → List Claimed
 chunk_part us = flat_map (λ u. map (claimed_by Chunk (number_of Inodes)) (numbers (8 * u) 8)) us
 
 -- whether one of the parts behind the list has the tuple
-abbrev has_behind : Group → List ℕ → Tuple → Bool
+abbrev pub trees_have : Group → Tuple → Bool
+trees_have p t = hasc (tree_part p Bno) t || (hasc (tree_part p Cnt) t || (list_any (is_plain t (number_of Ag)) (blocks_of (p.tree Rmap).reading) || (hasc (tree_part p Refc) t || (hasc (tree_part p Ino) t || (hasc (tree_part p Fino) t || false)))))
+
+abbrev pub has_behind : Group → List ℕ → Tuple → Bool
 has_behind p us t =
-    (hasc (tree_part p Bno) t || (hasc (tree_part p Cnt) t || (list_any (is_plain t (number_of Ag)) (blocks_of (p.tree Rmap).reading) || (hasc (tree_part p Refc) t || (hasc (tree_part p Ino) t || (hasc (tree_part p Fino) t || false))))))
+    trees_have p t
     || (list_any (is_owned_by t) p.reserve || (list_any (is_owned_by t) p.limbo || hasc (chunk_part us) t))
+
+or_true : (x y : Bool) → y ≡ true → (x || y) ≡ true
+or_true true y h = refl
+or_true false y h = h
+
+pub chunks_behind : (p : Group) (us : List ℕ) (t : Tuple) → hasc (chunk_part us) t ≡ true → has_behind p us t ≡ true
+chunks_behind p us t e =
+    or_true (trees_have p t) (list_any (is_owned_by t) p.reserve || (list_any (is_owned_by t) p.limbo || hasc (chunk_part us) t))
+    (or_true (list_any (is_owned_by t) p.reserve) (list_any (is_owned_by t) p.limbo || hasc (chunk_part us) t)
+    (or_true (list_any (is_owned_by t) p.limbo) (hasc (chunk_part us) t) e))
 
 trees_parted : (p : Group) (t : Tuple) → hasc (flat_map (tree_part p) all_kinds) t
     ≡ (hasc (tree_part p Bno) t || (hasc (tree_part p Cnt) t || (list_any (is_plain t (number_of Ag)) (blocks_of (p.tree Rmap).reading) || (hasc (tree_part p Refc) t || (hasc (tree_part p Ino) t || (hasc (tree_part p Fino) t || false))))))
@@ -219,7 +232,7 @@ trees_parted p t =
     ∙ ap (λ b. hasc (part Refc) t || b) (hasc_both (part Ino) (part Fino ++ []) t
     ∙ ap (λ b. hasc (part Ino) t || b) (hasc_both (part Fino) [] t)))))
 
-abbrev front : Layout → ℕ → Group → List Claimed
+abbrev pub front : Layout → ℕ → Group → List Claimed
 front at g p = claimed_by Heads (number_of Fs) 0 ∷ (log_claims at.log g ++ map (claimed_by FreeList (number_of Ag)) p.free_list)
 
 regroup : (h x y r l c : Bool) → (h || ((((x || y) || r) || l) || c)) ≡ ((h || x) || (y || (r || (l || c))))
@@ -230,7 +243,7 @@ regroup false false false true l c = refl
 regroup false false false false true c = refl
 regroup false false false false false c = refl
 
-parted : (at : Layout) (g : ℕ) (p : Group) (us : List ℕ) (t : Tuple) → hasc (parts at g p us) t ≡ (hasc (front at g p) t || has_behind p us t)
+pub parted : (at : Layout) (g : ℕ) (p : Group) (us : List ℕ) (t : Tuple) → hasc (parts at g p us) t ≡ (hasc (front at g p) t || has_behind p us t)
 parted at g p us t =
     let reserve : List Claimed = map (λ (o : Owned). claimed_by Reserve o.owner o.block) p.reserve in
     let limbo : List Claimed = map (λ (o : Owned). claimed_by Limbo o.owner o.block) p.limbo in

@@ -183,7 +183,7 @@ by_chunk g (Some b) a j hb hc hr hi hf =
     ∙ given_owner [] (number_of Inodes) (chunk_extent g b) j (take_free [] (chunk_extent g b) p) hr
     ∙ spaced [] j (chunk_extent g b) p hb hc)
 
-turned_tree : (to_free : Bool) (i : ℕ) (j : Kind) (p : Group) → Not j Ino → Not j Fino → (turn to_free i p).tree j ≡ p.tree j
+pub turned_tree : (to_free : Bool) (i : ℕ) (j : Kind) (p : Group) → Not j Ino → Not j Fino → (turn to_free i p).tree j ≡ p.tree j
 turned_tree to_free i j p hi hf = edited [] Fino j (follow_inode i (turn_inode to_free i (records_in p Ino))) (edit [] Ino (turn_inode to_free i) p) hf ∙ edited [] Ino j (turn_inode to_free i) p hi
 
 by_taken_free : (g i ino uid : ℕ) (a : State) (j : Kind) → Not j Ino → Not j Fino → Keeps a (taken g i ino uid None a) g j

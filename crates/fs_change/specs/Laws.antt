@@ -1,17 +1,19 @@
 -- What follows from the definitions alone.
-use Rattle.std.specs.Prelude.{◌≡◌, ℕ, ◌+◌, ◌<◌, ◌^◌, ◌==◌, ◌&&◌, ◌||◌, not, false, true, Bool, List, [], ◌∷◌, ◌++◌, filter, flat_map, map, Option, Some, None}
-use Rattle.std.specs.List.{list_all}
+use Rattle.std.specs.Prelude.{◌≡◌, ℕ, ◌+◌, ◌*◌, ◌<◌, ◌^◌, ◌==◌, ◌&&◌, ◌||◌, nat_le, nat_lt, not, false, true, Bool, List, [], ◌∷◌, ◌++◌, filter, flat_map, map, Option, Some, None}
+use Rattle.std.specs.List.{list_any, list_all}
 use Rattle.dinode_core.specs.declared.mapping.Fork.{Fork}
 use Rattle.fs_model.specs.declared.entry.Entry.{Entry}
 use Rattle.fs_model.specs.declared.entry.Entry.TheVariants as entries
 use Rattle.fs_model.specs.declared.fault.Counter.{Counter}
 use Rattle.fs_model.specs.declared.unit.Unit.{Unit as ScrubUnit}
 use Rattle.fs_model.specs.declared.unit.Unit.TheVariants as units
-use Rattle.rmap_recs.specs.Runs.{has}
+use Rattle.rmap_recs.specs.Owners.{number_of}
+use Rattle.rmap_recs.specs.declared.owner.Owner.TheVariants.{Inodes}
+use Rattle.rmap_recs.specs.Runs.{has, AreTuples, HaveNext}
 use Rattle.rmap_recs.specs.declared.tuples.Tuple.{Tuple}
 use Rattle.sblock.specs.declared.kind.Kind.{Kind}
 use Rattle.sblock.specs.declared.kind.Kind.TheVariants.{Rmap}
-use Rattle.fs_state.specs.Apart.{is_inode}
+use Rattle.fs_state.specs.Apart.{is_inode, is_chunk}
 use Rattle.fs_state.specs.Frame.{SameFork}
 use Rattle.fs_state.specs.Group.{is_among}
 use Rattle.fs_state.specs.State.{State, Group, blocks_in}
@@ -21,12 +23,13 @@ use Rattle.fs_derive.specs.Derive.{derive}
 use Rattle.fs_derive.specs.Faults.{kind_of_fault}
 use Rattle.fs_derive.specs.Kinds.{kinds_of}
 use Rattle.fs_derive.specs.Laws.{EachTree}
-use Rattle.fs_derive.specs.Own.{tuple_of, set_of}
+use Rattle.fs_derive.specs.Chunks.{chunks}
+use Rattle.fs_derive.specs.Own.{tuple_of, set_of, own}
 use Rattle.fs_change.specs.Chains.{most_chains, owed_gifts, owed_takings, given_by, taken_by, settled_by, settled_forks}
 use Rattle.fs_change.specs.Forget.{Forget, forgotten}
 use Rattle.fs_change.specs.Parts.{at_only, stands_in, records_in}
 use Rattle.fs_change.specs.Run.{Leads, RunAll}
-use Rattle.fs_change.specs.Scan.{visited, held_tuples, shadow_of}
+use Rattle.fs_change.specs.Scan.{visited, held_tuples, next_claims, shadow_of}
 use Rattle.fs_change.specs.Step.{Step, Row, may_leave, leaves_faults, edited_kinds, group_of_entry, group_of_inode}
 use Rattle.fs_change.specs.Switch.{is_reserve_of, AreLaid, kind_need, prepared, moved, switched}
 
@@ -114,6 +117,10 @@ abbrev pub KeepsOtherInodes : Type 0
 KeepsOtherInodes = (a b : State) (left : List Kind) (e : Entry) → Step a left e b → (ino : ℕ) → changes_inode a e ino ≡ false → is_inode b ino ≡ true
     → (b.core ino ≡ a.core ino) × ((f : Fork) → SameFork (a.fork ino f) (b.fork ino f))
 
+-- taking a free inode of a chunk makes no chunk and ends none
+abbrev pub TakenKeepsChunks : Type 0
+TakenKeepsChunks = (a x : State) (left : List Kind) (writer ino uid : ℕ) → Row a left (entries.Taken writer ino uid None) x → (h u : ℕ) → is_chunk x h u ≡ is_chunk a h u
+
 -- ---- a switch
 
 -- the unit's trees hold what is derived from the state that the switch reaches
@@ -127,6 +134,16 @@ SpaceDerivedAgain = (a : State) (g : ℕ) (blocks : Kind → List ℕ) → Deriv
 -- so do those of inodes: what is put in lists the chunks that there were
 abbrev pub InodesDerivedAgain : Type 0
 InodesDerivedAgain = (a : State) (g : ℕ) (blocks : Kind → List ℕ) → DerivedAgain a g units.Inode blocks
+
+-- who has a block as inodes has it in a chunk
+abbrev pub OnlyChunks : State → ℕ → Type 0
+OnlyChunks a g = (t : Tuple) → has (own a g) t ≡ true → t.owner ≡ number_of Inodes → list_any (λ u. nat_le (8 * u) t.block && nat_lt t.block (8 * u + 8)) (chunks a g) ≡ true
+
+-- so do reverse mappings, though chunks are read off them too: from the old records those are that list them, and the new
+-- ones give the same units to inodes. No two owners of a block differ in the unwritten flag alone, and blocks are words.
+abbrev pub MappingsDerivedAgain : Type 0
+MappingsDerivedAgain = (a : State) (g : ℕ) (blocks : Kind → List ℕ) → AreTuples (own (moved a g units.Rmap blocks) g) → HaveNext (own (moved a g units.Rmap blocks) g)
+    → OnlyChunks (moved a g units.Rmap blocks) g → DerivedAgain a g units.Rmap blocks
 
 -- A block of a unit's reserve counts alike as reserve, as a new tree's and as limbo: the state by which the need is counted
 -- has the derivations of the one that the switch reaches. So list and need don't go round in circles.
@@ -224,6 +241,10 @@ CursorPasses = (a : State) (g c d : ℕ) → ((t : Tuple) → has (settled_forks
 -- an inode of which nothing was given yet adds nothing
 abbrev pub HoldBegins : Type 0
 HoldBegins = (a : State) (g c ino : ℕ) → shadow_of a g c (Some ino) 0 ≡ shadow_of a g c None 0
+
+-- a piece of n mappings more adds exactly their owners, and those of the btree's blocks among them
+abbrev pub PieceGives : Type 0
+PieceGives = (a : State) (g c ino k n : ℕ) → shadow_of a g c (Some ino) (k + n) ≡ set_of (shadow_of a g c (Some ino) k ++ map tuple_of (next_claims a g ino k n))
 
 -- an inode that was given whole is visited
 abbrev pub HoldEnds : Type 0
