@@ -112,9 +112,9 @@ count_at rs b = option_map_or (λ r. r.refcount) (counter_of rs b) 1
 abbrev pub most_counted : ℕ
 most_counted = 4294967200
 
--- How far does one count reach, of n blocks from b on? To the end of the record that has b; else to the next record.
+-- How far does one count reach, of n blocks from b on? To the end of the record that has b, and not into the next one.
 unfoldable pub stretch : List RefcRec → ℕ → ℕ → ℕ
-stretch rs b n = min n (option_map_or refc_end (counter_of rs b) (option_map_or (λ r. r.start) (find (λ r. nat_lt b r.start) rs) (b + n)) - b)
+stretch rs b n = min n (min (option_map_or refc_end (counter_of rs b) (b + n)) (option_map_or (λ r. r.start) (find (λ r. nat_lt b r.start) rs) (b + n)) - b)
 
 abbrev pub is_same_count : RefcRec → RefcRec → Bool
 is_same_count r s = (r.start == s.start) && (r.count == s.count) && (r.refcount == s.refcount)

@@ -149,11 +149,9 @@ pub record MayRefill (a : State) (e : Extent) : Type 0 where
   pub chosen : (count : ℕ) × (chosen_of a count (e.group ∷ []) ≡ Some e)
   pub unowned : is_owned a e ≡ false
 
--- at least 16 blocks stay on the list
 pub record MayTrim (a : State) (e : Extent) : Type 0 where
   pub some : 0 < e.count
   pub sound : none_sick space_kinds (a.group e.group) ≡ true
-  pub long : 16 + e.count ≤ length (a.group e.group).free_list
   pub on_list : list_all (λ b. is_in b (a.group e.group).free_list) (numbers e.block e.count) ≡ true
 
 -- ---- trust

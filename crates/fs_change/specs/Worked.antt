@@ -67,6 +67,8 @@ pub record WorkedCounts : Type 0 where
   pub empty : stretch counts 12 8 ≡ 8
   pub meets : stretch counts 12 9 ≡ 8
   pub last : stretch counts 22 5 ≡ 5
+  -- of records that overlap the last that begins decides
+  pub hidden : stretch (counted 4 8 2 ∷ counted 6 2 3 ∷ []) 4 8 ≡ 2
   pub risen : set_count 6 2 3 counts ≡ counted 4 2 2 ∷ counted 6 6 3 ∷ counted 20 2 2 ∷ []
   pub gone : set_count 5 1 1 counts ≡ counted 4 1 2 ∷ counted 6 2 2 ∷ counted 8 4 3 ∷ counted 20 2 2 ∷ []
   pub begun : set_count 18 2 2 counts ≡ counted 4 4 2 ∷ counted 8 4 3 ∷ counted 18 4 2 ∷ []

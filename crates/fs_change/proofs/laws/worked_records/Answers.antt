@@ -14,7 +14,7 @@ unfolding width start leaves_for key_word is_fork_data word_goes_on is_key_befor
 returns c = record {
   space = record { front = refl; middle = refl; whole = refl; beyond = refl; between = refl; alone = refl; behind = refl; counted = refl; cut = refl; more = refl; less = refl };
   mappings = record { joined = refl; offset = refl; other = refl; middle = refl; first = refl; guarded = refl; unguarded = refl };
-  counts = record { there = refl; none = refl; reach = refl; beyond = refl; empty = refl; meets = refl; last = refl; risen = refl; gone = refl; begun = refl };
+  counts = record { there = refl; none = refl; reach = refl; beyond = refl; empty = refl; meets = refl; last = refl; hidden = refl; risen = refl; gone = refl; begun = refl };
   inodes = record { taken = refl; given = refl; listed = refl; unlisted = refl };
   forks = record { before = refl; beside = refl; groups = refl; both = refl; most = refl; cut = refl };
   trees = record { empty = refl; leaf = refl; root = refl; mapped = refl; nodes = refl; pairs = refl };
