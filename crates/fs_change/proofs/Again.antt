@@ -1,5 +1,5 @@
 -- What a switch puts in is derived again from the state that it reaches.
-use Rattle.std.proofs.Common.{◌≡◌, ℕ, List, [], ◌∷◌, sym, ap, refl, ◌∙◌}
+use Rattle.std.proofs.Common.{◌≡◌, ℕ, List, sym, ap, ◌∙◌}
 use Rattle.derive_defs.specs.ByCount.{ordered_by_count}
 use Rattle.derive_defs.specs.Free.{free_space}
 use Rattle.derive_defs.specs.Shared.{shared_space}
@@ -13,7 +13,7 @@ use Rattle.fs_derive.specs.Derive.{derive, mappings, bno_of, cnt_of, refc_of}
 use Rattle.fs_derive.specs.Kinds.{kinds_of}
 use Rattle.fs_change.proofs.Trees.{in_itself}
 use Rattle.fs_change.specs.Laws.{SpaceDerivedAgain}
-use Rattle.fs_change.specs.Parts.{in_group, records_in}
+use Rattle.fs_change.specs.Parts.{records_in}
 use Rattle.fs_change.specs.Switch.{switched, moved, derived_in, hold, exact_counters}
 
 -- the group after a switch holds what was derived from the moved blocks

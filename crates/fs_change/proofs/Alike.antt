@@ -1,7 +1,7 @@
 -- Where a switch moves blocks, or only prepares to: the same records, chunks and inodes.
-use Rattle.std.proofs.Common.{◌≡◌, ℕ, ◌+◌, ◌*◌, ◌<◌, ◌≤◌, ◌==◌, ◌&&◌, ◌||◌, Bool, true, false, not, cond, List, [], ◌∷◌, ◌++◌, map, filter, flat_map, take, drop, zero, suc, refl, sym, ap, ap₂, subst, ◌∙◌, eqb-true, eq-eqb, arith}
-use Rattle.std.specs.Prelude.{◌/◌, ◌%◌, nat_lt, nat_le, if◌then◌else◌}
-use Rattle.std.specs.List.{list_any, list_all}
+use Rattle.std.proofs.Common.{◌≡◌, ℕ, ◌+◌, ◌*◌, ◌==◌, ◌&&◌, ◌||◌, Bool, true, false, cond, List, [], ◌∷◌, map, filter, flat_map, zero, suc, refl, sym, ap, ap₂, ◌∙◌, eqb-true, arith}
+use Rattle.std.specs.Prelude.{◌/◌, ◌%◌, nat_lt, nat_le}
+use Rattle.std.specs.List.{list_any}
 use Rattle.std.proofs.lemmas.Bool.Decides.{nat_tests}
 use Rattle.std.proofs.lemmas.Bool.{true≢false, and_parts}
 use Rattle.derive_defs.specs.ByCount.{ordered_by_count}
@@ -20,7 +20,7 @@ use Rattle.fs_derive.specs.Chunks.{chunks, inodes_in, inodes}
 use Rattle.fs_derive.specs.Derive.{chunk_record, ino_of, fino_of, bno_of, cnt_of, refc_of, derive, mappings}
 use Rattle.fs_derive.specs.Lists.{numbers}
 use Rattle.fs_change.proofs.Trees.{in_itself}
-use Rattle.fs_change.specs.Parts.{in_group, tree_only, change_tree, in_blocks, set_blocks, in_trees, records_in}
+use Rattle.fs_change.specs.Parts.{in_group, tree_only, in_blocks, set_blocks, in_trees, records_in}
 use Rattle.fs_change.specs.Switch.{empty_trees, without_trees, prepared, moved, move_blocks, switched, derived_in, hold, exact_counters, join_limbo, lost_owned}
 use Rattle.byte_fields.specs.Below.{all_below}
 use Rattle.rmap_recs.specs.declared.records.RmapRec.{RmapRec}

@@ -1,5 +1,5 @@
 -- An entry changes its own group and its own chain alone.
-use Rattle.std.proofs.Common.{◌≡◌, ℕ, ◌==◌, ◌||◌, ◌++◌, Bool, true, false, not, cond, List, [], ◌∷◌, filter, sym, ap, subst, refl, ◌∙◌, Option, Some, None, eq-eqb}
+use Rattle.std.proofs.Common.{◌≡◌, ℕ, ◌==◌, ◌++◌, Bool, true, false, not, cond, List, [], ◌∷◌, filter, sym, ap, subst, refl, ◌∙◌, Option, Some, None, eq-eqb}
 use Rattle.std.proofs.lemmas.Bool.{true≢false}
 use Rattle.std.specs.Prelude.{if◌then◌else◌}
 use Rattle.fs_model.specs.declared.entry.Entry.{Entry}
@@ -13,18 +13,18 @@ use Rattle.fs_model.specs.declared.verdict.Verdict.{Verdict}
 use Rattle.rmap_recs.specs.Owners.{number_of}
 use Rattle.rmap_recs.specs.declared.owner.Owner.TheVariants.{Ag, Inodes}
 use Rattle.sblock.specs.declared.kind.Kind.{Kind}
-use Rattle.sblock.specs.declared.kind.Kind.TheVariants.{Bno, Cnt, Rmap, Refc}
+use Rattle.sblock.specs.declared.kind.Kind.TheVariants.{Rmap}
 use Rattle.fs_state.specs.State.{State, Group}
 use Rattle.fs_state.specs.declared.intent.Intent.{Intent}
-use Rattle.fs_state.specs.declared.intent.IntentKind.TheVariants.{RmapAdd, RmapRemove, RmapChange, RefMore, RefLess, Free}
+use Rattle.fs_state.specs.declared.intent.IntentKind.TheVariants.{RmapAdd, RmapRemove, RmapChange, RefMore, RefLess}
 use Rattle.fs_derive.specs.Derive.{derive}
 use Rattle.fs_derive.specs.Kinds.{kinds_of}
 use Rattle.fs_derive.specs.Lists.{numbers}
 use Rattle.fs_change.specs.Changes.{mapped, unmapped, converted, shared, rmap_done, ref_done, freed, taken, given, refilled, trimmed, marked, judged, judge, reserved, released, reaped, take_free, give_free, give_owner, take_owner, intent, data_word, extent_of, data_of, do_mapping, change_count, to_free, behind, inodes_follow, turn, list_chunk, chunk_extent, make_chunk, is_in_extent, own_new, leave, block_extent, owner_of_run, reap_in}
-use Rattle.fs_change.specs.Laws.{ChangesOneGroup, StaysBeside, IsOther, chain_of}
-use Rattle.fs_change.specs.Parts.{at_only, in_group, edit, set_trust, sick_in, records_in}
+use Rattle.fs_change.specs.Laws.{ChangesOneGroup, StaysBeside, chain_of}
+use Rattle.fs_change.specs.Parts.{at_only, in_group, edit, set_trust}
 use Rattle.fs_change.specs.Records.{is_unwritten_at}
-use Rattle.fs_change.specs.Step.{Step, Row, group_of_entry, group_of_inode}
+use Rattle.fs_change.specs.Step.{Row, group_of_entry, group_of_inode}
 use Rattle.fs_change.specs.Switch.{switched, moved, move_blocks, derived_in, hold, exact_counters, unit_owner, owned_by, join_limbo}
 
 -- the function, but x at k, elsewhere

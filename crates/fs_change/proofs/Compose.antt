@@ -1,8 +1,6 @@
 -- Journals and sessions one after the other.
-use Rattle.std.proofs.Common.{◌≡◌, ℕ, List, [], ◌∷◌, ◌++◌, sym, subst, refl}
+use Rattle.std.proofs.Common.{List, [], ◌∷◌, ◌++◌, subst, refl}
 use Rattle.fs_model.specs.declared.entry.Entry.{Entry}
-use Rattle.fs_model.specs.declared.entry.Entry.TheVariants as entries
-use Rattle.sblock.specs.declared.kind.Kind.{Kind}
 use Rattle.fs_state.specs.State.{State, Group, Reading, Readable, Unreadable}
 use Rattle.fs_change.specs.Laws.{LeadsCompose, SessionsBegin, SessionsCompose}
 use Rattle.fs_change.specs.Forget.{KeepsReading, GroupForgets, Forget, forgotten, forgotten_group}

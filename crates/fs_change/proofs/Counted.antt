@@ -1,15 +1,13 @@
 -- A block of a unit's reserve counts alike as reserve, as a new tree's, and as limbo.
-use Rattle.std.proofs.Common.{◌≡◌, ◌⊎◌, ℕ, ◌+◌, ◌*◌, ◌<◌, ◌≤◌, ◌==◌, ◌&&◌, ◌||◌, Bool, true, false, not, cond, List, [], ◌∷◌, ◌++◌, map, filter, flat_map, take, drop, zero, suc, refl, sym, ap, ap₂, subst, ◌∙◌, eqb-true, eq-eqb, arith, inl, inr}
-use Rattle.std.specs.Prelude.{◌/◌, ◌%◌, nat_lt, nat_le, if◌then◌else◌}
+use Rattle.std.proofs.Common.{◌≡◌, ℕ, ◌+◌, ◌*◌, ◌<◌, ◌==◌, ◌&&◌, ◌||◌, Bool, true, false, cond, List, [], ◌∷◌, ◌++◌, map, flat_map, take, drop, zero, suc, refl, sym, ap, ap₂, subst, ◌∙◌, eqb-true, eq-eqb, arith, inl, inr}
+use Rattle.std.specs.Prelude.{nat_lt, if◌then◌else◌}
 use Rattle.std.specs.List.{list_any, list_all}
-use Rattle.std.proofs.lemmas.Bool.Decides.{nat_tests}
 use Rattle.std.proofs.lemmas.Bool.{true≢false, false≢true, and_parts}
 use Rattle.fs_model.specs.declared.claim.Claim.{Claim}
 use Rattle.fs_model.specs.declared.claim.Claim.TheVariants.{Heads, List as FreeList, Tree, Reserve, Limbo, Chunk}
 use Rattle.fs_model.specs.declared.unit.Unit.TheVariants as units
 use Rattle.geom.specs.Layout.{Layout}
 use Rattle.rmap_recs.specs.Owners.{number_of}
-use Rattle.rmap_recs.specs.Rmap.{is_first}
 use Rattle.rmap_recs.specs.Runs.{has, is_same, runs_of}
 use Rattle.rmap_recs.specs.declared.owner.Owner.TheVariants.{Fs, Ag, Inodes}
 use Rattle.rmap_recs.specs.declared.tuples.Tuple.{Tuple}
@@ -17,18 +15,18 @@ use Rattle.sblock.specs.declared.kind.Kind.{Kind}
 use Rattle.sblock.specs.declared.kind.Kind.TheVariants.{Bno, Cnt, Rmap, Refc, Ino, Fino}
 use Rattle.tree_defs.specs.Lists.{times}
 use Rattle.fs_state.specs.State.{State, Group, Owned, Reading, Readable, Unreadable, blocks_of, blocks_in, comes_first, put_pair, pairs_of}
-use Rattle.fs_derive.specs.Chunks.{chunks, inodes}
+use Rattle.fs_derive.specs.Chunks.{chunks}
 use Rattle.fs_derive.specs.Claims.{Claimed, claimed_by, log_claims, metadata_claims, fork_claims, claims, data_claims, attribute_claims, tree_claims}
 use Rattle.fs_derive.specs.Derive.{derive}
 use Rattle.fs_derive.specs.Kinds.{all_kinds, kinds_of, tree_owner}
 use Rattle.fs_derive.specs.Lists.{numbers}
-use Rattle.fs_derive.specs.Own.{set_of, tuple_of, own, rmap_of}
+use Rattle.fs_derive.specs.Own.{tuple_of, own, rmap_of}
 use Rattle.fs_change.proofs.Alike.{chunks_alike, inodes_alike, moved_listed, prepared_listed, inodes_counted, free_counted, refc_counted}
 use Rattle.fs_change.proofs.Sets.{one_set, order}
 use Rattle.fs_change.proofs.Trees.{in_itself}
 use Rattle.fs_change.specs.Laws.{ReserveCountsAlike}
-use Rattle.fs_change.specs.Parts.{in_group, in_blocks, in_trees}
-use Rattle.fs_change.specs.Switch.{unit_owner, is_reserve_of, AreOf, AreLaid, join_limbo, kind_need, need, empty_trees, without_trees, lost_owned, prepared, limbo_of, move_blocks, moved}
+use Rattle.fs_change.specs.Parts.{in_blocks}
+use Rattle.fs_change.specs.Switch.{is_reserve_of, AreLaid, join_limbo, kind_need, need, empty_trees, without_trees, lost_owned, prepared, limbo_of, move_blocks, moved}
 
 -- ---- tuples of claims
 

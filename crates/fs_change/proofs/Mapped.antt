@@ -1,9 +1,9 @@
 -- What a switch of the reverse mappings puts in is derived again: it gives the same units to inodes.
-use Rattle.std.proofs.Common.{◌≡◌, ◌⊎◌, ℕ, ◌+◌, ◌-◌, ◌*◌, ◌<◌, ◌≤◌, ◌==◌, ◌&&◌, ◌||◌, Bool, true, false, not, cond, List, [], ◌∷◌, ◌++◌, map, filter, flat_map, Contains, zero, suc, refl, sym, ap, ap₂, subst, ◌∙◌, eqb-true, eq-eqb, arith, inl, inr}
-use Rattle.std.specs.Prelude.{◌/◌, ◌%◌, nat_lt, nat_le, if◌then◌else◌}
-use Rattle.std.specs.List.{list_any, list_all}
+use Rattle.std.proofs.Common.{◌≡◌, ◌⊎◌, ℕ, ◌+◌, ◌-◌, ◌*◌, ◌<◌, ◌≤◌, ◌==◌, ◌&&◌, ◌||◌, Bool, true, false, cond, List, [], ◌∷◌, ◌++◌, map, filter, flat_map, zero, suc, refl, sym, ap, ap₂, subst, ◌∙◌, eqb-true, eq-eqb, arith, inl, inr}
+use Rattle.std.specs.Prelude.{◌/◌, ◌%◌, nat_lt, nat_le}
+use Rattle.std.specs.List.{list_any}
 use Rattle.std.proofs.lemmas.Bool.Decides.{nat_tests}
-use Rattle.std.proofs.lemmas.Bool.{true≢false, false≢true, and_parts, ltb-true, leb-true}
+use Rattle.std.proofs.lemmas.Bool.{false≢true, and_parts, ltb-true, leb-true}
 use Rattle.byte_fields.proofs.BelowLemmas.{each_below}
 use Rattle.byte_fields.specs.Below.{all_below}
 use Rattle.fs_model.specs.declared.claim.Claim.TheVariants.{Chunk}
@@ -11,12 +11,12 @@ use Rattle.fs_model.specs.declared.unit.Unit.TheVariants as units
 use Rattle.geom.specs.Layout.{group_len_of, inode_at}
 use Rattle.rmap_recs.proofs.RunLemmas.{maximal_runs}
 use Rattle.rmap_recs.specs.Owners.{number_of}
-use Rattle.rmap_recs.specs.Runs.{has, is_same, runs_of, tuple_at, AreRuns, AreTuples, HaveNext}
+use Rattle.rmap_recs.specs.Runs.{has, runs_of, tuple_at, AreRuns, AreTuples, HaveNext}
 use Rattle.rmap_recs.specs.declared.owner.Owner.TheVariants.{Inodes}
 use Rattle.rmap_recs.specs.declared.records.RmapRec.{RmapRec}
 use Rattle.rmap_recs.specs.declared.tuples.Tuple.{Tuple}
 use Rattle.sblock.specs.declared.kind.Kind.{Kind}
-use Rattle.sblock.specs.declared.kind.Kind.TheVariants.{Bno, Cnt, Rmap, Refc, Ino, Fino}
+use Rattle.sblock.specs.declared.kind.Kind.TheVariants.{Rmap, Ino}
 use Rattle.fs_state.specs.Apart.{ino_lists, rmap_lists, has_unit, is_listed, unit_verifies, is_chunk}
 use Rattle.fs_state.specs.State.{State, Group}
 use Rattle.fs_derive.specs.Chunks.{chunks, inodes_in, inodes}
@@ -26,14 +26,14 @@ use Rattle.fs_derive.specs.Kinds.{kinds_of}
 use Rattle.fs_derive.specs.Laws.{EachTree}
 use Rattle.fs_derive.specs.Lists.{numbers}
 use Rattle.fs_derive.specs.Own.{set_of, tuple_of, own, rmap_of}
-use Rattle.fs_change.proofs.Alike.{gives_unit, lists_unit, is_within, listed_among, in_range}
+use Rattle.fs_change.proofs.Alike.{gives_unit, lists_unit, listed_among, in_range}
 use Rattle.fs_change.proofs.Beside.{elsewhere}
 use Rattle.fs_change.proofs.Counted.{hasc, hasc_both, has_blocks, is_plain, parts, parted, chunk_part, front, has_behind, chunks_behind}
 use Rattle.rmap_recs.proofs.RisingLemmas.{any_here, any_found}
 use Rattle.fs_change.proofs.Sets.{has_set, has_of, of_has}
 use Rattle.fs_change.proofs.Trees.{in_itself}
 use Rattle.fs_change.specs.Laws.{MappingsDerivedAgain, OnlyChunks}
-use Rattle.fs_change.specs.Parts.{in_group, records_in}
+use Rattle.fs_change.specs.Parts.{records_in}
 use Rattle.fs_change.specs.Switch.{moved, switched, derived_in, hold, exact_counters}
 
 both_ways : (a b : Bool) → (a ≡ true → b ≡ true) → (b ≡ true → a ≡ true) → a ≡ b

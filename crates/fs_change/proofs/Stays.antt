@@ -1,13 +1,11 @@
 -- What an entry decides is a state that it allows: no block has to move.
-use Rattle.std.proofs.Common.{◌≡◌, ℕ, ◌+◌, ◌-◌, ◌%◌, ◌^◌, ◌<◌, ◌==◌, ◌&&◌, ◌||◌, Bool, true, false, not, List, [], ◌∷◌, ◌++◌, filter, drop, cond, sym, ap, ap₂, subst, refl, ◌∙◌, arith, append-nil, length}
+use Rattle.std.proofs.Common.{◌≡◌, ℕ, ◌+◌, ◌^◌, ◌<◌, ◌==◌, ◌&&◌, ◌||◌, Bool, true, false, not, List, [], ◌∷◌, ◌++◌, drop, cond, sym, ap, ap₂, refl, ◌∙◌, arith, append-nil, length}
 use Rattle.std.specs.List.{list_any, list_all}
 use Rattle.std.proofs.Common.{eq-eqb}
-use Rattle.fs_model.specs.declared.entry.Entry.{Entry}
 use Rattle.fs_model.specs.declared.fault.Counter.{Counter}
 use Rattle.fs_model.specs.declared.fault.Counter.TheVariants.{Count, Freecount, Iblocks, Fblocks, RmapBlocks, Freeblks, Longest, Btreeblks, RefcountBlocks}
 use Rattle.sblock.specs.declared.kind.Kind.{Kind}
 use Rattle.sblock.specs.declared.kind.Kind.TheVariants.{Bno, Cnt, Rmap, Refc, Ino, Fino}
-use Rattle.dinode_core.specs.declared.mapping.Fork.{Fork}
 use Rattle.dinode_core.specs.declared.mapping.ForkFault.{ForkFault}
 use Rattle.std.specs.Prelude.{Result, Ok, Err}
 use Rattle.fs_state.specs.Frame.{SameFork}
@@ -20,7 +18,7 @@ use Rattle.fs_change.specs.Met.{is_fault, met_moving, give_each, take_each}
 use Rattle.fs_change.specs.Parts.{tree_only, change_tree, set_blocks, in_trees, in_blocks, with_recs, edit, is_edited, records_in}
 use Rattle.fs_derive.specs.Kinds.{tree_owner}
 use Rattle.tree_defs.specs.Lists.{is_in}
-use Rattle.fs_change.specs.Step.{Step, edited_in, group_of_entry}
+use Rattle.fs_change.specs.Step.{edited_in, group_of_entry}
 use Rattle.fs_change.specs.Switch.{is_same_owned, has_owned}
 
 -- ---- trees

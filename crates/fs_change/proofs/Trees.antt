@@ -1,6 +1,6 @@
 -- An entry leaves the trees that it neither edits nor judges.
-use Rattle.std.proofs.Common.{◌≡◌, ℕ, ◌==◌, ◌&&◌, ◌||◌, Bool, true, false, not, cond, List, [], ◌∷◌, ◌++◌, filter, sym, ap, subst, refl, ◌∙◌, Option, Some, None, eq-eqb, drop, take, length}
-use Rattle.std.proofs.lemmas.Bool.{true≢false, false≢true}
+use Rattle.std.proofs.Common.{◌≡◌, ℕ, ◌==◌, ◌||◌, Bool, true, false, not, cond, List, [], ◌∷◌, ◌++◌, filter, sym, ap, subst, refl, ◌∙◌, Option, Some, None, eq-eqb, drop}
+use Rattle.std.proofs.lemmas.Bool.{true≢false}
 use Rattle.std.specs.Prelude.{if◌then◌else◌}
 use Rattle.fs_model.specs.declared.entry.Entry.{Entry}
 use Rattle.fs_model.specs.declared.entry.Entry.TheVariants as entries
@@ -20,22 +20,21 @@ use Rattle.sblock.specs.declared.kind.Kind.TheVariants.{Bno, Cnt, Rmap, Refc, In
 use Rattle.fs_state.specs.Edits.{number_of as kind_number}
 use Rattle.fs_state.specs.Group.{is_among}
 use Rattle.fs_state.specs.Kinds.{RecOf}
-use Rattle.fs_state.specs.State.{State, Group, Index, Reading, Readable, Unreadable, recs_of, blocks_of, blocks_in}
+use Rattle.fs_state.specs.State.{State, Group, Index, Readable, recs_of, blocks_of}
 use Rattle.fs_state.specs.declared.intent.Intent.{Intent}
 use Rattle.fs_derive.specs.Derive.{derive}
 use Rattle.fs_derive.specs.Faults.{kind_of_fault}
 use Rattle.fs_derive.specs.Kinds.{kinds_of}
 use Rattle.fs_derive.specs.Lists.{numbers}
-use Rattle.fs_change.proofs.Beside.{elsewhere}
-use Rattle.fs_change.specs.Changes.{mapped, unmapped, converted, shared, rmap_done, ref_done, freed, taken, given, refilled, trimmed, marked, judged, judge, reserved, released, reaped, changes_count, change_count, owner_of_run, joins_no_space, space_edit, take_free, give_free, give_owner, take_owner, extent_of, data_of, do_mapping, new_count, inodes_follow, turn, list_chunk, chunk_extent, make_chunk, is_in_extent, own_new, leave, block_extent, leave_limbo, reap_in, is_anothers, by_count, known_spans, plain_run, free_chunk}
+use Rattle.fs_change.specs.Changes.{mapped, unmapped, converted, shared, rmap_done, ref_done, freed, taken, given, refilled, trimmed, marked, judged, judge, reserved, released, reaped, changes_count, change_count, owner_of_run, joins_no_space, take_free, give_free, give_owner, take_owner, extent_of, data_of, do_mapping, new_count, inodes_follow, turn, list_chunk, chunk_extent, make_chunk, is_in_extent, own_new, leave, block_extent, leave_limbo, reap_in, by_count, known_spans, plain_run, free_chunk}
 use Rattle.fs_change.specs.Laws.{KeepsOtherTrees, changed_kinds, with_owners}
-use Rattle.fs_change.specs.Loose.{Loosely, Inside, MovesBlocks, laid_out, owners_follow, owners_in, lost_to}
+use Rattle.fs_change.specs.Loose.{Inside, MovesBlocks, owners_follow, owners_in, lost_to}
 use Rattle.fs_change.specs.Met.{give_each, take_each}
-use Rattle.fs_change.specs.Parts.{at_only, in_group, tree_only, change_tree, in_blocks, in_trees, with_recs, set_blocks, set_trust, set_trusts, edit, is_edited, sick_in, records_in}
+use Rattle.fs_change.specs.Parts.{in_group, tree_only, change_tree, in_blocks, in_trees, with_recs, set_trust, set_trusts, edit, is_edited, records_in}
 use Rattle.fs_change.specs.Records.{is_unwritten_at, set_count, span, by_start, take_span, give_span, give_mapping, take_mapping, put_chunk, turn_inode, follow_inode}
-use Rattle.fs_change.specs.Step.{Step, Row, edits_count, edits_reserve, edits_reaped, edited_kinds, edited_in, group_of_entry, group_of_inode}
+use Rattle.fs_change.specs.Step.{Row, edits_count, edits_reserve, edits_reaped, edited_kinds, group_of_entry, group_of_inode}
 use Rattle.span_recs.specs.declared.refcount.RefcRec.{RefcRec}
-use Rattle.fs_change.specs.Switch.{switched, moved, move_blocks, derived_in, hold, exact_counters, unit_owner, owned_by, join_limbo, limbo_of}
+use Rattle.fs_change.specs.Switch.{switched, moved, move_blocks, derived_in, hold, exact_counters, unit_owner, owned_by, join_limbo}
 
 -- ---- one tree
 

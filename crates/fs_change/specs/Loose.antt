@@ -1,6 +1,6 @@
 -- What an entry leaves open: how an edited tree is cut into blocks, and what a block that a tree had or gained, or that
 -- left the reserve, holds as cores.
-use Rattle.std.specs.Prelude.{◌≡◌, ℕ, ◌+◌, ◌-◌, ◌/◌, ◌==◌, ◌&&◌, ◌||◌, ◌≤◌, Bool, true, false, not, List, [], ◌∷◌, ◌++◌, map, flat_map, filter, length, drop, Option, Some, None}
+use Rattle.std.specs.Prelude.{◌≡◌, ℕ, ◌+◌, ◌/◌, ◌==◌, ◌&&◌, ◌||◌, Bool, true, false, not, List, [], ◌∷◌, ◌++◌, map, flat_map, filter, length, drop, Option, Some, None}
 use Rattle.std.specs.List.{list_any, list_all}
 use Rattle.dinode_core.specs.declared.mapping.Fork.{Fork}
 use Rattle.fs_model.specs.declared.fault.Counter.{Counter}
@@ -13,7 +13,6 @@ use Rattle.sblock.specs.declared.kind.Kind.TheVariants.{Bno, Cnt, Rmap, Refc, In
 use Rattle.tree_defs.specs.Lists.{is_in, times}
 use Rattle.fs_state.specs.Apart.{is_chunk, is_inode}
 use Rattle.fs_state.specs.Frame.{SameFork}
-use Rattle.fs_state.specs.Group.{is_among}
 use Rattle.fs_state.specs.State.{State, Group, Owned, blocks_of, blocks_in}
 use Rattle.fs_derive.specs.Kinds.{all_kinds, tree_owner}
 use Rattle.fs_change.specs.Met.{Met, is_fault, take_each, give_each, met_moving}

@@ -1,6 +1,6 @@
 -- Why an index is marked: what an edit of it met, in an entry that stands in the journal or in one that wasn't made; or
 -- what a choice met (Online Fsck Design, "Eventual Consistency").
-use Rattle.std.specs.Prelude.{◌≡◌, ◌⊎◌, ℕ, ◌*◌, ◌/◌, ◌<◌, ◌&&◌, nat_lt, Bool, true, false, List, [], ◌∷◌, ◌++◌, map, find, length, Option, Some, None, if◌then◌else◌}
+use Rattle.std.specs.Prelude.{◌≡◌, ◌⊎◌, ℕ, ◌*◌, ◌/◌, ◌<◌, ◌&&◌, nat_lt, Bool, true, false, List, [], ◌∷◌, ◌++◌, map, find, length, Some, if◌then◌else◌}
 use Rattle.std.specs.List.{list_any, list_all}
 use Rattle.fs_model.specs.declared.entry.Entry.{Entry}
 use Rattle.fs_model.specs.declared.entry.Entry.TheVariants as entries
@@ -13,7 +13,7 @@ use Rattle.sblock.specs.declared.kind.Kind.TheVariants.{Bno, Cnt, Rmap, Refc, In
 use Rattle.tree_defs.specs.Lists.{is_in}
 use Rattle.fs_state.specs.Apart.{unit_verifies}
 use Rattle.fs_state.specs.Group.{is_among}
-use Rattle.fs_state.specs.State.{State, Group, Owned, is_readable}
+use Rattle.fs_state.specs.State.{State, Owned, is_readable}
 use Rattle.fs_derive.specs.Derive.{is_free}
 use Rattle.fs_derive.specs.Kinds.{all_kinds}
 use Rattle.fs_derive.specs.Lists.{numbers}

@@ -1,7 +1,7 @@
 -- What edits of an index meet: a record that one would take out or change isn't there, or one that stays meets one that it
 -- puts in. Two records of free space by start, or of reference counts, meet where they have a block in common; of the
 -- other btrees where their keys are equal.
-use Rattle.std.specs.Prelude.{ℕ, ◌+◌, ◌==◌, ◌&&◌, ◌||◌, nat_lt, Bool, true, false, not, List, [], ◌∷◌, ◌++◌, find, Option, Some, None, is_some, option_to_list, if◌then◌else◌}
+use Rattle.std.specs.Prelude.{ℕ, ◌+◌, ◌==◌, ◌&&◌, ◌||◌, nat_lt, Bool, false, not, List, [], ◌∷◌, ◌++◌, find, Option, Some, None, is_some, option_to_list, if◌then◌else◌}
 use Rattle.std.specs.List.{list_any, list_all}
 use Rattle.std.specs.Option.{option_map_or}
 use Rattle.ino_recs.specs.declared.chunk.InoRec.{InoRec}
@@ -16,7 +16,7 @@ use Rattle.fs_state.specs.declared.intent.IntentKind.{IntentKind}
 use Rattle.fs_state.specs.declared.intent.IntentKind.TheVariants.{RmapAdd, RmapRemove, RmapChange, RefMore, RefLess, Free}
 use Rattle.fs_derive.specs.Lists.{only_if}
 use Rattle.fs_change.specs.Chains.{run_of, word_taken}
-use Rattle.fs_change.specs.Records.{without_first, end_of, is_same_span, has_span, holder_of, rest_of, beside_run, joined_run, take_mapping, give_mapping, refc_end, counter_of, is_same_count, counted, count_rest, cut_counts, count_before, count_behind, joined_counts, has_inode}
+use Rattle.fs_change.specs.Records.{without_first, end_of, is_same_span, has_span, holder_of, rest_of, beside_run, joined_run, take_mapping, give_mapping, refc_end, counter_of, is_same_count, count_rest, cut_counts, count_before, count_behind, joined_counts, has_inode}
 
 -- what one edit meets, or several
 pub record Met : Type 0 where

@@ -1,7 +1,7 @@
 -- A run put into the records of one index, or taken out of them; a mapping put into a fork, or a piece taken out.
-use Rattle.std.specs.Prelude.{ℕ, ◌+◌, ◌-◌, ◌/◌, ◌^◌, ◌==◌, ◌&&◌, ◌||◌, ◌≡◌, nat_le, nat_lt, min, Bool, true, false, not, List, [], ◌∷◌, ◌++◌, map, reverse, filter, find, flat_map, Option, Some, None, option_to_list, option_map, unwrap_or, if◌then◌else◌}
+use Rattle.std.specs.Prelude.{ℕ, ◌+◌, ◌-◌, ◌/◌, ◌^◌, ◌==◌, ◌&&◌, ◌||◌, nat_le, nat_lt, min, Bool, true, false, not, List, [], ◌∷◌, ◌++◌, map, reverse, filter, find, flat_map, Option, Some, None, option_to_list, if◌then◌else◌}
 use Rattle.std.specs.List.{list_any}
-use Rattle.std.specs.Option.{option_map_or, option_and_then}
+use Rattle.std.specs.Option.{option_map_or}
 use Rattle.dinode_core.specs.declared.mapping.Mapping.{Mapping}
 use Rattle.ino_recs.specs.declared.chunk.InoRec.{InoRec}
 use Rattle.rmap_recs.specs.Rmap.{can_join}

@@ -1,7 +1,6 @@
 -- What the scan of all inodes has seen of a group (Online Fsck Design, "Live Inode Scans", "Case Study: Rebuilding Reverse
 -- Mapping Records").
-use Rattle.std.specs.Prelude.{ℕ, ◌+◌, ◌-◌, ◌==◌, ◌&&◌, Bool, nat_le, nat_lt, List, [], ◌++◌, map, filter, flat_map, length, take, drop, Option, Some, None}
-use Rattle.dinode_core.specs.declared.mapping.Fork.{Fork}
+use Rattle.std.specs.Prelude.{ℕ, ◌+◌, ◌-◌, ◌&&◌, Bool, nat_le, nat_lt, List, [], ◌++◌, map, filter, length, take, drop, Option, Some, None}
 use Rattle.dinode_core.specs.declared.mapping.Fork.TheVariants as forks
 use Rattle.fs_model.specs.declared.claim.Claim.TheVariants.{Data, Attr}
 use Rattle.rmap_recs.specs.declared.tuples.Tuple.{Tuple}

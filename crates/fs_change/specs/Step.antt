@@ -1,6 +1,6 @@
 -- What an entry of the journal says of the states before and after it (Online Fsck Design, "Eventual Consistency", "Live
 -- Updates"; formats of entries: fs_model).
-use Rattle.std.specs.Prelude.{◌≡◌, ◌⊎◌, ℕ, ◌+◌, ◌*◌, ◌/◌, ◌<◌, ◌≤◌, ◌==◌, ◌&&◌, ◌||◌, nat_le, nat_lt, min, Bool, true, false, not, List, [], ◌∷◌, length, slice_get, filter, Option, Some, None, Result, Ok, Err, is_ok, Contains, if◌then◌else◌}
+use Rattle.std.specs.Prelude.{◌≡◌, ◌⊎◌, ℕ, ◌*◌, ◌/◌, ◌<◌, ◌≤◌, ◌==◌, ◌&&◌, ◌||◌, nat_lt, Bool, true, false, List, [], ◌∷◌, length, slice_get, Option, Some, None, Result, Ok, Err, is_ok, Contains, if◌then◌else◌}
 use Rattle.std.specs.List.{list_any, list_all}
 use Rattle.dinode_core.specs.declared.mapping.Fork.{Fork}
 use Rattle.dinode_core.specs.declared.mapping.Fork.TheVariants as forks
@@ -14,24 +14,21 @@ use Rattle.fs_model.specs.declared.fault.Cause.{Cause}
 use Rattle.fs_model.specs.declared.fault.Cause.TheVariants as causes
 use Rattle.fs_model.specs.declared.unit.Trust.TheVariants.{Good}
 use Rattle.fs_model.specs.declared.unit.Unit.{Unit as ScrubUnit}
-use Rattle.fs_model.specs.declared.unit.Unit.TheVariants as units
-use Rattle.geom.specs.Layout.{fs_block_of, split_of}
+use Rattle.geom.specs.Layout.{fs_block_of}
 use Rattle.ino_recs.specs.declared.chunk.InoRec.{InoRec}
-use Rattle.span_recs.specs.declared.span.SpanRec.{SpanRec}
 use Rattle.sblock.specs.declared.kind.Kind.{Kind}
-use Rattle.sblock.specs.declared.kind.Kind.TheVariants.{Bno, Cnt, Rmap, Refc, Ino, Fino}
+use Rattle.sblock.specs.declared.kind.Kind.TheVariants.{Bno, Rmap, Refc, Ino, Fino}
 use Rattle.tree_defs.specs.Lists.{is_in}
 use Rattle.fs_state.specs.Apart.{is_inode, unit_verifies}
 use Rattle.fs_state.specs.Group.{is_among}
 use Rattle.fs_state.specs.State.{State, Group, ForkList, blocks_in}
 use Rattle.fs_state.specs.declared.intent.Intent.{Intent}
 use Rattle.fs_state.specs.declared.intent.IntentKind.{IntentKind}
-use Rattle.fs_state.specs.declared.intent.IntentKind.TheVariants.{RmapAdd, RmapRemove, RmapChange, RefMore, RefLess, Free}
+use Rattle.fs_state.specs.declared.intent.IntentKind.TheVariants.{RefMore, RefLess, Free}
 use Rattle.fs_derive.specs.Contradiction.{evidence}
 use Rattle.fs_derive.specs.Derive.{is_free}
 use Rattle.fs_derive.specs.Faults.{kind_of_fault}
-use Rattle.fs_derive.specs.Kinds.{unit_of, kinds_of, all_kinds}
-use Rattle.fs_derive.specs.Claims.{fork_of}
+use Rattle.fs_derive.specs.Kinds.{unit_of, kinds_of}
 use Rattle.fs_derive.specs.Lists.{numbers}
 use Rattle.fs_change.specs.Chains.{most_chains, pending, gives, takes, Quiet}
 use Rattle.fs_change.specs.Changes.{extent_of, data_of, mapped, unmapped, converted, shared, rmap_done, ref_done, freed, taken, given, refilled, trimmed, marked, judged, reserved, released, owner_of_run, reaped}

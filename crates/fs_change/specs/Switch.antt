@@ -1,6 +1,6 @@
 -- What a switch makes: how many blocks it needs, which blocks it puts into limbo, and the state that it reaches (Online
 -- Fsck Design, "Reserving New B+Tree Blocks", "Reaping After Repairing Ondisk Metadata").
-use Rattle.std.specs.Prelude.{◌≡◌, ℕ, ◌+◌, ◌-◌, ◌==◌, ◌&&◌, ◌||◌, nat_le, nat_lt, Bool, true, false, not, List, [], ◌∷◌, ◌++◌, map, filter, flat_map, length, slice_get, reverse, take, drop, sum_by, count_by, unwrap_or, if◌then◌else◌}
+use Rattle.std.specs.Prelude.{◌≡◌, ℕ, ◌+◌, ◌==◌, ◌&&◌, nat_le, nat_lt, Bool, true, false, not, List, [], ◌∷◌, ◌++◌, map, filter, flat_map, length, slice_get, reverse, take, drop, sum_by, count_by, unwrap_or, if◌then◌else◌}
 use Rattle.std.specs.List.{list_any, list_all}
 use Rattle.bulk_load.specs.Shapes.{width, start}
 use Rattle.fs_model.specs.declared.fault.Counter.{Counter}
@@ -12,16 +12,15 @@ use Rattle.geom.specs.Layout.{group_len_of}
 use Rattle.rmap_recs.specs.Owners.{number_of}
 use Rattle.rmap_recs.specs.declared.owner.Owner.TheVariants.{Ag, Inobt, Refc as OfRefc}
 use Rattle.rmap_recs.specs.declared.records.RmapRec.{RmapRec}
-use Rattle.span_recs.specs.declared.span.SpanRec.{SpanRec}
 use Rattle.sblock.specs.declared.kind.Kind.{Kind}
 use Rattle.sblock.specs.declared.kind.Kind.TheVariants.{Bno, Rmap}
 use Rattle.fs_state.specs.Apart.{is_free}
 use Rattle.fs_state.specs.Kinds.{RecOf}
-use Rattle.fs_state.specs.State.{State, Group, Index, Owned, Reading, Readable, Unreadable, recs_of, blocks_of, is_readable, blocks_in, pairs_of}
-use Rattle.fs_derive.specs.Claims.{Claimed, claims}
+use Rattle.fs_state.specs.State.{State, Group, Owned, Reading, Readable, Unreadable, blocks_of, is_readable, pairs_of}
+use Rattle.fs_derive.specs.Claims.{claims}
 use Rattle.fs_derive.specs.Derive.{derive}
 use Rattle.fs_derive.specs.Faults.{wanted}
-use Rattle.fs_derive.specs.Kinds.{kinds_of, counters_of}
+use Rattle.fs_derive.specs.Kinds.{kinds_of}
 use Rattle.fs_derive.specs.Lists.{numbers}
 use Rattle.tree_defs.specs.Lists.{times}
 use Rattle.fs_change.specs.Parts.{in_group, change_tree, set_blocks, in_trees, records_in}

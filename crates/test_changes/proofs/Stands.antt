@@ -1,5 +1,5 @@
 -- A row's own state is one that its entry allows; counters are words, by a test.
-use Rattle.std.proofs.Common.{◌≡◌, ℕ, ◌<◌, ◌≤◌, ◌&&◌, ◌||◌, ◌^◌, Bool, true, false, nat_lt, nat_le, slice_get, length, List, [], ◌∷◌, refl, sym, is_ok, inl, Some, None}
+use Rattle.std.proofs.Common.{◌≡◌, ℕ, ◌&&◌, ◌||◌, ◌^◌, Bool, true, false, nat_lt, nat_le, slice_get, length, List, [], ◌∷◌, refl, sym, is_ok, inl, Some, None}
 use Rattle.std.proofs.lemmas.Bool.{and_parts, ltb-true, leb-true, true≢false}
 use Rattle.std.specs.List.{list_all, list_any}
 use Rattle.dinode_core.specs.declared.mapping.Fork.TheVariants as forks

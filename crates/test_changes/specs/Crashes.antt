@@ -1,6 +1,6 @@
 -- What a new session finds where a repair was cut off, and that it leads to an image without faults; and a repair that
 -- gives up.
-use Rattle.std.specs.Prelude.{◌≡◌, ◌+◌, ◌-◌, ◌^◌, ℕ, Bool, true, false, List, [], ◌∷◌, ◌++◌, Option, Some, None}
+use Rattle.std.specs.Prelude.{◌≡◌, ◌^◌, false, List, [], ◌∷◌, Some, None}
 use Rattle.fs_model.specs.declared.claim.Claim.TheVariants.{Heads, Data}
 use Rattle.fs_model.specs.declared.claim.Evidence.TheVariants.{Overlap}
 use Rattle.fs_model.specs.declared.entry.Entry.{Entry}
@@ -13,14 +13,12 @@ use Rattle.fs_model.specs.declared.verdict.Reason.TheVariants.{Space, Contradict
 use Rattle.fs_model.specs.declared.verdict.Verdict.{Verdict}
 use Rattle.fs_model.specs.declared.verdict.Verdict.TheVariants.{Good, Rebuilt, GaveUp, Skipped}
 use Rattle.sblock.specs.declared.block.BlockFault.TheVariants.{Checksum}
-use Rattle.sblock.specs.declared.kind.Kind.{Kind}
-use Rattle.sblock.specs.declared.kind.Kind.TheVariants.{Bno, Cnt, Rmap, Refc, Ino, Fino}
-use Rattle.fs_state.specs.State.{State, Group, Readable, Unreadable}
+use Rattle.sblock.specs.declared.kind.Kind.TheVariants.{Bno, Cnt, Rmap, Refc}
+use Rattle.fs_state.specs.State.{State, Readable, Unreadable}
 use Rattle.fs_derive.specs.Contradiction.{evidence}
 use Rattle.fs_derive.specs.Faults.{faults}
 use Rattle.fs_derive.specs.Laws.{EachTree}
 use Rattle.fs_derive.specs.Kinds.{all_kinds}
-use Rattle.fs_derive.specs.Lists.{numbers}
 use Rattle.fs_change.specs.Changes.{marked, judged, reserved, reaped}
 use Rattle.fs_change.specs.Choice.{extent, spare_block}
 use Rattle.fs_change.specs.Forget.{Forget, forgotten}

@@ -1,8 +1,7 @@
 -- The free list, chunks, needs that grow, trees that are left, and what a session keeps.
-use Rattle.std.specs.Prelude.{◌≡◌, ◌+◌, ◌-◌, ◌*◌, ◌^◌, ℕ, Bool, true, false, List, [], ◌∷◌, ◌++◌, map, length, Option, Some, None}
+use Rattle.std.specs.Prelude.{◌≡◌, ◌+◌, ◌-◌, ◌*◌, ◌^◌, ℕ, true, [], ◌∷◌, ◌++◌, map, length, Some, None}
 use Rattle.bulk_load.specs.Shapes.{count}
 use Rattle.dinode_core.specs.declared.mapping.Mapping.{Mapping}
-use Rattle.fs_model.specs.declared.entry.Entry.{Entry}
 use Rattle.fs_model.specs.declared.entry.Entry.TheVariants as entries
 use Rattle.fs_model.specs.declared.fault.Cause.TheVariants.{Short}
 use Rattle.fs_model.specs.declared.fault.Fault.TheVariants.{Extra}
@@ -10,18 +9,18 @@ use Rattle.fs_model.specs.declared.«record».AnyRec.TheVariants as recs
 use Rattle.fs_model.specs.declared.unit.Trust.TheVariants.{Unknown, Sick}
 use Rattle.fs_model.specs.declared.unit.Unit.TheVariants as units
 use Rattle.sblock.specs.declared.kind.Kind.TheVariants.{Bno, Cnt, Rmap, Ino}
-use Rattle.fs_state.specs.State.{State, Owned}
+use Rattle.fs_state.specs.State.{State}
 use Rattle.fs_derive.specs.Derive.{bno_of, cnt_of}
 use Rattle.fs_derive.specs.Faults.{faults}
 use Rattle.fs_derive.specs.Lists.{numbers}
 use Rattle.fs_derive.specs.Own.{rmap_of}
-use Rattle.fs_change.specs.Changes.{mapped, taken, refilled, trimmed, reserved, released, reaped, rmap_done, marked}
+use Rattle.fs_change.specs.Changes.{mapped, taken, refilled, trimmed, reserved, rmap_done, marked}
 use Rattle.fs_change.specs.Choice.{extent, spare_block}
 use Rattle.fs_change.specs.Forget.{forgotten}
 use Rattle.fs_change.specs.Parts.{in_group, change_tree, records_in}
 use Rattle.fs_change.specs.Run.{Leads}
 use Rattle.fs_change.specs.Switch.{need, owned_by}
-use Rattle.test_states.specs.Images.{image_a, image, group_with, trees_a, tree_of, file_with, fork_with, no_forks, counters_with, cores_to, span, mapped as owned, chunk, mapping, ag, inobt, inodes}
+use Rattle.test_states.specs.Images.{image_a, image, group_with, trees_a, tree_of, file_with, fork_with, no_forks, counters_with, cores_to, span, mapped as owned, chunk, mapping, ag, inodes}
 use Rattle.test_states.specs.Rows.{six_mappings}
 use Rattle.test_changes.specs.Files.{piece, file_made, cut_off, first_of, rest_of, done}
 use Rattle.test_changes.specs.Repairs.{rmap_rebuilt}

@@ -1,5 +1,5 @@
 -- Entries that say too much, or too little: no step has them.
-use Rattle.std.specs.Prelude.{◌≡◌, ◌==◌, ℕ, Bool, true, false, List, [], ◌∷◌, ◌++◌, None, if◌then◌else◌}
+use Rattle.std.specs.Prelude.{◌≡◌, ℕ, false, List, [], ◌∷◌, ◌++◌, None}
 use Rattle.fs_model.specs.declared.entry.Entry.{Entry}
 use Rattle.fs_model.specs.declared.entry.Entry.TheVariants as entries
 use Rattle.fs_model.specs.declared.fault.Cause.TheVariants.{Missing, Owner}
@@ -18,7 +18,7 @@ use Rattle.fs_change.specs.Step.{Step}
 use Rattle.test_states.specs.Images.{image_a, tree_of, shared as counted, mapped, free_a, inodes}
 use Rattle.test_states.specs.Rows.{shared_forty, unread_free, on_heads, six_mappings, two}
 use Rattle.test_changes.specs.Files.{piece, file_made, with_owner}
-use Rattle.test_changes.specs.Repairs.{free_rebuilt, rmap_reserved}
+use Rattle.test_changes.specs.Repairs.{free_rebuilt}
 
 -- no state comes after this entry
 abbrev pub NoneAfter : State → Entry → Type 0

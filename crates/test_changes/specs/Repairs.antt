@@ -1,11 +1,9 @@
 -- Rebuilds of small images, entry by entry: the blocks reserved, the switch, and what is reaped.
-use Rattle.std.specs.Prelude.{◌≡◌, ◌+◌, ◌-◌, ◌^◌, ℕ, Bool, true, false, List, [], ◌∷◌, ◌++◌, map, Option, Some, None, Ok}
-use Rattle.fs_model.specs.declared.entry.Entry.{Entry}
+use Rattle.std.specs.Prelude.{◌≡◌, ℕ, false, List, [], ◌∷◌, None}
 use Rattle.fs_model.specs.declared.entry.Entry.TheVariants as entries
 use Rattle.fs_model.specs.declared.fault.Counter.TheVariants.{Freeblks}
 use Rattle.fs_model.specs.declared.fault.Fault.TheVariants.{Block, Missing}
 use Rattle.fs_model.specs.declared.«record».AnyRec.TheVariants as recs
-use Rattle.fs_model.specs.declared.unit.Unit.{Unit as ScrubUnit}
 use Rattle.fs_model.specs.declared.unit.Unit.TheVariants as units
 use Rattle.fs_model.specs.declared.verdict.Verdict.TheVariants.{Good, Rebuilt}
 use Rattle.sblock.specs.declared.block.BlockFault.TheVariants.{Checksum}
@@ -19,9 +17,9 @@ use Rattle.fs_change.specs.Choice.{extent, spare_block}
 use Rattle.fs_change.specs.Loose.{tree_blocks}
 use Rattle.fs_change.specs.Parts.{records_in}
 use Rattle.fs_change.specs.Run.{Leads}
-use Rattle.fs_change.specs.Switch.{need, need_of, switched, unit_owner}
+use Rattle.fs_change.specs.Switch.{need, need_of, switched}
 use Rattle.test_states.specs.Images.{span, mapped as owned, chunk, fs, ag, inobt, inodes, refc, mask, free_a, mappings_a}
-use Rattle.test_states.specs.Rows.{unread_free, short_rmap, short_ino, full, on_heads}
+use Rattle.test_states.specs.Rows.{unread_free, short_rmap, short_ino, full}
 
 -- ---- free space: its trees go to blocks 7 and 8, and the old roots, 1 and 2, are freed
 

@@ -1,5 +1,5 @@
 -- A rebuild of reverse mappings while a file is mapped: what the scan has seen, and what the new tree holds.
-use Rattle.std.specs.Prelude.{◌≡◌, ◌+◌, ◌-◌, ◌^◌, ◌==◌, ℕ, Bool, true, false, List, [], ◌∷◌, ◌++◌, length, Option, Some, None, if◌then◌else◌}
+use Rattle.std.specs.Prelude.{◌≡◌, ◌-◌, ◌^◌, ◌==◌, ℕ, false, [], ◌∷◌, length, Some, None, if◌then◌else◌}
 use Rattle.fs_model.specs.declared.entry.Entry.{Entry}
 use Rattle.fs_model.specs.declared.entry.Entry.TheVariants as entries
 use Rattle.fs_model.specs.declared.entry.Piece.{Piece}

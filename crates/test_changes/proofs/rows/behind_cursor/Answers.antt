@@ -1,8 +1,7 @@
-use Rattle.std.specs.Prelude.{refl, [], ◌∷◌, true, false, Some, None}
+use Rattle.std.specs.Prelude.{refl, [], true, None}
 use Rattle.test_changes.proofs.Computing.{computing}
-use Rattle.test_changes.proofs.Stands.{stands, first, owner_step, reserve_step, switch_step, reap_step, fault_step, verdict_step}
+use Rattle.test_changes.proofs.Stands.{stands, first, owner_step}
 use Rattle.fs_model.specs.declared.entry.Entry.TheVariants as entries
-use Rattle.fs_model.specs.declared.unit.Unit.TheVariants as units
 use Rattle.std.proofs.lemmas.Bool.{ltb-true}
 use Rattle.test_changes.specs.Files.{first_of, rest_of}
 use Rattle.test_changes.specs.Scans.{four_of, one_later, behind_taken, behind_mapped, behind_done}

@@ -1,7 +1,7 @@
-use Rattle.std.specs.Prelude.{refl, [], ◌∷◌, true, false, Some, None}
+use Rattle.std.specs.Prelude.{refl, [], ◌∷◌}
 use Rattle.test_changes.proofs.Computing.{computing}
-use Rattle.test_changes.proofs.Stands.{stands, first, owner_step, reserve_step, switch_step, reap_step, fault_step, verdict_step}
-use Rattle.fs_model.specs.declared.fault.Fault.TheVariants.{Missing, Extra}
+use Rattle.test_changes.proofs.Stands.{reserve_step, switch_step, reap_step, fault_step, verdict_step}
+use Rattle.fs_model.specs.declared.fault.Fault.TheVariants.{Missing}
 use Rattle.fs_model.specs.declared.«record».AnyRec.TheVariants as recs
 use Rattle.fs_model.specs.declared.unit.Unit.TheVariants as units
 use Rattle.fs_model.specs.declared.verdict.Verdict.TheVariants.{Rebuilt}
@@ -11,7 +11,7 @@ use Rattle.fs_change.specs.Switch.{switched}
 use Rattle.sblock.specs.declared.kind.Kind.TheVariants.{Rmap}
 use Rattle.test_states.specs.Images.{mapped as owned, ag, inodes}
 use Rattle.test_changes.specs.Repairs.{in_blocks}
-use Rattle.test_changes.specs.Crashes.{cut_reserved, cut_switched, again_reserved, again_rebuilt, again_reaped}
+use Rattle.test_changes.specs.Crashes.{cut_reserved, again_reserved, again_rebuilt, again_reaped}
 use Rattle.test_changes.proofs.rows.cut_reserved.Goals as goal
 
 pub returns : goal.returns

@@ -1,14 +1,14 @@
-use Rattle.std.specs.Prelude.{refl, [], ◌∷◌, true, false, Some, None, ◌^◌}
+use Rattle.std.specs.Prelude.{refl, [], ◌∷◌, ◌^◌}
 use Rattle.test_changes.proofs.Computing.{computing}
 use Rattle.test_changes.proofs.Stands.{reserve_step, switch_step, reap_step, fault_step, verdict_step}
-use Rattle.fs_model.specs.declared.fault.Fault.TheVariants.{Block, Extra}
+use Rattle.fs_model.specs.declared.fault.Fault.TheVariants.{Extra}
 use Rattle.fs_model.specs.declared.«record».AnyRec.TheVariants as recs
 use Rattle.fs_model.specs.declared.unit.Unit.TheVariants as units
-use Rattle.fs_model.specs.declared.verdict.Verdict.TheVariants.{Rebuilt, GaveUp}
+use Rattle.fs_model.specs.declared.verdict.Verdict.TheVariants.{Rebuilt}
 use Rattle.fs_change.specs.Changes.{marked, reaped}
 use Rattle.fs_change.specs.Choice.{extent}
 use Rattle.fs_change.specs.Switch.{switched}
-use Rattle.sblock.specs.declared.kind.Kind.TheVariants.{Bno, Rmap}
+use Rattle.sblock.specs.declared.kind.Kind.TheVariants.{Rmap}
 use Rattle.test_states.specs.Images.{mapped as owned, ag}
 use Rattle.test_changes.specs.Repairs.{in_blocks}
 use Rattle.test_changes.specs.Crashes.{cut_unmapped, unmapped_reserved, unmapped_rebuilt, unmapped_reaped}

@@ -1,4 +1,4 @@
-use Rattle.std.specs.Prelude.{refl, [], ◌∷◌, true, false, Some, None, ◌^◌}
+use Rattle.std.specs.Prelude.{refl, []}
 use Rattle.test_changes.proofs.Computing.{computing}
 use Rattle.test_changes.proofs.Stands.{fault_step, verdict_step}
 use Rattle.fs_model.specs.declared.fault.Fault.TheVariants.{Block}

@@ -1,11 +1,8 @@
-use Rattle.std.specs.Prelude.{refl, [], ◌∷◌, true, false, Some, None}
+use Rattle.std.specs.Prelude.{refl, []}
 use Rattle.test_changes.proofs.Computing.{computing}
-use Rattle.test_changes.proofs.Stands.{stands, first, owner_step, reserve_step, switch_step, reap_step, fault_step, verdict_step}
+use Rattle.test_changes.proofs.Stands.{verdict_step}
 use Rattle.fs_model.specs.declared.unit.Unit.TheVariants as units
-use Rattle.fs_model.specs.declared.claim.Claim.TheVariants.{Heads, Data}
-use Rattle.fs_model.specs.declared.claim.Evidence.TheVariants.{Overlap}
-use Rattle.fs_model.specs.declared.verdict.Reason.TheVariants.{Contradiction}
-use Rattle.fs_model.specs.declared.verdict.Verdict.TheVariants.{Good, GaveUp, Skipped}
+use Rattle.fs_model.specs.declared.verdict.Verdict.TheVariants.{Good, Skipped}
 use Rattle.test_states.specs.Rows.{on_heads}
 use Rattle.test_changes.specs.Crashes.{judged_good, on_block_zero, one_given_up, given_up}
 use Rattle.fs_change.specs.Changes.{judged}

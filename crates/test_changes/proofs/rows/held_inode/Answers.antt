@@ -1,6 +1,6 @@
-use Rattle.std.specs.Prelude.{refl, [], ◌∷◌, true, false, Some, None}
+use Rattle.std.specs.Prelude.{refl, [], ◌∷◌, true}
 use Rattle.test_changes.proofs.Computing.{computing}
-use Rattle.test_changes.proofs.Stands.{stands, first, owner_step, reserve_step, switch_step, reap_step, fault_step, verdict_step}
+use Rattle.test_changes.proofs.Stands.{stands, first, owner_step, reserve_step, switch_step, verdict_step}
 use Rattle.fs_model.specs.declared.entry.Entry.TheVariants as entries
 use Rattle.fs_model.specs.declared.unit.Unit.TheVariants as units
 use Rattle.std.proofs.lemmas.Bool.{ltb-true}

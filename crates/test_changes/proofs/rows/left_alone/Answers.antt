@@ -1,11 +1,9 @@
-use Rattle.std.specs.Prelude.{refl, [], ◌∷◌, true, false, Some, None}
+use Rattle.std.specs.Prelude.{refl, [], ◌∷◌}
 use Rattle.test_changes.proofs.Computing.{computing}
 use Rattle.test_changes.proofs.Stands.{stands, leaves_one}
 use Rattle.fs_model.specs.declared.entry.Entry.TheVariants as entries
-use Rattle.fs_change.specs.Choice.{extent}
 use Rattle.std.proofs.lemmas.Bool.{ltb-true}
-use Rattle.test_states.specs.Images.{image_a, span}
-use Rattle.test_changes.specs.Lists.{short_list, filled, cut_list, all_taken, with_chunk, before_step, left_alone, and_marked}
+use Rattle.test_changes.specs.Lists.{before_step, left_alone, and_marked}
 use Rattle.test_changes.specs.Files.{first_of, rest_of}
 use Rattle.sblock.specs.declared.kind.Kind.TheVariants.{Rmap}
 use Rattle.fs_model.specs.declared.fault.Cause.TheVariants.{Short}

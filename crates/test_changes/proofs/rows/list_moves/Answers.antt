@@ -1,12 +1,11 @@
-use Rattle.std.specs.Prelude.{refl, [], ◌∷◌, true, false, Some, None}
+use Rattle.std.specs.Prelude.{refl, []}
 use Rattle.test_changes.proofs.Computing.{computing}
 use Rattle.test_changes.proofs.Stands.{stands}
 use Rattle.fs_model.specs.declared.entry.Entry.TheVariants as entries
 use Rattle.fs_change.specs.Choice.{extent}
 use Rattle.std.proofs.lemmas.Bool.{ltb-true}
 use Rattle.fs_change.specs.Changes.{trimmed}
-use Rattle.test_states.specs.Images.{image_a, span}
-use Rattle.test_changes.specs.Lists.{short_list, filled, long_list, cut_list, all_taken, with_chunk, before_step, left_alone, and_marked}
+use Rattle.test_changes.specs.Lists.{short_list, filled, long_list, cut_list}
 use Rattle.test_changes.proofs.rows.list_moves.Goals as goal
 
 pub returns : goal.returns

@@ -1,8 +1,8 @@
-use Rattle.std.specs.Prelude.{refl, [], ◌∷◌, true, false, Some, None}
+use Rattle.std.specs.Prelude.{false, Some, None}
 use Rattle.test_changes.proofs.Computing.{computing}
-use Rattle.std.proofs.Common.{ap, sym, ◌∙◌, ◌≡◌, ℕ, List, Bool, is_some, Option, length, subst}
+use Rattle.std.proofs.Common.{ap, ℕ, Bool, is_some, Option}
 use Rattle.std.proofs.lemmas.Bool.{true≢false}
-use Rattle.std.proofs.Common.{arith, ◌<◌, ◌≤◌}
+use Rattle.std.proofs.Common.{arith, ◌≤◌}
 use Rattle.test_changes.proofs.rows.not_to_be_switched.Goals as goal
 use Rattle.std.specs.Prelude.{◌==◌}
 

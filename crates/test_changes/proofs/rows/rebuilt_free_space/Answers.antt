@@ -1,17 +1,15 @@
-use Rattle.std.specs.Prelude.{refl, [], ◌∷◌, true, false, Some, None}
+use Rattle.std.specs.Prelude.{refl, [], ◌∷◌, false}
 use Rattle.test_changes.proofs.Computing.{computing}
 use Rattle.test_changes.proofs.Stands.{reserve_step, switch_step, reap_step, fault_step, verdict_step}
-use Rattle.test_changes.specs.Repairs.{in_blocks, free_reserved, free_rebuilt, free_reaped, rmap_reserved, rmap_rebuilt, rmap_reaped, ino_reserved, ino_rebuilt, ino_reaped}
+use Rattle.test_changes.specs.Repairs.{in_blocks, free_reserved, free_rebuilt, free_reaped}
 use Rattle.fs_change.specs.Changes.{marked, judged, reserved}
 use Rattle.fs_change.specs.Switch.{switched}
-use Rattle.fs_model.specs.declared.fault.Fault.TheVariants.{Block, Missing}
-use Rattle.fs_model.specs.declared.«record».AnyRec.TheVariants as recs
+use Rattle.fs_model.specs.declared.fault.Fault.TheVariants.{Block}
 use Rattle.fs_model.specs.declared.unit.Unit.TheVariants as units
 use Rattle.fs_model.specs.declared.verdict.Verdict.TheVariants.{Good, Rebuilt}
 use Rattle.sblock.specs.declared.block.BlockFault.TheVariants.{Checksum}
-use Rattle.sblock.specs.declared.kind.Kind.TheVariants.{Bno, Rmap, Ino}
-use Rattle.test_states.specs.Images.{mapped as owned, chunk, ag, inobt, inodes, mask}
-use Rattle.test_states.specs.Rows.{unread_free, short_rmap, short_ino}
+use Rattle.sblock.specs.declared.kind.Kind.TheVariants.{Bno}
+use Rattle.test_states.specs.Rows.{unread_free}
 use Rattle.test_changes.proofs.rows.rebuilt_free_space.Goals as goal
 
 pub returns : goal.returns
