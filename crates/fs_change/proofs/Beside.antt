@@ -1,5 +1,5 @@
 -- An entry changes its own group and its own chain alone.
-use Rattle.std.proofs.Common.{◌≡◌, ℕ, ◌==◌, ◌||◌, ◌++◌, Bool, true, false, not, cond, List, [], ◌∷◌, filter, sym, ap, subst, refl, ◌∙◌, Option, Some, None, eq-eqb}
+use Rattle.std.proofs.Common.{◌≡◌, ℕ, ◌==◌, ◌++◌, Bool, true, false, not, cond, List, [], ◌∷◌, filter, sym, ap, subst, refl, ◌∙◌, Option, Some, None, eq-eqb}
 use Rattle.std.proofs.lemmas.Bool.{true≢false}
 use Rattle.std.specs.Prelude.{if◌then◌else◌}
 use Rattle.fs_model.specs.declared.entry.Entry.{Entry}
@@ -13,18 +13,18 @@ use Rattle.fs_model.specs.declared.verdict.Verdict.{Verdict}
 use Rattle.rmap_recs.specs.Owners.{number_of}
 use Rattle.rmap_recs.specs.declared.owner.Owner.TheVariants.{Ag, Inodes}
 use Rattle.sblock.specs.declared.kind.Kind.{Kind}
-use Rattle.sblock.specs.declared.kind.Kind.TheVariants.{Bno, Cnt, Rmap, Refc}
+use Rattle.sblock.specs.declared.kind.Kind.TheVariants.{Rmap}
 use Rattle.fs_state.specs.State.{State, Group}
 use Rattle.fs_state.specs.declared.intent.Intent.{Intent}
-use Rattle.fs_state.specs.declared.intent.IntentKind.TheVariants.{RmapAdd, RmapRemove, RmapChange, RefMore, RefLess, Free}
+use Rattle.fs_state.specs.declared.intent.IntentKind.TheVariants.{RmapAdd, RmapRemove, RmapChange, RefMore, RefLess}
 use Rattle.fs_derive.specs.Derive.{derive}
 use Rattle.fs_derive.specs.Kinds.{kinds_of}
 use Rattle.fs_derive.specs.Lists.{numbers}
-use Rattle.fs_change.specs.Changes.{mapped, unmapped, converted, shared, rmap_done, ref_done, freed, taken, given, refilled, trimmed, marked, judged, judge, reserved, released, reaped, take_free, give_free, give_owner, take_owner, intent, data_word, extent_of, data_of, do_mapping, new_count, to_free, behind, inodes_follow, turn, list_chunk, chunk_extent, make_chunk, is_in_extent, own_new, leave, block_extent, reap_in}
-use Rattle.fs_change.specs.Laws.{ChangesOneGroup, StaysBeside, IsOther, chain_of}
-use Rattle.fs_change.specs.Parts.{at_only, in_group, edit, set_trust, sick_in, records_in}
-use Rattle.fs_change.specs.Records.{is_unwritten_at, set_count}
-use Rattle.fs_change.specs.Step.{Step, Row, group_of_entry, group_of_inode}
+use Rattle.fs_change.specs.Changes.{mapped, unmapped, converted, shared, rmap_done, ref_done, freed, taken, given, refilled, trimmed, marked, judged, judge, reserved, released, reaped, take_free, give_free, give_owner, take_owner, intent, data_word, extent_of, data_of, do_mapping, change_count, to_free, behind, inodes_follow, turn, list_chunk, chunk_extent, make_chunk, is_in_extent, own_new, leave, block_extent, owner_of_run, reap_in}
+use Rattle.fs_change.specs.Laws.{ChangesOneGroup, StaysBeside, chain_of}
+use Rattle.fs_change.specs.Parts.{at_only, in_group, edit, set_trust}
+use Rattle.fs_change.specs.Records.{is_unwritten_at}
+use Rattle.fs_change.specs.Step.{Row, group_of_entry, group_of_inode}
 use Rattle.fs_change.specs.Switch.{switched, moved, move_blocks, derived_in, hold, exact_counters, unit_owner, owned_by, join_limbo}
 
 -- the function, but x at k, elsewhere
@@ -89,7 +89,7 @@ by_ref left c g b n more i rest a =
     let e : Extent = record { group = g; block = b; count = n } in
     record {
       geometry = refl;
-      groups = λ h out. in_other g (edit left Refc (λ recs. set_count b n (new_count more recs b) recs)) a h out;
+      groups = λ h out. in_other g (change_count left more e) a h out;
       chains = λ d out. elsewhere c (to_free more (a.group g) e ++ behind n i ++ rest) a.chains d out;
     }
 
@@ -176,14 +176,14 @@ by_judged : (g : ℕ) (unit : ScrubUnit) (verdict : Verdict) (a : State) → Sta
 unfolding judged
 by_judged g unit verdict a = record { geometry = refl; groups = λ h out. in_other g (judge verdict unit) a h out; chains = λ c out. refl }
 
-by_switched : (g root second : ℕ) (unit : ScrubUnit) (a : State) → StaysBeside a (entries.Switched g unit root second) (switched a g unit)
+by_switched : (g root second : ℕ) (unit : ScrubUnit) (blocks : Kind → List ℕ) (a : State) → StaysBeside a (entries.Switched g unit root second) (switched a g unit blocks)
 unfolding switched moved
-by_switched g root second unit a =
-    let m : State = moved a g unit in
+by_switched g root second unit blocks a =
+    let m : State = moved a g unit blocks in
     let d : State = derived_in m g unit in
     record {
       geometry = refl;
-      groups = λ h out. in_other g (λ p. record p { counters = exact_counters d g unit }) d h out ∙ in_other g (hold (derive m g) (kinds_of unit)) m h out ∙ in_other g (move_blocks a g unit) a h out;
+      groups = λ h out. in_other g (λ p. record p { counters = exact_counters d g unit }) d h out ∙ in_other g (hold (derive m g) (kinds_of unit)) m h out ∙ in_other g (move_blocks a g unit blocks) a h out;
       chains = λ c out. refl;
     }
 
@@ -213,11 +213,11 @@ decided a x left (entries.Refilled e) r = as_is a _ x _ r.1 (by_refilled e a)
 decided a x left (entries.Trimmed e) r = as_is a _ x _ r.1 (by_trimmed e a)
 decided a x left (entries.Marked g k cause) r = as_is a _ x _ r.1 (by_marked g k (entries.Marked g k cause) a refl refl)
 decided a x left (entries.Reserved g unit b spare) r = as_is a _ x _ r.1 (by_reserved left g b unit spare a)
-decided a x left (entries.Released g unit) r = as_is a _ x _ r (by_released g unit a)
+decided a x left (entries.Released g unit) r = as_is a _ x _ r.1 (by_released g unit a)
 decided a x left (entries.Fault g unit fault) r = as_is a _ x _ r.1 (by_marked g _ (entries.Fault g unit fault) a refl refl)
 decided a x left (entries.Verdict g unit verdict) r = as_is a _ x _ r (by_judged g unit verdict a)
-decided a x left (entries.Switched g unit root second) r = as_is a _ x _ r.2 (by_switched g root second unit a)
-decided a x left (entries.Reaped e) r = as_is a _ x _ r.2 (by_reaped left r.0 e a)
+decided a x left (entries.Switched g unit root second) r = as_is a _ x _ r.4 (by_switched g root second unit r.0 a)
+decided a x left (entries.Reaped e) r = as_is a _ x _ r.1 (by_reaped left (owner_of_run (a.group e.group) e) e a)
 decided a x left (entries.Reply writer line code done refused begun) r = as_is a _ x _ r (record { geometry = refl; groups = λ h out. refl; chains = λ c out. refl })
 
 not_same : (h g : ℕ) → (h == g) ≡ false → h ≡ g → ⊥

@@ -1,24 +1,21 @@
 -- Journals and sessions one after the other.
-use Rattle.std.proofs.Common.{◌≡◌, ℕ, List, [], ◌∷◌, ◌++◌, sym, subst, refl}
+use Rattle.std.proofs.Common.{List, [], ◌∷◌, ◌++◌, subst, refl}
 use Rattle.fs_model.specs.declared.entry.Entry.{Entry}
-use Rattle.fs_model.specs.declared.entry.Entry.TheVariants as entries
-use Rattle.sblock.specs.declared.kind.Kind.{Kind}
 use Rattle.fs_state.specs.State.{State, Group, Reading, Readable, Unreadable}
 use Rattle.fs_change.specs.Laws.{LeadsCompose, SessionsBegin, SessionsCompose}
 use Rattle.fs_change.specs.Forget.{KeepsReading, GroupForgets, Forget, forgotten, forgotten_group}
-use Rattle.fs_change.specs.Run.{AreMarked, Leads, RunAll}
-use Rattle.fs_change.specs.Step.{group_of_entry}
+use Rattle.fs_change.specs.Marks.{Due, dues}
+use Rattle.fs_change.specs.Run.{LeadsOn, Leads, RunAll}
 
--- marks at the front stay there when more entries follow
-marked_still : (g : ℕ) (ks : List Kind) (es more : List Entry) → AreMarked g ks es → AreMarked g ks (es ++ more)
-marked_still g [] es more m = tt
-marked_still g (k ∷ ks) [] more m = absurd m
-marked_still g (k ∷ ks) (entries.Marked h j cause ∷ es) more m = (m.0, m.1, marked_still g ks es more m.2)
-marked_still g (k ∷ ks) (e ∷ es) more m = absurd m
+-- whatever marks are due at first
+compose_on : (ds : List Due) (a b c : State) (js ks : List Entry) → LeadsOn ds a js b → Leads b ks c → LeadsOn ds a (js ++ ks) c
+compose_on [] a b c [] ks l m = subst (λ x. Leads x ks c) l m
+compose_on (d ∷ ds) a b c [] ks l m = absurd l
+compose_on [] a b c (e ∷ js) ks l m = (l.0, l.1, l.2, l.3, compose_on (dues a l.0 e l.2.decided l.1) l.1 b c js ks l.4 m)
+compose_on (d ∷ ds) a b c (e ∷ js) ks l m = (l.0, l.1, l.2, compose_on ds l.1 b c js ks l.3 m)
 
 pub leads_compose : LeadsCompose
-leads_compose a b c [] ks l m = subst (λ x. Leads x ks c) l m
-leads_compose a b c (e ∷ js) ks l m = (l.0, l.1, l.2, marked_still (group_of_entry a e) l.0 js ks l.3, leads_compose l.1 b c js ks l.4 m)
+leads_compose a b c js ks l m = compose_on [] a b c js ks l m
 
 pub sessions_compose : SessionsCompose
 sessions_compose a b c [] ks l m = subst (λ x. RunAll x ks c) l m
@@ -39,7 +36,7 @@ group_forgets p = record {
   limbo = refl;
 }
 
-session_begins : (a : State) → Forget a (forgotten a)
+pub session_begins : (a : State) → Forget a (forgotten a)
 session_begins a = record {
   geometry = refl;
   groups = λ g. group_forgets (a.group g);

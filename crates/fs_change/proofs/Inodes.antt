@@ -1,7 +1,7 @@
 -- An entry leaves the inodes of chunks that it doesn't name.
 use Rattle.std.proofs.Common.{◌≡◌, ℕ, ◌==◌, ◌/◌, ◌||◌, ◌++◌, Bool, true, false, cond, List, [], ◌∷◌, sym, ap, subst, refl, ◌∙◌, Option, Some, None}
 use Rattle.std.proofs.lemmas.Bool.{true≢false}
-use Rattle.std.specs.Prelude.{if◌then◌else◌, Result, Ok, Err}
+use Rattle.std.specs.Prelude.{if◌then◌else◌, Result, Ok}
 use Rattle.dinode_core.specs.declared.mapping.Fork.{Fork}
 use Rattle.dinode_core.specs.declared.mapping.Fork.TheVariants as forks
 use Rattle.dinode_core.specs.declared.mapping.ForkFault.{ForkFault}
@@ -19,16 +19,16 @@ use Rattle.rmap_recs.specs.declared.owner.Owner.TheVariants.{Inodes}
 use Rattle.sblock.specs.declared.kind.Kind.{Kind}
 use Rattle.fs_state.specs.Apart.{is_chunk, in_chunk, is_inode}
 use Rattle.fs_state.specs.Frame.{SameFork}
-use Rattle.fs_state.specs.State.{State, Group, CoreState, ForkList}
+use Rattle.fs_state.specs.State.{State, CoreState, ForkList}
 use Rattle.fs_state.specs.declared.intent.Intent.{Intent}
 use Rattle.fs_derive.specs.Claims.{fork_of}
 use Rattle.fs_change.proofs.Beside.{elsewhere}
-use Rattle.fs_change.specs.Changes.{mapped, unmapped, converted, shared, rmap_done, ref_done, freed, taken, given, refilled, trimmed, marked, judged, reserved, released, reaped, take_free, give_owner, extent_of, data_of, mapping_of, change_data, changed_fork, mark_shared, shares_blocks, freed_core, core_with, file_mode, make_chunk, list_chunk, chunk_extent, inodes_follow, turn, own_new, leave, block_extent}
+use Rattle.fs_change.specs.Changes.{mapped, unmapped, converted, shared, rmap_done, ref_done, freed, taken, given, refilled, trimmed, marked, judged, reserved, released, owner_of_run, reaped, take_free, give_owner, extent_of, data_of, mapping_of, change_data, changed_fork, mark_shared, shares_blocks, freed_core, core_with, file_mode, list_chunk, chunk_extent, inodes_follow, turn, own_new, leave, block_extent}
 use Rattle.fs_change.specs.Laws.{KeepsOtherInodes, changes_inode}
-use Rattle.fs_change.specs.Loose.{Loosely, InodesStay}
-use Rattle.fs_change.specs.Parts.{at_only, in_group, set_core, set_data, data_only, set_cores, stands_in, no_forks}
+use Rattle.fs_change.specs.Loose.{Loosely}
+use Rattle.fs_change.specs.Parts.{in_group, set_core, data_only, set_cores, stands_in, no_forks}
 use Rattle.fs_change.specs.Records.{is_unwritten_at, add_mapping, take_piece}
-use Rattle.fs_change.specs.Step.{Step, Row, group_of_entry, group_of_inode}
+use Rattle.fs_change.specs.Step.{Row, group_of_inode}
 use Rattle.fs_change.specs.Switch.{switched, moved, unit_owner, owned_by}
 
 -- the inode's core and forks are as they were
@@ -145,9 +145,9 @@ by_judged : (g : ℕ) (unit : ScrubUnit) (verdict : Verdict) (a : State) (ino : 
 unfolding judged
 by_judged g unit verdict a ino = record { core = refl; fork = refl }
 
-by_switched : (g : ℕ) (unit : ScrubUnit) (a : State) (ino : ℕ) → SameInode a (switched a g unit) ino
+by_switched : (g : ℕ) (unit : ScrubUnit) (blocks : Kind → List ℕ) (a : State) (ino : ℕ) → SameInode a (switched a g unit blocks) ino
 unfolding switched moved
-by_switched g unit a ino = record { core = refl; fork = refl }
+by_switched g unit blocks a ino = record { core = refl; fork = refl }
 
 by_reaped : (left : List Kind) (owner : ℕ) (e : Extent) (a : State) (ino : ℕ) → SameInode a (reaped left owner e a) ino
 unfolding reaped
@@ -170,11 +170,11 @@ decided a x left (entries.Refilled e) r ino h = as_is a x _ ino r.1 (by_refilled
 decided a x left (entries.Trimmed e) r ino h = as_is a x _ ino r.1 (by_trimmed e a ino)
 decided a x left (entries.Marked g k cause) r ino h = as_is a x _ ino r.1 (by_marked g k a ino)
 decided a x left (entries.Reserved g unit b spare) r ino h = as_is a x _ ino r.1 (by_reserved left g b unit spare a ino h)
-decided a x left (entries.Released g unit) r ino h = as_is a x _ ino r (by_released g a ino)
+decided a x left (entries.Released g unit) r ino h = as_is a x _ ino r.1 (by_released g a ino)
 decided a x left (entries.Fault g unit fault) r ino h = as_is a x _ ino r.1 (by_marked g _ a ino)
 decided a x left (entries.Verdict g unit verdict) r ino h = as_is a x _ ino r (by_judged g unit verdict a ino)
-decided a x left (entries.Switched g unit root second) r ino h = as_is a x _ ino r.2 (by_switched g unit a ino)
-decided a x left (entries.Reaped e) r ino h = as_is a x _ ino r.2 (by_reaped left r.0 e a ino)
+decided a x left (entries.Switched g unit root second) r ino h = as_is a x _ ino r.4 (by_switched g unit r.0 a ino)
+decided a x left (entries.Reaped e) r ino h = as_is a x _ ino r.1 (by_reaped left (owner_of_run (a.group e.group) e) e a ino)
 decided a x left (entries.Reply writer line code done refused begun) r ino h = as_is a x _ ino r (record { core = refl; fork = refl })
 
 -- ---- what is left open

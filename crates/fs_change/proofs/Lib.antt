@@ -1,10 +1,15 @@
 mod Again
+mod Alike
 mod Beside
-mod Compose
+pub mod Compose
+mod Counted
 mod Inodes
+mod Mapped
 mod Owed
+mod Pieces
 pub mod Sets
 mod Settled
 mod Shadow
 pub mod Stays
+mod Taking
 mod Trees

@@ -8,12 +8,11 @@ use Rattle.rmap_recs.specs.declared.tuples.Tuple.{Tuple}
 use Rattle.fs_state.specs.State.{State}
 use Rattle.fs_state.specs.declared.intent.Intent.{Intent}
 use Rattle.fs_derive.specs.Lists.{numbers}
-use Rattle.fs_derive.specs.Own.{set_of}
 use Rattle.fs_change.proofs.Beside.{elsewhere}
 use Rattle.fs_change.proofs.Sets.{one_set, has_set, has_both, has_passing}
 use Rattle.fs_change.proofs.Settled.{change_pending, in_settled}
-use Rattle.fs_change.specs.Chains.{most_chains, pending, owed_gifts, owed_takings, given_by, taken_by, settled_by, settled_forks}
-use Rattle.fs_change.specs.Laws.{FirstEventKeeps, StepMoves, BeginsChange, EndsChange, fork_owners, all_given, all_taken}
+use Rattle.fs_change.specs.Chains.{most_chains, pending, owed_gifts, owed_takings, given_by, taken_by, settled_forks}
+use Rattle.fs_change.specs.Laws.{FirstEventKeeps, StepMoves, fork_owners, all_given, all_taken}
 use Rattle.fs_change.specs.Parts.{at_only}
 
 -- ---- by chains

@@ -1,6 +1,6 @@
 -- Sets of tuples as lists that rise: two with the same members are one.
-use Rattle.std.proofs.Common.{◌≡◌, ℕ, ◌==◌, ◌&&◌, ◌||◌, ◌⊎◌, Bool, true, false, not, cond, nat_lt, List, [], ◌∷◌, ◌++◌, filter, Contains, refl, sym, ap, subst, ◌∙◌, inl, inr, arith}
-use Rattle.std.proofs.lemmas.Bool.{false≢true, true≢false, and_parts, eqb-true, eq-eqb}
+use Rattle.std.proofs.Common.{◌≡◌, ℕ, ◌==◌, ◌&&◌, ◌||◌, ◌⊎◌, Bool, true, false, cond, nat_lt, List, [], ◌∷◌, ◌++◌, filter, Contains, refl, sym, ap, subst, ◌∙◌, inl, inr, arith}
+use Rattle.std.proofs.lemmas.Bool.{false≢true, true≢false, eqb-true, eq-eqb}
 use Rattle.std.proofs.lemmas.Bool.Decides.{nat_tests}
 use Rattle.std.specs.List.{list_any}
 use Rattle.rmap_recs.proofs.RisingLemmas.{nothing_in, in_front, in_rest, in_either, any_found, any_here, one_rising}
@@ -39,7 +39,7 @@ along t u v h i =
     along_first t.block u.block v.block _ _ _
     (λ j k. along_first t.owner u.owner v.owner _ _ _ (λ l m. along_first (key_word t.word) (key_word u.word) (key_word v.word) _ _ _ (λ n o. along_nat t.word u.word v.word n o) l m) j k) h i
 
-order : (a b : ℕ) → (nat_lt a b ≡ true) ⊎ ((nat_lt b a ≡ true) ⊎ (a ≡ b))
+pub order : (a b : ℕ) → (nat_lt a b ≡ true) ⊎ ((nat_lt b a ≡ true) ⊎ (a ≡ b))
 order a b = (elim (nat_lt a b) as (λ x. nat_lt a b ≡ x → (nat_lt a b ≡ true) ⊎ ((nat_lt b a ≡ true) ⊎ (a ≡ b))) [
   | true ↦ λ h. inl h
   | false ↦ λ h. (elim (nat_lt b a) as (λ x. nat_lt b a ≡ x → (nat_lt a b ≡ true) ⊎ ((nat_lt b a ≡ true) ⊎ (a ≡ b))) [

@@ -1,9 +1,8 @@
 -- What chains owe against what forks have: settled owners.
-use Rattle.std.proofs.Common.{◌≡◌, ◌&&◌, ◌||◌, Bool, true, false, not, List, [], ◌∷◌, ◌++◌, filter, refl, sym, ap, ◌∙◌}
+use Rattle.std.proofs.Common.{◌≡◌, ◌&&◌, ◌||◌, Bool, true, false, not, List, ◌++◌, filter, refl, sym, ap, ◌∙◌}
 use Rattle.std.proofs.lemmas.Bool.{false≢true, true≢false}
 use Rattle.rmap_recs.specs.Runs.{has}
 use Rattle.rmap_recs.specs.declared.tuples.Tuple.{Tuple}
-use Rattle.fs_derive.specs.Own.{set_of}
 use Rattle.fs_change.proofs.Sets.{one_set, has_set, has_both, has_passing}
 use Rattle.fs_change.specs.Chains.{settled_by}
 use Rattle.fs_change.specs.Laws.{GiftPending, TakingPending, ChangePending, GiftDone, TakingDone}

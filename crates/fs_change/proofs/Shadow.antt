@@ -1,6 +1,6 @@
 -- What a scan has seen, by one step of it or of a writer.
-use Rattle.std.proofs.Common.{◌≡◌, ℕ, ◌<◌, ◌≤◌, ◌+◌, ◌-◌, ◌==◌, ◌&&◌, ◌||◌, nat_lt, nat_le, zero, suc, Bool, true, false, not, cond, List, [], ◌∷◌, ◌++◌, map, filter, length, Option, Some, None, refl, sym, ap, ◌∙◌, arith}
-use Rattle.std.proofs.lemmas.Bool.{false≢true, true≢false}
+use Rattle.std.proofs.Common.{◌≡◌, ℕ, ◌+◌, ◌-◌, ◌==◌, ◌&&◌, ◌||◌, nat_lt, Bool, true, false, not, cond, List, [], ◌∷◌, ◌++◌, map, filter, length, Option, Some, None, refl, sym, ap, ◌∙◌, arith}
+use Rattle.std.proofs.lemmas.Bool.{true≢false}
 use Rattle.std.proofs.lemmas.Bool.Decides.{nat_tests}
 use Rattle.dinode_core.specs.ForkTree.{TreeBlock}
 use Rattle.dinode_core.specs.declared.mapping.Fork.TheVariants as forks
@@ -13,7 +13,7 @@ use Rattle.fs_derive.specs.Own.{tuple_of, set_of}
 use Rattle.fs_change.proofs.Sets.{one_set, has_set, has_both, has_passing}
 use Rattle.fs_change.specs.Chains.{settled_forks}
 use Rattle.fs_change.specs.Laws.{CursorPasses, HoldBegins, HoldEnds, ShadowGains, ShadowLoses, is_seen}
-use Rattle.fs_change.specs.Scan.{visited, held_tuples, shadow_of, first_mappings, data_piece, attribute_piece, piece_claims}
+use Rattle.fs_change.specs.Scan.{visited, held_tuples, shadow_of, first_mappings, attribute_piece, piece_claims}
 
 in_shadow_list : (a : State) (g c : ℕ) (held : Option ℕ) (k : ℕ) (t : Tuple) → has (filter (λ u. visited c u.owner) (settled_forks a g) ++ held_tuples a g held k) t ≡ ((has (settled_forks a g) t && visited c t.owner) || has (held_tuples a g held k) t)
 in_shadow_list a g c held k t =

@@ -1,13 +1,11 @@
 -- What an entry decides is a state that it allows: no block has to move.
-use Rattle.std.proofs.Common.{◌≡◌, ℕ, ◌+◌, ◌-◌, ◌%◌, ◌^◌, ◌<◌, ◌==◌, ◌&&◌, ◌||◌, Bool, true, false, not, List, [], ◌∷◌, ◌++◌, filter, drop, cond, sym, ap, ap₂, subst, refl, ◌∙◌, arith, append-nil, length}
+use Rattle.std.proofs.Common.{◌≡◌, ℕ, ◌+◌, ◌^◌, ◌<◌, ◌==◌, ◌&&◌, ◌||◌, Bool, true, false, not, List, [], ◌∷◌, ◌++◌, drop, cond, sym, ap, ap₂, refl, ◌∙◌, arith, append-nil, length}
 use Rattle.std.specs.List.{list_any, list_all}
 use Rattle.std.proofs.Common.{eq-eqb}
-use Rattle.fs_model.specs.declared.entry.Entry.{Entry}
 use Rattle.fs_model.specs.declared.fault.Counter.{Counter}
 use Rattle.fs_model.specs.declared.fault.Counter.TheVariants.{Count, Freecount, Iblocks, Fblocks, RmapBlocks, Freeblks, Longest, Btreeblks, RefcountBlocks}
 use Rattle.sblock.specs.declared.kind.Kind.{Kind}
 use Rattle.sblock.specs.declared.kind.Kind.TheVariants.{Bno, Cnt, Rmap, Refc, Ino, Fino}
-use Rattle.dinode_core.specs.declared.mapping.Fork.{Fork}
 use Rattle.dinode_core.specs.declared.mapping.ForkFault.{ForkFault}
 use Rattle.std.specs.Prelude.{Result, Ok, Err}
 use Rattle.fs_state.specs.Frame.{SameFork}
@@ -15,9 +13,12 @@ use Rattle.fs_state.specs.Kinds.{RecOf}
 use Rattle.fs_state.specs.State.{State, Group, Index, Owned, Reading, Readable, Unreadable, ForkList, recs_of, blocks_of}
 use Rattle.fs_change.specs.Changes.{follow}
 use Rattle.fs_change.specs.Laws.{AreWords, DecidedStands}
-use Rattle.fs_change.specs.Loose.{Loosely, Inside, InodesStay, MovesBlocks, laid_out, in_trees, owners_follow, owners_in, lost_to, give_each, take_each, tree_blocks, block_counter}
-use Rattle.fs_change.specs.Parts.{tree_only, change_tree, set_blocks, in_blocks, with_recs, edit, is_edited}
-use Rattle.fs_change.specs.Step.{Step, edited_in, group_of_entry}
+use Rattle.fs_change.specs.Loose.{Loosely, Inside, InodesStay, MovesBlocks, may_join, laid_out, owners_follow, owners_in, lost_to, met_by_moves, tree_blocks, block_counter}
+use Rattle.fs_change.specs.Met.{is_fault, met_moving, give_each, take_each}
+use Rattle.fs_change.specs.Parts.{tree_only, change_tree, set_blocks, in_trees, in_blocks, with_recs, edit, is_edited, records_in}
+use Rattle.fs_derive.specs.Kinds.{tree_owner}
+use Rattle.tree_defs.specs.Lists.{is_in}
+use Rattle.fs_change.specs.Step.{edited_in, group_of_entry}
 use Rattle.fs_change.specs.Switch.{is_same_owned, has_owned}
 
 -- ---- trees
@@ -71,6 +72,14 @@ edit_nothing : (b : Bool) (p : Group) → cond b (change_tree Rmap (λ i. record
 edit_nothing true p = same_tree Rmap p _ (ap (λ r. record (p.tree Rmap) { reading = r }) (reading_with_own (p.tree Rmap).reading))
 edit_nothing false p = refl
 
+-- nobody's owner changes
+no_moves : (p : Group) → is_fault (met_by_moves p p) ≡ false
+no_moves p = ap (λ os. is_fault (met_moving os os (records_in p Rmap))) (none_lost (owners_in p) (owners_in p) (λ o e. e))
+
+and_false : (x y : Bool) → y ≡ false → (x && y) ≡ false
+and_false true y h = h
+and_false false y h = refl
+
 owners_stay : (left : List Kind) (p : Group) → owners_follow left p p ≡ p
 owners_stay left p =
     ap (λ os. edit left Rmap (λ recs. give_each os (take_each os recs)) p) (none_lost (owners_in p) (owners_in p) (λ o e. e))
@@ -100,9 +109,13 @@ laid_in_place left ks p h =
     let owners : owners_follow left p (record (in_trees (tree_blocks p) ks p) { free_list = drop 0 p.free_list ++ []; limbo = p.limbo }) ≡ p = ap (owners_follow left p) inner ∙ owners_stay left p in
     sym (ap (λ (q : Group). record q { counters = block_counter p q }) owners ∙ (λ t. record p { counters = λ name. same_counter p h name t }))
 
-each_kept : (os : List Owned) (ps : List Owned) → ((o : Owned) → has_owned ps o ≡ true → has_owned os o ≡ true) → list_all (has_owned os) ps ≡ true
-each_kept os [] h = refl
-each_kept os (p ∷ ps) h = ap₂ (λ x y. x && y) (h p (same_is_there p ps)) (each_kept os ps (λ o e. h o (still_there true o p ps e)))
+each_passes : (test : Owned → Bool) (ps : List Owned) → ((o : Owned) → has_owned ps o ≡ true → test o ≡ true) → list_all test ps ≡ true
+each_passes test [] h = refl
+each_passes test (p ∷ ps) h = ap₂ (λ x y. x && y) (h p (same_is_there p ps)) (each_passes test ps (λ o e. h o (still_there true o p ps e)))
+
+-- a pair that limbo has may be there
+joins : (ks : List Kind) (p : Group) (o : Owned) → has_owned p.limbo o ≡ true → may_join ks p o ≡ true
+joins ks p o e = ap (λ b. b || list_any (λ k. (o.owner == tree_owner k) && (is_in o.block (tree_blocks p k) || is_in o.block p.free_list)) ks) e
 
 nothing_moves : (left ks : List Kind) (p : Group) → AreWords p → MovesBlocks left ks p p
 nothing_moves left ks p h = record {
@@ -111,8 +124,10 @@ nothing_moves left ks p h = record {
   freed = [];
   limbo = p.limbo;
   is = laid_in_place left ks p h;
-  limbo_keeps = each_kept p.limbo p.limbo (λ o e. e);
+  limbo_keeps = each_passes (has_owned p.limbo) p.limbo (λ o e. e);
+  limbo_gains = each_passes (may_join ks p) p.limbo (joins ks p);
   none_lost = λ b. refl;
+  owners_met = and_false (is_edited left p Rmap) (is_fault (met_by_moves p p)) (no_moves p);
 }
 
 inside : (left ks : List Kind) (p : Group) → AreWords p → Inside left ks p p
@@ -135,4 +150,4 @@ pub stays : (g : ℕ) (left ks : List Kind) (a x : State) → AreWords (x.group 
 stays g left ks a x h = record { geometry = refl; chains = refl; others = λ k out. refl; inside = inside left ks (x.group g) h; inodes = inodes_stay g a x }
 
 pub decided_stands : DecidedStands
-decided_stands a x left e row leaves h = record { decided = x; row = row; leaves = leaves; loosely = stays (group_of_entry a e) left (edited_in a left e) a x h }
+decided_stands a x left e row leaves met h = record { decided = x; row = row; leaves = leaves; met = met; loosely = stays (group_of_entry a e) left (edited_in a left e) a x h }

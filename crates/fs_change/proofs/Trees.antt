@@ -1,6 +1,6 @@
 -- An entry leaves the trees that it neither edits nor judges.
-use Rattle.std.proofs.Common.{◌≡◌, ℕ, ◌==◌, ◌&&◌, ◌||◌, Bool, true, false, not, cond, List, [], ◌∷◌, ◌++◌, filter, sym, ap, subst, refl, ◌∙◌, Option, Some, None, eq-eqb, drop, take, length}
-use Rattle.std.proofs.lemmas.Bool.{true≢false, false≢true}
+use Rattle.std.proofs.Common.{◌≡◌, ℕ, ◌==◌, ◌||◌, Bool, true, false, not, cond, List, [], ◌∷◌, ◌++◌, filter, sym, ap, subst, refl, ◌∙◌, Option, Some, None, eq-eqb, drop}
+use Rattle.std.proofs.lemmas.Bool.{true≢false}
 use Rattle.std.specs.Prelude.{if◌then◌else◌}
 use Rattle.fs_model.specs.declared.entry.Entry.{Entry}
 use Rattle.fs_model.specs.declared.entry.Entry.TheVariants as entries
@@ -20,20 +20,21 @@ use Rattle.sblock.specs.declared.kind.Kind.TheVariants.{Bno, Cnt, Rmap, Refc, In
 use Rattle.fs_state.specs.Edits.{number_of as kind_number}
 use Rattle.fs_state.specs.Group.{is_among}
 use Rattle.fs_state.specs.Kinds.{RecOf}
-use Rattle.fs_state.specs.State.{State, Group, Index, Reading, Readable, Unreadable, recs_of, blocks_of, blocks_in}
+use Rattle.fs_state.specs.State.{State, Group, Index, Readable, recs_of, blocks_of}
 use Rattle.fs_state.specs.declared.intent.Intent.{Intent}
 use Rattle.fs_derive.specs.Derive.{derive}
 use Rattle.fs_derive.specs.Faults.{kind_of_fault}
 use Rattle.fs_derive.specs.Kinds.{kinds_of}
 use Rattle.fs_derive.specs.Lists.{numbers}
-use Rattle.fs_change.proofs.Beside.{elsewhere}
-use Rattle.fs_change.specs.Changes.{mapped, unmapped, converted, shared, rmap_done, ref_done, freed, taken, given, refilled, trimmed, marked, judged, judge, reserved, released, reaped, space_edit, take_free, give_free, give_owner, take_owner, extent_of, data_of, do_mapping, new_count, inodes_follow, turn, list_chunk, chunk_extent, make_chunk, is_in_extent, own_new, leave, block_extent, leave_limbo, reap_in, is_anothers, by_count, known_spans, plain_run, free_chunk}
+use Rattle.fs_change.specs.Changes.{mapped, unmapped, converted, shared, rmap_done, ref_done, freed, taken, given, refilled, trimmed, marked, judged, judge, reserved, released, reaped, changes_count, change_count, owner_of_run, joins_no_space, take_free, give_free, give_owner, take_owner, extent_of, data_of, do_mapping, new_count, inodes_follow, turn, list_chunk, chunk_extent, make_chunk, is_in_extent, own_new, leave, block_extent, leave_limbo, reap_in, by_count, known_spans, plain_run, free_chunk}
 use Rattle.fs_change.specs.Laws.{KeepsOtherTrees, changed_kinds, with_owners}
-use Rattle.fs_change.specs.Loose.{Loosely, Inside, MovesBlocks, laid_out, in_trees, owners_follow, owners_in, lost_to, give_each, take_each}
-use Rattle.fs_change.specs.Parts.{at_only, in_group, tree_only, change_tree, in_blocks, with_recs, set_blocks, set_trust, set_trusts, edit, is_edited, sick_in, records_in}
+use Rattle.fs_change.specs.Loose.{Inside, MovesBlocks, owners_follow, owners_in, lost_to}
+use Rattle.fs_change.specs.Met.{give_each, take_each}
+use Rattle.fs_change.specs.Parts.{in_group, tree_only, change_tree, in_blocks, in_trees, with_recs, set_trust, set_trusts, edit, is_edited, records_in}
 use Rattle.fs_change.specs.Records.{is_unwritten_at, set_count, span, by_start, take_span, give_span, give_mapping, take_mapping, put_chunk, turn_inode, follow_inode}
-use Rattle.fs_change.specs.Step.{Step, Row, edited_kinds, edited_in, group_of_entry, group_of_inode}
-use Rattle.fs_change.specs.Switch.{switched, moved, move_blocks, derived_in, hold, exact_counters, unit_owner, owned_by, join_limbo, lay_trees, limbo_of, kind_need}
+use Rattle.fs_change.specs.Step.{Row, edits_count, edits_reserve, edits_reaped, edited_kinds, group_of_entry, group_of_inode}
+use Rattle.span_recs.specs.declared.refcount.RefcRec.{RefcRec}
+use Rattle.fs_change.specs.Switch.{switched, moved, move_blocks, derived_in, hold, exact_counters, unit_owner, owned_by, join_limbo}
 
 -- ---- one tree
 
@@ -88,10 +89,6 @@ held : (j : Kind) (recs : (k : Kind) → List (RecOf k)) (ks : List Kind) (p : G
 held j recs [] p h = refl
 held j recs (k ∷ ks) p h = changed k j (λ i. record { reading = Readable (recs k) (blocks_of i.reading); trust = trusts.Good }) (hold recs ks p) (is_first j k ks h) ∙ held j recs ks p (in_rest j k ks h)
 
-laid : (j : Kind) (needs : Kind → ℕ) (ks : List Kind) (bs : List ℕ) (p : Group) → is_among j ks ≡ false → (lay_trees needs ks bs p).tree j ≡ p.tree j
-laid j needs [] bs p h = refl
-laid j needs (k ∷ ks) bs p h = changed k j (λ i. record i { reading = in_blocks (take (needs k) bs) i.reading }) (lay_trees needs ks (drop (needs k) bs) p) (is_first j k ks h) ∙ laid j needs ks (drop (needs k) bs) p (in_rest j k ks h)
-
 -- ---- free space and owners
 
 spaced : (left : List Kind) (j : Kind) (e : Extent) (p : Group) → Not j Bno → Not j Cnt → (take_free left e p).tree j ≡ p.tree j
@@ -117,8 +114,11 @@ followed left p q j h = edited left Rmap j (λ recs. give_each (lost_to (owners_
 pub in_itself : (g : ℕ) (f : Group → Group) (a : State) → (in_group g f a).group g ≡ f (a.group g)
 in_itself g f a = ap (λ b. cond b (f (a.group g)) (a.group g)) (eq-eqb g g refl)
 
+own_here : (g : ℕ) (f : Group → Group) (a : State) (j : Kind) → (f (a.group g)).tree j ≡ (a.group g).tree j → ((in_group g f a).group g).tree j ≡ (a.group g).tree j
+own_here g f a j keeps = ap (λ (p : Group). p.tree j) (in_itself g f a) ∙ keeps
+
 own : (g : ℕ) (f : Group → Group) (a : State) (j : Kind) → ((p : Group) → (f p).tree j ≡ p.tree j) → ((in_group g f a).group g).tree j ≡ (a.group g).tree j
-own g f a j keeps = ap (λ (p : Group). p.tree j) (in_itself g f a) ∙ keeps (a.group g)
+own g f a j keeps = own_here g f a j (keeps (a.group g))
 
 -- ---- rows
 
@@ -153,9 +153,17 @@ by_rmap : (left : List Kind) (c g : ℕ) (i : Intent) (rest : List Intent) (a : 
 unfolding rmap_done
 by_rmap left c g i rest a j at h = subst (λ (k : ℕ). Keeps a (in_group i.group (edit left Rmap (do_mapping i.kind i)) a) k j) at (own i.group (edit left Rmap (do_mapping i.kind i)) a j (λ p. edited left Rmap j (do_mapping i.kind i) p h))
 
-by_ref : (left : List Kind) (c g b n : ℕ) (more : Bool) (i : Intent) (rest : List Intent) (a : State) (j : Kind) → Not j Refc → Keeps a (ref_done left c more (record { group = g; block = b; count = n }) i rest a) g j
+-- a change that is made or not, with the trees that it edits then
+changed_if : (c : Bool) (ks : List Kind) (p q : Group) (j : Kind) → is_among j (with_owners (if c then ks else [])) ≡ false → (is_among j (with_owners ks) ≡ false → q.tree j ≡ p.tree j) → (if c then q else p).tree j ≡ p.tree j
+changed_if true ks p q j h changes = changes h
+changed_if false ks p q j h changes = refl
+
+by_ref : (left : List Kind) (c g b n : ℕ) (more : Bool) (i : Intent) (rest : List Intent) (a : State) (j : Kind) → is_among j (with_owners (edits_count (a.group g) b more)) ≡ false → Keeps a (ref_done left c more (record { group = g; block = b; count = n }) i rest a) g j
 unfolding ref_done
-by_ref left c g b n more i rest a j h = own g (edit left Refc (λ recs. set_count b n (new_count more recs b) recs)) a j (λ p. edited left Refc j (λ recs. set_count b n (new_count more recs b) recs) p h)
+by_ref left c g b n more i rest a j h =
+    let f : List RefcRec → List RefcRec = λ recs. set_count b n (new_count more recs b) recs in
+    own_here g (change_count left more (record { group = g; block = b; count = n })) a j
+    (changed_if (changes_count more (records_in (a.group g) Refc) b) (Refc ∷ Rmap ∷ []) (a.group g) (edit left Refc f (a.group g)) j h (λ k. edited left Refc j f (a.group g) (is_first j Refc (Rmap ∷ []) (in_rest j Rmap (Refc ∷ Rmap ∷ []) k))))
 
 by_freed : (left : List Kind) (c g b n : ℕ) (rest : List Intent) (a : State) (j : Kind) → Not j Bno → Not j Cnt → Keeps a (freed left c false (record { group = g; block = b; count = n }) rest a) g j
 unfolding freed
@@ -174,8 +182,12 @@ by_chunk g (Some b) a j hb hc hr hi hf =
     ∙ given_owner [] (number_of Inodes) (chunk_extent g b) j (take_free [] (chunk_extent g b) p) hr
     ∙ spaced [] j (chunk_extent g b) p hb hc)
 
-turned_tree : (to_free : Bool) (i : ℕ) (j : Kind) (p : Group) → Not j Ino → Not j Fino → (turn to_free i p).tree j ≡ p.tree j
+pub turned_tree : (to_free : Bool) (i : ℕ) (j : Kind) (p : Group) → Not j Ino → Not j Fino → (turn to_free i p).tree j ≡ p.tree j
 turned_tree to_free i j p hi hf = edited [] Fino j (follow_inode i (turn_inode to_free i (records_in p Ino))) (edit [] Ino (turn_inode to_free i) p) hf ∙ edited [] Ino j (turn_inode to_free i) p hi
+
+by_taken_free : (g i ino uid : ℕ) (a : State) (j : Kind) → Not j Ino → Not j Fino → Keeps a (taken g i ino uid None a) g j
+unfolding taken
+by_taken_free g i ino uid a j hi hf = own g (λ q. inodes_follow (a.group g) (turn false i q)) a j (λ p. turned_tree false i j p hi hf)
 
 by_taken : (g i ino uid : ℕ) (chunk : Option ℕ) (a : State) (j : Kind) → Not j Bno → Not j Cnt → Not j Rmap → Not j Ino → Not j Fino → Keeps a (taken g i ino uid chunk a) g j
 unfolding taken
@@ -210,81 +222,91 @@ by_judged : (g : ℕ) (unit : ScrubUnit) (verdict : Verdict) (a : State) (j : Ki
 unfolding judged
 by_judged g unit verdict a j h = own g (judge verdict unit) a j (λ p. judged_tree verdict unit j p h)
 
-left_tree : (left : List Kind) (unit : ScrubUnit) (e : Extent) (spare : Bool) (j : Kind) (p : Group) → Not j Bno → Not j Cnt → (leave left unit e spare p).tree j ≡ p.tree j
-left_tree left unit e false j p hb hc = refl
-left_tree left units.Free e true j p hb hc = refl
-left_tree left units.Inode e true j p hb hc = spaced left j e p hb hc
-left_tree left units.Rmap e true j p hb hc = spaced left j e p hb hc
-left_tree left units.Refc e true j p hb hc = spaced left j e p hb hc
+-- Rmap ∷ Bno ∷ Cnt ∷ Rmap ∷ .. : what none of these is
+no_three : (j : Kind) (ks : List Kind) → is_among j (Rmap ∷ Bno ∷ Cnt ∷ ks) ≡ false → (Not j Bno) × (Not j Cnt) × (Not j Rmap)
+no_three j ks h = let n = no_space j Rmap ks h in (n.0, n.1, is_first j Rmap (Bno ∷ Cnt ∷ ks) h)
 
-owned_tree : (left : List Kind) (unit : ScrubUnit) (e : Extent) (spare : Bool) (j : Kind) (p : Group) → Not j Rmap → (own_new left unit e spare p).tree j ≡ p.tree j
-owned_tree left units.Rmap e spare j p h = refl
-owned_tree left units.Free e false j p h = refl
-owned_tree left units.Free e true j p h = given_owner left (unit_owner units.Free) e j p h
-owned_tree left units.Inode e true j p h = given_owner left (unit_owner units.Inode) e j p h
-owned_tree left units.Refc e true j p h = given_owner left (unit_owner units.Refc) e j p h
-owned_tree left units.Inode e false j p h = given_owner left (unit_owner units.Inode) e j (take_owner left (number_of Ag) e p) h ∙ taken_owner left (number_of Ag) e j p h
-owned_tree left units.Refc e false j p h = given_owner left (unit_owner units.Refc) e j (take_owner left (number_of Ag) e p) h ∙ taken_owner left (number_of Ag) e j p h
+turned_owner : (left : List Kind) (owner : ℕ) (e : Extent) (j : Kind) (p : Group) → Not j Rmap → (give_owner left owner e (take_owner left (number_of Ag) e (record p { free_list = drop 1 p.free_list }))).tree j ≡ p.tree j
+turned_owner left owner e j p h =
+    given_owner left owner e j (take_owner left (number_of Ag) e (record p { free_list = drop 1 p.free_list })) h ∙ taken_owner left (number_of Ag) e j (record p { free_list = drop 1 p.free_list }) h
 
-by_reserved : (left : List Kind) (g b : ℕ) (unit : ScrubUnit) (spare : Bool) (a : State) (j : Kind) → Not j Bno → Not j Cnt → Not j Rmap → Keeps a (reserved left g unit b spare a) g j
+spared_tree : (left : List Kind) (owner : ℕ) (e : Extent) (j : Kind) (p : Group) → is_among j (Rmap ∷ Bno ∷ Cnt ∷ Rmap ∷ []) ≡ false → (give_owner left owner e (take_free left e p)).tree j ≡ p.tree j
+spared_tree left owner e j p h = let n = no_three j (Rmap ∷ []) h in given_owner left owner e j (take_free left e p) n.2 ∙ spaced left j e p n.0 n.1
+
+-- a block leaves list or free space, and gets its owner
+own_tree : (left : List Kind) (unit : ScrubUnit) (e : Extent) (spare : Bool) (j : Kind) (p : Group) → is_among j (with_owners (edits_reserve unit spare)) ≡ false → (own_new left unit e spare (leave left unit e spare p)).tree j ≡ p.tree j
+own_tree left units.Inode e false j p h = turned_owner left (unit_owner units.Inode) e j p (is_first j Rmap (Rmap ∷ []) h)
+own_tree left units.Refc e false j p h = turned_owner left (unit_owner units.Refc) e j p (is_first j Rmap (Rmap ∷ []) h)
+own_tree left units.Rmap e false j p h = refl
+own_tree left units.Free e false j p h = refl
+own_tree left units.Free e true j p h = given_owner left (unit_owner units.Free) e j p (is_first j Rmap (Rmap ∷ []) h)
+own_tree left units.Rmap e true j p h = let n = no_space j Rmap [] h in spaced left j e p n.0 n.1
+own_tree left units.Inode e true j p h = spared_tree left (unit_owner units.Inode) e j p h
+own_tree left units.Refc e true j p h = spared_tree left (unit_owner units.Refc) e j p h
+
+by_reserved : (left : List Kind) (g b : ℕ) (unit : ScrubUnit) (spare : Bool) (a : State) (j : Kind) → is_among j (with_owners (edits_reserve unit spare)) ≡ false → Keeps a (reserved left g unit b spare a) g j
 unfolding reserved
-by_reserved left g b unit spare a j hb hc hr =
+by_reserved left g b unit spare a j h =
     own g (λ p. own_new left unit (block_extent g b) spare (leave left unit (block_extent g b) spare (record p { reserve = p.reserve ++ owned_by (unit_owner unit) b ∷ [] }))) a j (λ p.
-    owned_tree left unit (block_extent g b) spare j (leave left unit (block_extent g b) spare (record p { reserve = p.reserve ++ owned_by (unit_owner unit) b ∷ [] })) hr
-    ∙ left_tree left unit (block_extent g b) spare j (record p { reserve = p.reserve ++ owned_by (unit_owner unit) b ∷ [] }) hb hc)
+    own_tree left unit (block_extent g b) spare j (record p { reserve = p.reserve ++ owned_by (unit_owner unit) b ∷ [] }) h)
 
 by_released : (g : ℕ) (a : State) (j : Kind) → Keeps a (released g a) g j
 unfolding released
 by_released g a j = own g (λ p. record p { reserve = []; limbo = join_limbo p.reserve p.limbo }) a j (λ p. refl)
 
-by_switched : (g : ℕ) (unit : ScrubUnit) (a : State) (j : Kind) → is_among j (kinds_of unit) ≡ false → Keeps a (switched a g unit) g j
+by_switched : (g : ℕ) (unit : ScrubUnit) (blocks : Kind → List ℕ) (a : State) (j : Kind) → is_among j (kinds_of unit) ≡ false → Keeps a (switched a g unit blocks) g j
 unfolding switched moved
-by_switched g unit a j h =
-    let m : State = moved a g unit in
+by_switched g unit blocks a j h =
+    let m : State = moved a g unit blocks in
     let d : State = derived_in m g unit in
     own g (λ p. record p { counters = exact_counters d g unit }) d j (λ p. refl)
     ∙ own g (hold (derive m g) (kinds_of unit)) m j (λ p. held j (derive m g) (kinds_of unit) p h)
-    ∙ own g (move_blocks a g unit) a j (λ p. laid j (kind_need a g unit) (kinds_of unit) (blocks_in (a.group g).reserve) p h)
+    ∙ own g (move_blocks a g unit blocks) a j (λ p. in_place j blocks (kinds_of unit) p h)
 
-by_reaped : (left : List Kind) (owner : ℕ) (e : Extent) (a : State) (j : Kind) → Not j Bno → Not j Cnt → Not j Rmap → Keeps a (reaped left owner e a) e.group j
+-- a reaped run that joins free space, or doesn't
+reaped_if : (c : Bool) (left : List Kind) (owner : ℕ) (e : Extent) (p : Group) (j : Kind) → is_among j (with_owners (if c then Rmap ∷ [] else Bno ∷ Cnt ∷ Rmap ∷ [])) ≡ false
+    → (if c then take_owner left owner e (leave_limbo owner e p) else give_free left e (take_owner left owner e (leave_limbo owner e p))).tree j ≡ p.tree j
+reaped_if true left owner e p j h = taken_owner left owner e j (leave_limbo owner e p) (is_first j Rmap (Rmap ∷ []) h)
+reaped_if false left owner e p j h =
+    let n = no_three j (Rmap ∷ []) h in given_space left j e (take_owner left owner e (leave_limbo owner e p)) n.0 n.1 ∙ taken_owner left owner e j (leave_limbo owner e p) n.2
+
+by_reaped : (left : List Kind) (e : Extent) (a : State) (j : Kind) → is_among j (with_owners (edits_reaped (a.group e.group) e)) ≡ false → Keeps a (reaped left (owner_of_run (a.group e.group) e) e a) e.group j
 unfolding reaped
-by_reaped left owner e a j hb hc hr = own e.group (reap_in left owner e) a j (λ p.
-    by_cond j (sick_in p Bno || sick_in p Cnt || is_anothers owner e (records_in p Rmap)) (take_owner left owner e (leave_limbo owner e p)) (give_free left e (take_owner left owner e (leave_limbo owner e p))) p
-    (taken_owner left owner e j (leave_limbo owner e p) hr)
-    (given_space left j e (take_owner left owner e (leave_limbo owner e p)) hb hc ∙ taken_owner left owner e j (leave_limbo owner e p) hr))
+by_reaped left e a j h =
+    let owner : ℕ = owner_of_run (a.group e.group) e in
+    own_here e.group (reap_in left owner e) a j (reaped_if (joins_no_space owner e (a.group e.group)) left owner e (a.group e.group) j h)
 
 as_is : (a x y : State) (g : ℕ) (j : Kind) → x ≡ y → Keeps a y g j → Keeps a x g j
 as_is a x y g j same k = subst (λ (s : State). Keeps a s g j) (sym same) k
 
--- Rmap ∷ Bno ∷ Cnt ∷ Rmap ∷ .. : what none of these is
-no_three : (j : Kind) (ks : List Kind) → is_among j (Rmap ∷ Bno ∷ Cnt ∷ ks) ≡ false → (Not j Bno) × (Not j Cnt) × (Not j Rmap)
-no_three j ks h = let n = no_space j Rmap ks h in (n.0, n.1, is_first j Rmap (Bno ∷ Cnt ∷ ks) h)
-
-decided : (a x : State) (left : List Kind) (e : Entry) → Row a left e x → (j : Kind) → is_among j (changed_kinds e) ≡ false → Keeps a x (group_of_entry a e) j
+decided : (a x : State) (left : List Kind) (e : Entry) → Row a left e x → (j : Kind) → is_among j (changed_kinds a e) ≡ false → Keeps a x (group_of_entry a e) j
 decided a x left (entries.Mapped m) r j h = as_is a x _ _ j r.1 (by_mapped m a j h)
 decided a x left (entries.Unmapped m) r j h = as_is a x _ _ j r.1 (by_unmapped m a j)
 decided a x left (entries.Converted m) r j h = as_is a x _ _ j r.1 (by_converted m a j)
 decided a x left (entries.Shared m) r j h = as_is a x (shared m a) m.group j r.1 (by_shared_tree m a j)
 decided a x left (entries.RmapDone c ino g b n) r j h = as_is a x _ _ j r.6 (by_rmap left c g r.0 r.1 a j r.2.group (is_first j Rmap (Rmap ∷ []) h))
-decided a x left (entries.RefDone c g b n more) r j h = as_is a x _ _ j r.5 (by_ref left c g b n more r.0 r.1 a j (is_first j Refc (Rmap ∷ []) (in_rest j Rmap (Refc ∷ Rmap ∷ []) h)))
+decided a x left (entries.RefDone c g b n more) r j h = as_is a x _ _ j r.5 (by_ref left c g b n more r.0 r.1 a j h)
 decided a x left (entries.Freed c g b n true) r j h = as_is a x _ _ j r.6 (by_kept left c g b n r.1 a j)
 decided a x left (entries.Freed c g b n false) r j h = let s = no_space j Rmap [] h in as_is a x _ _ j r.6 (by_freed left c g b n r.1 a j s.0 s.1)
-decided a x left (entries.Taken writer ino uid chunk) r j h =
+decided a x left (entries.Taken writer ino uid None) r j h =
+    let k = in_rest j Rmap (Ino ∷ Fino ∷ []) (in_rest j Rmap (Rmap ∷ Ino ∷ Fino ∷ []) h) in
+    as_is a x _ _ j r.3 (by_taken_free (group_of_inode a ino) r.0 ino uid a j (is_first j Ino (Fino ∷ []) k) (is_first j Fino [] (in_rest j Ino (Fino ∷ []) k)))
+decided a x left (entries.Taken writer ino uid (Some b)) r j h =
     let s = no_three j (Rmap ∷ Ino ∷ Fino ∷ []) h in
     let k = in_rest j Rmap (Ino ∷ Fino ∷ []) (in_rest j Cnt (Rmap ∷ Ino ∷ Fino ∷ []) (in_rest j Bno (Cnt ∷ Rmap ∷ Ino ∷ Fino ∷ []) (in_rest j Rmap (Bno ∷ Cnt ∷ Rmap ∷ Ino ∷ Fino ∷ []) h))) in
-    as_is a x _ _ j r.3 (by_taken (group_of_inode a ino) r.0 ino uid chunk a j s.0 s.1 s.2 (is_first j Ino (Fino ∷ []) k) (is_first j Fino [] (in_rest j Ino (Fino ∷ []) k)))
+    as_is a x _ _ j r.3 (by_taken (group_of_inode a ino) r.0 ino uid (Some b) a j s.0 s.1 s.2 (is_first j Ino (Fino ∷ []) k) (is_first j Fino [] (in_rest j Ino (Fino ∷ []) k)))
 decided a x left (entries.Given writer ino) r j h =
     let k = in_rest j Rmap (Ino ∷ Fino ∷ []) (in_rest j Rmap (Rmap ∷ Ino ∷ Fino ∷ []) h) in
     as_is a x _ _ j r.4 (by_given (group_of_inode a ino) r.0 ino a j (is_first j Ino (Fino ∷ []) k) (is_first j Fino [] (in_rest j Ino (Fino ∷ []) k)))
 decided a x left (entries.Refilled e) r j h = let s = no_three j (Rmap ∷ []) h in as_is a x _ _ j r.1 (by_refilled e a j s.0 s.1 s.2)
 decided a x left (entries.Trimmed e) r j h = let s = no_three j (Rmap ∷ []) h in as_is a x _ _ j r.1 (by_trimmed e a j s.0 s.1 s.2)
 decided a x left (entries.Marked g k cause) r j h = as_is a x _ _ j r.1 (by_marked g k a j (is_first j k [] h))
-decided a x left (entries.Reserved g unit b spare) r j h = let s = no_three j (Rmap ∷ []) h in as_is a x _ _ j r.1 (by_reserved left g b unit spare a j s.0 s.1 s.2)
-decided a x left (entries.Released g unit) r j h = as_is a x _ _ j r (by_released g a j)
+decided a x left (entries.Reserved g unit b spare) r j h = as_is a x _ _ j r.1 (by_reserved left g b unit spare a j h)
+decided a x left (entries.Released g unit) r j h = as_is a x _ _ j r.1 (by_released g a j)
 decided a x left (entries.Fault g unit fault) r j h = as_is a x _ _ j r.1 (by_marked g (kind_of_fault fault) a j (is_first j (kind_of_fault fault) [] h))
 decided a x left (entries.Verdict g unit verdict) r j h = as_is a x _ _ j r (by_judged g unit verdict a j h)
-decided a x left (entries.Switched g unit root second) r j h = as_is a x _ _ j r.2 (by_switched g unit a j h)
-decided a x left (entries.Reaped e) r j h = let s = no_three j (Rmap ∷ []) h in as_is a x _ _ j r.2 (by_reaped left r.0 e a j s.0 s.1 s.2)
+decided a x left (entries.Switched g unit root second) r j h = as_is a x _ _ j r.4 (by_switched g unit r.0 a j h)
+decided a x left (entries.Reaped e) r j h = as_is a x _ _ j r.1 (by_reaped left e a j h)
 decided a x left (entries.Reply writer line code done refused begun) r j h = as_is a x _ _ j r refl
 
 -- ---- what is left open
@@ -311,17 +333,19 @@ open_tree : (left : List Kind) (test : Kind → Bool) (ks : List Kind) (p q : Gr
 open_tree left test [] p q j i h = ap (λ (s : Group). s.tree j) i
 open_tree left test (k ∷ ks) p q j i h = inside_tree left (filter test (k ∷ ks)) p q j i (filtered j test (k ∷ ks) (in_rest j Rmap (k ∷ ks) h)) (is_first j Rmap (k ∷ ks) h)
 
-edits_only : (e : Entry) (j : Kind) → is_among j (changed_kinds e) ≡ false → is_among j (with_owners (edited_kinds e)) ≡ false
-edits_only (entries.Marked g k cause) j h = refl
-edits_only (entries.Fault g unit fault) j h = refl
-edits_only (entries.Verdict g unit verdict) j h = refl
-edits_only (entries.Switched g unit root second) j h = refl
-edits_only (entries.Freed c g b n true) j h = refl
-edits_only (entries.Freed c g b n false) j h = h
-edits_only e j h = h
+edits_only : (a : State) (e : Entry) (j : Kind) → is_among j (changed_kinds a e) ≡ false → is_among j (with_owners (edited_kinds a e)) ≡ false
+edits_only a (entries.Marked g k cause) j h = refl
+edits_only a (entries.Fault g unit fault) j h = refl
+edits_only a (entries.Verdict g unit verdict) j h = refl
+edits_only a (entries.Switched g unit root second) j h = refl
+edits_only a (entries.Freed c g b n true) j h = refl
+edits_only a (entries.Freed c g b n false) j h = h
+edits_only a (entries.Taken writer ino uid None) j h = h
+edits_only a (entries.Taken writer ino uid (Some b)) j h = h
+edits_only a e j h = h
 
 pub keeps_other_trees : KeepsOtherTrees
 keeps_other_trees a b left e s j h =
     let g : ℕ = group_of_entry a e in
-    open_tree left (is_edited left (a.group g)) (edited_kinds e) (s.decided.group g) (b.group g) j s.loosely.inside (edits_only e j h)
+    open_tree left (is_edited left (a.group g)) (edited_kinds a e) (s.decided.group g) (b.group g) j s.loosely.inside (edits_only a e j h)
     ∙ decided a s.decided left e s.row j h

@@ -1,6 +1,6 @@
 -- What chains still owe, and the owners of blocks as they stand once all of it is done or undone (Online Fsck Design,
 -- "Eventual Consistency").
-use Rattle.std.specs.Prelude.{ℕ, ◌+◌, ◌==◌, ◌≡◌, Bool, true, false, not, List, [], ◌∷◌, ◌++◌, map, filter, flat_map, if◌then◌else◌}
+use Rattle.std.specs.Prelude.{ℕ, ◌+◌, ◌==◌, ◌≡◌, Bool, true, false, not, List, [], ◌++◌, map, filter, flat_map, if◌then◌else◌}
 use Rattle.std.specs.List.{list_any}
 use Rattle.rmap_recs.specs.Runs.{tuple_at, has}
 use Rattle.rmap_recs.specs.declared.records.RmapRec.{RmapRec}

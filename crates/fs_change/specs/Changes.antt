@@ -1,7 +1,6 @@
 -- The state after an entry of the journal: all that the entry decides, a definition for each. `left` has the trees that
 -- the event left as they were, since an edit met a fault.
-use Rattle.std.specs.Prelude.{ℕ, ◌+◌, ◌-◌, ◌*◌, ◌/◌, ◌%◌, ◌^◌, ◌==◌, ◌&&◌, ◌||◌, nat_le, nat_lt, Bool, true, false, not, List, [], ◌∷◌, ◌++◌, map, filter, drop, reverse, sum_by, Option, Some, None, Result, Ok, Err, if◌then◌else◌}
-use Rattle.std.specs.List.{list_any}
+use Rattle.std.specs.Prelude.{ℕ, ◌+◌, ◌-◌, ◌*◌, ◌%◌, ◌^◌, ◌==◌, ◌&&◌, ◌||◌, nat_le, nat_lt, Bool, true, false, not, List, [], ◌∷◌, ◌++◌, filter, find, drop, sum_by, Option, Some, None, is_some, Ok, if◌then◌else◌}
 use Rattle.std.specs.Option.{option_map_or}
 use Rattle.derive_defs.specs.ByCount.{put_in}
 use Rattle.dinode_core.specs.declared.mapping.Fork.TheVariants as forks
@@ -10,13 +9,13 @@ use Rattle.fs_model.specs.declared.entry.Extent.{Extent}
 use Rattle.fs_model.specs.declared.entry.Piece.{Piece}
 use Rattle.fs_model.specs.declared.entry.SharedPiece.{SharedPiece}
 use Rattle.fs_model.specs.declared.fault.Counter.{Counter}
-use Rattle.fs_model.specs.declared.fault.Counter.TheVariants.{Count, Freecount, Iblocks, Fblocks, RmapBlocks, Freeblks, Longest, Btreeblks, RefcountBlocks}
+use Rattle.fs_model.specs.declared.fault.Counter.TheVariants.{Count, Freecount, Freeblks, Longest}
 use Rattle.fs_model.specs.declared.unit.Trust.TheVariants as trusts
 use Rattle.fs_model.specs.declared.unit.Unit.{Unit as ScrubUnit}
 use Rattle.fs_model.specs.declared.unit.Unit.TheVariants as units
 use Rattle.fs_model.specs.declared.verdict.Verdict.{Verdict}
 use Rattle.fs_model.specs.declared.verdict.Verdict.TheVariants as verdicts
-use Rattle.geom.specs.Layout.{fs_block_of, split_of}
+use Rattle.geom.specs.Layout.{fs_block_of}
 use Rattle.ino_recs.specs.declared.chunk.InoRec.{InoRec}
 use Rattle.rmap_recs.specs.Owners.{number_of}
 use Rattle.rmap_recs.specs.declared.owner.Owner.TheVariants.{Ag, Inodes}
@@ -25,18 +24,18 @@ use Rattle.span_recs.specs.declared.span.SpanRec.{SpanRec}
 use Rattle.span_recs.specs.declared.refcount.RefcRec.{RefcRec}
 use Rattle.sblock.specs.declared.kind.Kind.{Kind}
 use Rattle.sblock.specs.declared.kind.Kind.TheVariants.{Bno, Cnt, Rmap, Refc, Ino, Fino}
-use Rattle.fs_state.specs.State.{State, Group, Owned, Inode, CoreState, Broken, Whole, ForkList}
+use Rattle.fs_state.specs.State.{State, Group, Owned, CoreState, Broken, Whole, ForkList}
 use Rattle.fs_state.specs.declared.intent.Intent.{Intent}
 use Rattle.fs_state.specs.declared.intent.IntentKind.{IntentKind}
 use Rattle.fs_state.specs.declared.intent.IntentKind.TheVariants.{RmapAdd, RmapRemove, RmapChange, RefMore, RefLess, Free}
-use Rattle.fs_derive.specs.Claims.{unwritten, fork_of, no_fork, word_of}
+use Rattle.fs_derive.specs.Claims.{unwritten, fork_of}
 use Rattle.fs_derive.specs.Kinds.{kinds_of}
 use Rattle.fs_derive.specs.Lists.{numbers, only_if}
 use Rattle.fs_change.specs.Chains.{run_of, word_taken}
 use Rattle.fs_change.specs.Choice.{is_guarded}
 use Rattle.fs_change.specs.Parts.{in_group, set_chain, set_core, set_data, set_cores, set_trust, set_trusts, edit, is_edited, sick_in, records_in}
-use Rattle.fs_change.specs.Records.{span, by_start, take_span, give_span, give_mapping, take_mapping, count_at, set_count, turn_inode, put_chunk, follow_inode, add_mapping, take_piece, is_unwritten_at}
-use Rattle.fs_change.specs.Switch.{unit_owner, owned_by, is_same_owned, has_owned, join_limbo}
+use Rattle.fs_change.specs.Records.{span, by_start, take_span, give_span, give_mapping, take_mapping, counter_of, count_at, set_count, turn_inode, put_chunk, follow_inode, add_mapping, take_piece, is_unwritten_at}
+use Rattle.fs_change.specs.Switch.{unit_owner, owned_by, join_limbo}
 
 -- ---- free space and its counters
 
@@ -178,11 +177,19 @@ abbrev pub new_count : Bool → List RefcRec → ℕ → ℕ
 new_count true recs b = count_at recs b + 1
 new_count false recs b = count_at recs b - 1
 
+-- a stretch that has no record, and whose count falls, changes none
+abbrev pub changes_count : Bool → List RefcRec → ℕ → Bool
+changes_count more recs b = more || is_some (counter_of recs b)
+
+abbrev pub change_count : List Kind → Bool → Extent → Group → Group
+change_count left more e p =
+    if changes_count more (records_in p Refc) e.block then edit left Refc (λ recs. set_count e.block e.count (new_count more recs e.block) recs) p else p
+
 -- And one of reference counts? A stretch leaves the intent, and its count rises or falls by one.
 unfoldable pub ref_done : List Kind → ℕ → Bool → Extent → Intent → List Intent → State → State
 ref_done left c more e i rest a =
     set_chain c (to_free more (a.group e.group) e ++ behind e.count i ++ rest)
-    (in_group e.group (edit left Refc (λ recs. set_count e.block e.count (new_count more recs e.block) recs)) a)
+    (in_group e.group (change_count left more e) a)
 
 -- And one that frees a run? It joins free space, unless its owner is there or can't be asked for.
 unfoldable pub freed : List Kind → ℕ → Bool → Extent → List Intent → State → State
@@ -312,9 +319,16 @@ is_of_run owner e o = (o.owner == owner) && is_in_extent e o.block
 abbrev pub leave_limbo : ℕ → Extent → Group → Group
 leave_limbo owner e p = record p { limbo = filter (λ o. not (is_of_run owner e o)) p.limbo }
 
+-- the owner with which its first block is in limbo; of several the lowest
+abbrev pub owner_of_run : Group → Extent → ℕ
+owner_of_run p e = option_map_or (λ o. o.owner) (find (λ o. o.block == e.block) p.limbo) 0
+
+abbrev pub joins_no_space : ℕ → Extent → Group → Bool
+joins_no_space owner e p = sick_in p Bno || sick_in p Cnt || is_anothers owner e (records_in p Rmap)
+
 abbrev pub reap_in : List Kind → ℕ → Extent → Group → Group
 reap_in left owner e p =
-    if sick_in p Bno || sick_in p Cnt || is_anothers owner e (records_in p Rmap) then take_owner left owner e (leave_limbo owner e p)
+    if joins_no_space owner e p then take_owner left owner e (leave_limbo owner e p)
     else give_free left e (take_owner left owner e (leave_limbo owner e p))
 
 -- And reaping a run? It leaves limbo, its owner loses it, and it joins free space, unless an index of that is sick or

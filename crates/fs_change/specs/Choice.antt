@@ -1,6 +1,6 @@
 -- Which run, block or inode an event takes ("AG Free Space B+trees", "Inode B+trees"; Online Fsck Design, "Reserving New B+Tree
 -- Blocks").
-use Rattle.std.specs.Prelude.{ℕ, ◌+◌, ◌-◌, ◌*◌, ◌/◌, ◌%◌, ◌^◌, ◌==◌, ◌&&◌, ◌||◌, nat_le, nat_lt, min, Bool, true, false, not, List, [], ◌∷◌, ◌++◌, filter, find, reverse, Option, Some, None, option_map, if◌then◌else◌}
+use Rattle.std.specs.Prelude.{ℕ, ◌+◌, ◌-◌, ◌*◌, ◌/◌, ◌%◌, ◌^◌, ◌==◌, ◌&&◌, nat_le, nat_lt, min, Bool, true, not, List, [], ◌∷◌, ◌++◌, filter, find, reverse, Option, Some, None, option_map}
 use Rattle.std.specs.List.{list_any}
 use Rattle.std.specs.Option.{option_or}
 use Rattle.fs_model.specs.declared.entry.Extent.{Extent}
@@ -11,7 +11,7 @@ use Rattle.ino_recs.specs.declared.chunk.InoRec.{InoRec}
 use Rattle.rmap_recs.specs.declared.records.RmapRec.{RmapRec}
 use Rattle.span_recs.specs.declared.span.SpanRec.{SpanRec}
 use Rattle.sblock.specs.declared.kind.Kind.{Kind}
-use Rattle.sblock.specs.declared.kind.Kind.TheVariants.{Bno, Cnt, Rmap, Ino, Fino}
+use Rattle.sblock.specs.declared.kind.Kind.TheVariants.{Bno, Cnt, Rmap, Refc, Ino, Fino}
 use Rattle.fs_state.specs.Apart.{is_free}
 use Rattle.fs_state.specs.State.{State, Group, is_readable}
 use Rattle.fs_derive.specs.Claims.{Claimed, claims, metadata_claims}
@@ -38,6 +38,10 @@ is_usable a gates ks g = gates g && none_sick ks (a.group g)
 
 abbrev pub space_kinds : List Kind
 space_kinds = Bno ∷ Cnt ∷ Rmap ∷ []
+
+-- those that are asked before a piece of a file is taken away, shared or made written
+abbrev pub piece_kinds : List Kind
+piece_kinds = Rmap ∷ Refc ∷ Bno ∷ Cnt ∷ []
 
 abbrev pub group_or_first : Option (ℕ × ℕ) → ℕ
 group_or_first None = 0

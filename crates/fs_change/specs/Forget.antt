@@ -1,5 +1,5 @@
 -- What a new session keeps of the last state: what an image says by itself; and what a crash leaves.
-use Rattle.std.specs.Prelude.{◌≡◌, ◌⊎◌, ℕ, ◌/◌, Bool, true, false, List, [], Option, Some, None, Result, Ok, Err}
+use Rattle.std.specs.Prelude.{◌≡◌, ◌⊎◌, ℕ, ◌/◌, Bool, true, false, [], Option, Some, None, Ok}
 use Rattle.dinode_core.specs.declared.mapping.Fork.{Fork}
 use Rattle.fs_model.specs.declared.unit.Trust.TheVariants.{Unknown, Sick}
 use Rattle.fs_model.specs.declared.unit.Trust.{Trust}

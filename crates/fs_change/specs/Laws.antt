@@ -1,34 +1,37 @@
 -- What follows from the definitions alone.
-use Rattle.std.specs.Prelude.{◌≡◌, ℕ, ◌+◌, ◌<◌, ◌^◌, ◌==◌, ◌&&◌, ◌||◌, not, false, true, Bool, List, [], ◌∷◌, ◌++◌, filter, flat_map, map, Option, Some, None}
-use Rattle.std.specs.List.{list_all}
+use Rattle.std.specs.Prelude.{◌≡◌, ℕ, ◌+◌, ◌*◌, ◌<◌, ◌^◌, ◌==◌, ◌&&◌, ◌||◌, nat_le, nat_lt, not, false, true, Bool, List, [], ◌∷◌, ◌++◌, filter, flat_map, map, Option, Some, None}
+use Rattle.std.specs.List.{list_any, list_all}
 use Rattle.dinode_core.specs.declared.mapping.Fork.{Fork}
 use Rattle.fs_model.specs.declared.entry.Entry.{Entry}
 use Rattle.fs_model.specs.declared.entry.Entry.TheVariants as entries
 use Rattle.fs_model.specs.declared.fault.Counter.{Counter}
 use Rattle.fs_model.specs.declared.unit.Unit.{Unit as ScrubUnit}
 use Rattle.fs_model.specs.declared.unit.Unit.TheVariants as units
-use Rattle.rmap_recs.specs.Runs.{has}
+use Rattle.rmap_recs.specs.Owners.{number_of}
+use Rattle.rmap_recs.specs.declared.owner.Owner.TheVariants.{Inodes}
+use Rattle.rmap_recs.specs.Runs.{has, AreTuples, HaveNext}
 use Rattle.rmap_recs.specs.declared.tuples.Tuple.{Tuple}
 use Rattle.sblock.specs.declared.kind.Kind.{Kind}
 use Rattle.sblock.specs.declared.kind.Kind.TheVariants.{Rmap}
-use Rattle.fs_state.specs.Apart.{is_inode}
+use Rattle.fs_state.specs.Apart.{is_inode, is_chunk}
 use Rattle.fs_state.specs.Frame.{SameFork}
 use Rattle.fs_state.specs.Group.{is_among}
-use Rattle.fs_state.specs.State.{State, Group}
+use Rattle.fs_state.specs.State.{State, Group, blocks_in}
 use Rattle.fs_state.specs.declared.intent.Intent.{Intent}
 use Rattle.fs_derive.specs.Claims.{fork_claims}
 use Rattle.fs_derive.specs.Derive.{derive}
 use Rattle.fs_derive.specs.Faults.{kind_of_fault}
 use Rattle.fs_derive.specs.Kinds.{kinds_of}
 use Rattle.fs_derive.specs.Laws.{EachTree}
-use Rattle.fs_derive.specs.Own.{tuple_of, set_of}
+use Rattle.fs_derive.specs.Chunks.{chunks}
+use Rattle.fs_derive.specs.Own.{tuple_of, set_of, own}
 use Rattle.fs_change.specs.Chains.{most_chains, owed_gifts, owed_takings, given_by, taken_by, settled_by, settled_forks}
 use Rattle.fs_change.specs.Forget.{Forget, forgotten}
 use Rattle.fs_change.specs.Parts.{at_only, stands_in, records_in}
 use Rattle.fs_change.specs.Run.{Leads, RunAll}
-use Rattle.fs_change.specs.Scan.{visited, held_tuples, shadow_of}
-use Rattle.fs_change.specs.Step.{Step, Row, may_leave, edited_kinds, group_of_entry, group_of_inode}
-use Rattle.fs_change.specs.Switch.{switched}
+use Rattle.fs_change.specs.Scan.{visited, held_tuples, next_claims, shadow_of}
+use Rattle.fs_change.specs.Step.{Step, Row, may_leave, leaves_faults, edited_kinds, group_of_entry, group_of_inode}
+use Rattle.fs_change.specs.Switch.{is_reserve_of, AreLaid, kind_need, prepared, moved, switched}
 
 -- ---- what an entry decides is allowed: all blocks may stay where they are
 
@@ -37,7 +40,7 @@ abbrev pub AreWords : Group → Type 0
 AreWords p = (name : Counter) → p.counters name < 2 ^ 32
 
 abbrev pub DecidedStands : Type 0
-DecidedStands = (a x : State) (left : List Kind) (e : Entry) → Row a left e x → list_all (λ k. is_among k (may_leave e)) left ≡ true → AreWords (x.group (group_of_entry a e)) → Step a left e x
+DecidedStands = (a x : State) (left : List Kind) (e : Entry) → Row a left e x → list_all (λ k. is_among k (may_leave a e)) left ≡ true → leaves_faults a left e ≡ true → AreWords (x.group (group_of_entry a e)) → Step a left e x
 
 -- ---- journals one after the other
 
@@ -85,16 +88,16 @@ abbrev pub with_owners : List Kind → List Kind
 with_owners [] = []
 with_owners (k ∷ ks) = Rmap ∷ k ∷ ks
 
-abbrev pub changed_kinds : Entry → List Kind
-changed_kinds (entries.Marked g k cause) = k ∷ []
-changed_kinds (entries.Fault g unit fault) = kind_of_fault fault ∷ []
-changed_kinds (entries.Verdict g unit verdict) = kinds_of unit
-changed_kinds (entries.Switched g unit root second) = kinds_of unit
-changed_kinds e = with_owners (edited_kinds e)
+abbrev pub changed_kinds : State → Entry → List Kind
+changed_kinds a (entries.Marked g k cause) = k ∷ []
+changed_kinds a (entries.Fault g unit fault) = kind_of_fault fault ∷ []
+changed_kinds a (entries.Verdict g unit verdict) = kinds_of unit
+changed_kinds a (entries.Switched g unit root second) = kinds_of unit
+changed_kinds a e = with_owners (edited_kinds a e)
 
 -- all other trees are as they were, blocks, records and trust
 abbrev pub KeepsOtherTrees : Type 0
-KeepsOtherTrees = (a b : State) (left : List Kind) (e : Entry) → Step a left e b → (k : Kind) → is_among k (changed_kinds e) ≡ false
+KeepsOtherTrees = (a b : State) (left : List Kind) (e : Entry) → Step a left e b → (k : Kind) → is_among k (changed_kinds a e) ≡ false
     → (b.group (group_of_entry a e)).tree k ≡ (a.group (group_of_entry a e)).tree k
 
 -- the inodes whose core or fork an entry changes: its own, those of a new chunk, and what a reserved block held
@@ -114,15 +117,40 @@ abbrev pub KeepsOtherInodes : Type 0
 KeepsOtherInodes = (a b : State) (left : List Kind) (e : Entry) → Step a left e b → (ino : ℕ) → changes_inode a e ino ≡ false → is_inode b ino ≡ true
     → (b.core ino ≡ a.core ino) × ((f : Fork) → SameFork (a.fork ino f) (b.fork ino f))
 
+-- taking a free inode of a chunk makes no chunk and ends none
+abbrev pub TakenKeepsChunks : Type 0
+TakenKeepsChunks = (a x : State) (left : List Kind) (writer ino uid : ℕ) → Row a left (entries.Taken writer ino uid None) x → (h u : ℕ) → is_chunk x h u ≡ is_chunk a h u
+
 -- ---- a switch
 
 -- the unit's trees hold what is derived from the state that the switch reaches
-abbrev pub DerivedAgain : State → ℕ → ScrubUnit → Type 0
-DerivedAgain a g unit = EachTree (λ k. records_in ((switched a g unit).group g) k ≡ derive (switched a g unit) g k) (kinds_of unit)
+abbrev pub DerivedAgain : State → ℕ → ScrubUnit → (Kind → List ℕ) → Type 0
+DerivedAgain a g unit blocks = EachTree (λ k. records_in ((switched a g unit blocks).group g) k ≡ derive (switched a g unit blocks) g k) (kinds_of unit)
 
 -- so do those of free space and of reference counts, whatever these were before
 abbrev pub SpaceDerivedAgain : Type 0
-SpaceDerivedAgain = (a : State) (g : ℕ) → DerivedAgain a g units.Free × DerivedAgain a g units.Refc
+SpaceDerivedAgain = (a : State) (g : ℕ) (blocks : Kind → List ℕ) → DerivedAgain a g units.Free blocks × DerivedAgain a g units.Refc blocks
+
+-- so do those of inodes: what is put in lists the chunks that there were
+abbrev pub InodesDerivedAgain : Type 0
+InodesDerivedAgain = (a : State) (g : ℕ) (blocks : Kind → List ℕ) → DerivedAgain a g units.Inode blocks
+
+-- who has a block as inodes has it in a chunk
+abbrev pub OnlyChunks : State → ℕ → Type 0
+OnlyChunks a g = (t : Tuple) → has (own a g) t ≡ true → t.owner ≡ number_of Inodes → list_any (λ u. nat_le (8 * u) t.block && nat_lt t.block (8 * u + 8)) (chunks a g) ≡ true
+
+-- so do reverse mappings, though chunks are read off them too: from the old records those are that list them, and the new
+-- ones give the same units to inodes. No two owners of a block differ in the unwritten flag alone, and blocks are words.
+abbrev pub MappingsDerivedAgain : Type 0
+MappingsDerivedAgain = (a : State) (g : ℕ) (blocks : Kind → List ℕ) → AreTuples (own (moved a g units.Rmap blocks) g) → HaveNext (own (moved a g units.Rmap blocks) g)
+    → OnlyChunks (moved a g units.Rmap blocks) g → DerivedAgain a g units.Rmap blocks
+
+-- A block of a unit's reserve counts alike as reserve, as a new tree's and as limbo: the state by which the need is counted
+-- has the derivations of the one that the switch reaches. So list and need don't go round in circles.
+abbrev pub ReserveCountsAlike : Type 0
+ReserveCountsAlike = (a : State) (g : ℕ) (unit : ScrubUnit) (blocks : Kind → List ℕ) → is_reserve_of unit (a.group g) ≡ true
+    → AreLaid (kind_need a g unit) (kinds_of unit) (blocks_in (a.group g).reserve) blocks
+    → EachTree (λ k. derive (moved a g unit blocks) g k ≡ derive (prepared a g unit) g k) (kinds_of unit)
 
 -- ---- sets of owners
 
@@ -213,6 +241,10 @@ CursorPasses = (a : State) (g c d : ℕ) → ((t : Tuple) → has (settled_forks
 -- an inode of which nothing was given yet adds nothing
 abbrev pub HoldBegins : Type 0
 HoldBegins = (a : State) (g c ino : ℕ) → shadow_of a g c (Some ino) 0 ≡ shadow_of a g c None 0
+
+-- a piece of n mappings more adds exactly their owners, and those of the btree's blocks among them
+abbrev pub PieceGives : Type 0
+PieceGives = (a : State) (g c ino k n : ℕ) → shadow_of a g c (Some ino) (k + n) ≡ set_of (shadow_of a g c (Some ino) k ++ map tuple_of (next_claims a g ino k n))
 
 -- an inode that was given whole is visited
 abbrev pub HoldEnds : Type 0

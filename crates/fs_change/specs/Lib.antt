@@ -1,9 +1,12 @@
 pub mod Chains
 pub mod Changes
 pub mod Choice
+pub mod Edited
 pub mod Forget
 pub mod Laws
 pub mod Loose
+pub mod Marks
+pub mod Met
 pub mod Parts
 pub mod Records
 pub mod Run

@@ -1,6 +1,6 @@
 -- What an entry leaves open: how an edited tree is cut into blocks, and what a block that a tree had or gained, or that
 -- left the reserve, holds as cores.
-use Rattle.std.specs.Prelude.{◌≡◌, ℕ, ◌+◌, ◌-◌, ◌/◌, ◌==◌, ◌&&◌, ◌||◌, ◌≤◌, Bool, true, false, not, List, [], ◌∷◌, ◌++◌, map, flat_map, filter, length, drop, Option, Some, None}
+use Rattle.std.specs.Prelude.{◌≡◌, ℕ, ◌+◌, ◌/◌, ◌==◌, ◌&&◌, ◌||◌, Bool, true, false, not, List, [], ◌∷◌, ◌++◌, map, flat_map, filter, length, drop, Option, Some, None}
 use Rattle.std.specs.List.{list_any, list_all}
 use Rattle.dinode_core.specs.declared.mapping.Fork.{Fork}
 use Rattle.fs_model.specs.declared.fault.Counter.{Counter}
@@ -8,17 +8,15 @@ use Rattle.fs_model.specs.declared.fault.Counter.TheVariants.{Iblocks, Fblocks, 
 use Rattle.geom.specs.Layout.{split_of}
 use Rattle.rmap_recs.specs.Owners.{number_of}
 use Rattle.rmap_recs.specs.declared.owner.Owner.TheVariants.{Ag}
-use Rattle.rmap_recs.specs.declared.records.RmapRec.{RmapRec}
 use Rattle.sblock.specs.declared.kind.Kind.{Kind}
 use Rattle.sblock.specs.declared.kind.Kind.TheVariants.{Bno, Cnt, Rmap, Refc, Ino, Fino}
 use Rattle.tree_defs.specs.Lists.{is_in, times}
 use Rattle.fs_state.specs.Apart.{is_chunk, is_inode}
 use Rattle.fs_state.specs.Frame.{SameFork}
-use Rattle.fs_state.specs.Group.{is_among}
 use Rattle.fs_state.specs.State.{State, Group, Owned, blocks_of, blocks_in}
 use Rattle.fs_derive.specs.Kinds.{all_kinds, tree_owner}
-use Rattle.fs_change.specs.Parts.{edit, set_blocks}
-use Rattle.fs_change.specs.Records.{give_mapping, take_mapping}
+use Rattle.fs_change.specs.Met.{Met, is_fault, take_each, give_each, met_moving}
+use Rattle.fs_change.specs.Parts.{edit, in_trees, is_edited, records_in}
 use Rattle.fs_change.specs.Changes.{follow}
 use Rattle.fs_change.specs.Switch.{owned_by, has_owned}
 
@@ -34,20 +32,12 @@ owners_in p = map (owned_by (number_of Ag)) p.free_list ++ flat_map (λ k. map (
 abbrev pub lost_to : List Owned → List Owned → List Owned
 lost_to os ps = filter (λ o. not (has_owned ps o)) os
 
-abbrev pub one_block : Owned → RmapRec
-one_block o = record { start = o.block; count = 1; owner = o.owner; word = 0 }
-
-abbrev pub take_each : List Owned → List RmapRec → List RmapRec
-take_each [] recs = recs
-take_each (o ∷ os) recs = take_mapping (one_block o) (take_each os recs)
-
-abbrev pub give_each : List Owned → List RmapRec → List RmapRec
-give_each [] recs = recs
-give_each (o ∷ os) recs = give_mapping (one_block o) (give_each os recs)
-
 -- where a moved block's owner differs, reverse mappings follow
 abbrev pub owners_follow : List Kind → Group → Group → Group
 owners_follow left p q = edit left Rmap (λ recs. give_each (lost_to (owners_in q) (owners_in p)) (take_each (lost_to (owners_in p) (owners_in q)) recs)) q
+
+abbrev pub met_by_moves : Group → Group → Met
+met_by_moves p q = met_moving (lost_to (owners_in p) (owners_in q)) (lost_to (owners_in q) (owners_in p)) (records_in p Rmap)
 
 -- and so do the counters of blocks
 abbrev pub block_counter : Group → Group → Counter → ℕ
@@ -57,10 +47,6 @@ block_counter p q RmapBlocks = follow (p.counters RmapBlocks) (length (tree_bloc
 block_counter p q RefcountBlocks = follow (p.counters RefcountBlocks) (length (tree_blocks p Refc)) (length (tree_blocks q Refc))
 block_counter p q Btreeblks = follow (p.counters Btreeblks) (length (tree_blocks p Bno) + length (tree_blocks p Cnt) + length (tree_blocks p Rmap)) (length (tree_blocks q Bno) + length (tree_blocks q Cnt) + length (tree_blocks q Rmap))
 block_counter p q name = p.counters name
-
-abbrev pub in_trees : (Kind → List ℕ) → List Kind → Group → Group
-in_trees blocks [] p = p
-in_trees blocks (k ∷ ks) p = set_blocks k (blocks k) (in_trees blocks ks p)
 
 -- the group with its trees, list and limbo laid out so
 abbrev pub laid_out : List Kind → List Kind → (Kind → List ℕ) → List ℕ → List Owned → Group → Group
@@ -72,8 +58,12 @@ laid_out left ks blocks list limbo p =
 abbrev pub pool_of : Group → List ℕ
 pool_of p = p.free_list ++ flat_map (tree_blocks p) all_kinds ++ blocks_in p.limbo
 
+-- limbo had the pair; or an edited tree with this owner freed the block, which it had, or had taken from the list
+abbrev pub may_join : List Kind → Group → Owned → Bool
+may_join ks p o = has_owned p.limbo o || list_any (λ k. (o.owner == tree_owner k) && (is_in o.block (tree_blocks p k) || is_in o.block p.free_list)) ks
+
 -- Which blocks may an edit move? From the front of the list into edited trees, and from these to the list's end, or into
--- limbo; none comes or goes.
+-- limbo, with the owner of their tree; none comes or goes. Reverse mappings that can't follow are left.
 pub record MovesBlocks (left ks : List Kind) (p q : Group) : Type 0 where
   pub blocks : Kind → List ℕ
   pub used : ℕ
@@ -81,7 +71,9 @@ pub record MovesBlocks (left ks : List Kind) (p q : Group) : Type 0 where
   pub limbo : List Owned
   pub is : q ≡ laid_out left ks blocks (drop used p.free_list ++ freed) limbo p
   pub limbo_keeps : list_all (has_owned limbo) p.limbo ≡ true
+  pub limbo_gains : list_all (may_join ks p) limbo ≡ true
   pub none_lost : (b : ℕ) → times b (pool_of q) ≡ times b (pool_of p)
+  pub owners_met : (is_edited left p Rmap && is_fault (met_by_moves p q)) ≡ false
 
 -- where no tree is edited nothing moves
 abbrev pub Inside : List Kind → List Kind → Group → Group → Type 0
@@ -96,7 +88,7 @@ place_in g (Some p) test = (p.0 == g) && test p.1
 
 -- a tree had the block or has it, or it left the reserve
 abbrev pub is_touched : Group → Group → ℕ → Bool
-is_touched p q b = list_any (λ k. is_in b (tree_blocks p k) || is_in b (tree_blocks q k)) all_kinds || is_in b (blocks_in p.reserve)
+is_touched p q b = list_any (λ k. is_in b (tree_blocks p k) || is_in b (tree_blocks q k)) all_kinds || (is_in b (blocks_in p.reserve) && not (is_in b (blocks_in q.reserve)))
 
 -- What stays of inodes? All of other blocks, which chunks there are, and all of inodes in chunks; a fork that can't be
 -- read still can't.

@@ -1,5 +1,5 @@
 -- One part of a state put in place of what it was.
-use Rattle.std.specs.Prelude.{ℕ, Bool, true, false, ◌==◌, ◌||◌, nat_le, nat_lt, ◌+◌, ◌&&◌, ◌/◌, List, [], ◌∷◌, Option, Some, None, Result, Ok, if◌then◌else◌}
+use Rattle.std.specs.Prelude.{ℕ, Bool, true, false, ◌==◌, nat_le, nat_lt, ◌+◌, ◌&&◌, ◌/◌, List, [], ◌∷◌, Option, Some, None, Result, Ok, if◌then◌else◌}
 use Rattle.dinode_core.specs.declared.mapping.Fork.{Fork}
 use Rattle.dinode_core.specs.declared.mapping.Fork.TheVariants as forks
 use Rattle.dinode_core.specs.declared.mapping.ForkFault.{ForkFault}
@@ -59,6 +59,11 @@ in_blocks blocks (Unreadable block fault claims) = Unreadable block fault blocks
 
 abbrev pub set_blocks : Kind → List ℕ → Group → Group
 set_blocks k blocks p = change_tree k (λ i. record i { reading = in_blocks blocks i.reading }) p
+
+-- these trees in these blocks
+abbrev pub in_trees : (Kind → List ℕ) → List Kind → Group → Group
+in_trees blocks [] p = p
+in_trees blocks (k ∷ ks) p = set_blocks k (blocks k) (in_trees blocks ks p)
 
 abbrev pub set_trust : Trust → Kind → Group → Group
 set_trust t k p = change_tree k (λ i. record i { trust = t }) p

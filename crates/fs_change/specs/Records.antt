@@ -1,7 +1,7 @@
 -- A run put into the records of one index, or taken out of them; a mapping put into a fork, or a piece taken out.
-use Rattle.std.specs.Prelude.{ℕ, ◌+◌, ◌-◌, ◌/◌, ◌^◌, ◌==◌, ◌&&◌, ◌||◌, ◌≡◌, nat_le, nat_lt, Bool, true, false, not, List, [], ◌∷◌, ◌++◌, map, reverse, filter, find, flat_map, Option, Some, None, option_to_list, option_map, unwrap_or, if◌then◌else◌}
+use Rattle.std.specs.Prelude.{ℕ, ◌+◌, ◌-◌, ◌/◌, ◌^◌, ◌==◌, ◌&&◌, ◌||◌, nat_le, nat_lt, min, Bool, true, false, not, List, [], ◌∷◌, ◌++◌, map, reverse, filter, find, flat_map, Option, Some, None, option_to_list, if◌then◌else◌}
 use Rattle.std.specs.List.{list_any}
-use Rattle.std.specs.Option.{option_map_or, option_and_then}
+use Rattle.std.specs.Option.{option_map_or}
 use Rattle.dinode_core.specs.declared.mapping.Mapping.{Mapping}
 use Rattle.ino_recs.specs.declared.chunk.InoRec.{InoRec}
 use Rattle.rmap_recs.specs.Rmap.{can_join}
@@ -108,9 +108,13 @@ counter_of rs b = only_where (λ r. nat_lt b (refc_end r)) (last_at (λ r. r.sta
 unfoldable pub count_at : List RefcRec → ℕ → ℕ
 count_at rs b = option_map_or (λ r. r.refcount) (counter_of rs b) 1
 
--- Is the run a stretch of one count? It lies in one record, or no record begins or ends in it.
-unfoldable pub is_stretch : List RefcRec → ℕ → ℕ → Bool
-is_stretch rs b n = option_map_or (λ r. nat_le (b + n) (refc_end r)) (counter_of rs b) (not (list_any (λ r. nat_lt b r.start && nat_lt r.start (b + n)) rs))
+-- a block with so many owners isn't shared once more
+abbrev pub most_counted : ℕ
+most_counted = 4294967200
+
+-- How far does one count reach, of n blocks from b on? To the end of the record that has b, and not into the next one.
+unfoldable pub stretch : List RefcRec → ℕ → ℕ → ℕ
+stretch rs b n = min n (min (option_map_or refc_end (counter_of rs b) (b + n)) (option_map_or (λ r. r.start) (find (λ r. nat_lt b r.start) rs) (b + n)) - b)
 
 abbrev pub is_same_count : RefcRec → RefcRec → Bool
 is_same_count r s = (r.start == s.start) && (r.count == s.count) && (r.refcount == s.refcount)
@@ -135,10 +139,12 @@ count_before rs b v = only_where (λ r. (refc_end r == b) && (r.refcount == v)) 
 abbrev pub count_behind : List RefcRec → ℕ → ℕ → Option RefcRec
 count_behind rs e v = only_where (λ r. r.refcount == v) (find (λ r. r.start == e) rs)
 
+abbrev pub joined_counts : List RefcRec → ℕ → ℕ → ℕ → RefcRec
+joined_counts rs b n v =
+    counted (option_map_or (λ r. r.start) (count_before rs b v) b) (option_map_or (λ r. r.count) (count_before rs b v) 0 + n + option_map_or (λ r. r.count) (count_behind rs (b + n) v) 0) v
+
 abbrev pub join_counts : List RefcRec → ℕ → ℕ → ℕ → List RefcRec
-join_counts rs b n v =
-    swap_counts (option_to_list (count_before rs b v) ++ option_to_list (count_behind rs (b + n) v))
-    (counted (option_map_or (λ r. r.start) (count_before rs b v) b) (option_map_or (λ r. r.count) (count_before rs b v) 0 + n + option_map_or (λ r. r.count) (count_behind rs (b + n) v) 0) v ∷ []) rs
+join_counts rs b n v = swap_counts (option_to_list (count_before rs b v) ++ option_to_list (count_behind rs (b + n) v)) (joined_counts rs b n v ∷ []) rs
 
 -- What are reference counts after a stretch got a new one? A record that it is part of is cut, and it joins those beside
 -- it that have its new count; one owner, or none, has no record.

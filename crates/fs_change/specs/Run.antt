@@ -1,22 +1,23 @@
 -- Whole journals: the states that they lead through.
-use Rattle.std.specs.Prelude.{◌≡◌, ℕ, ◌+◌, ◌==◌, Bool, true, false, List, [], ◌∷◌, if◌then◌else◌}
+use Rattle.std.specs.Prelude.{◌≡◌, ℕ, ◌+◌, ◌==◌, Bool, false, List, [], ◌∷◌, if◌then◌else◌}
 use Rattle.fs_model.specs.declared.entry.Entry.{Entry}
 use Rattle.fs_model.specs.declared.entry.Entry.TheVariants as entries
 use Rattle.sblock.specs.declared.kind.Kind.{Kind}
 use Rattle.fs_state.specs.State.{State}
 use Rattle.fs_change.specs.Forget.{Forget}
-use Rattle.fs_change.specs.Step.{Step, group_of_entry}
+use Rattle.fs_change.specs.Marks.{Due, IsDue, dues, MayStandAlone}
+use Rattle.fs_change.specs.Step.{Step}
 
--- one mark for each of these trees of the group stands next in the journal, and nothing before it
-abbrev pub AreMarked : ℕ → List Kind → List Entry → Type 0
-AreMarked g [] es = Unit {0}
-AreMarked g (k ∷ ks) (entries.Marked h j cause ∷ es) = (h ≡ g) × (j ≡ k) × AreMarked g ks es
-AreMarked g (k ∷ ks) es = ⊥
+-- the entries lead from the first state to the last, where these marks stand first; what an entry left as it was is marked
+-- right behind it, and every other mark has a cause of its own
+abbrev pub LeadsOn : List Due → State → List Entry → State → Type 0
+LeadsOn [] a [] b = b ≡ a
+LeadsOn (d ∷ ds) a [] b = ⊥
+LeadsOn [] a (e ∷ es) b = (left : List Kind) × (next : State) × (s : Step a left e next) × MayStandAlone a e × LeadsOn (dues a left e s.decided next) next es b
+LeadsOn (d ∷ ds) a (e ∷ es) b = IsDue d e × (next : State) × Step a [] e next × LeadsOn ds next es b
 
--- the entries lead from the first state to the last; what an entry left as it was is marked right behind it
 abbrev pub Leads : State → List Entry → State → Type 0
-Leads a [] b = b ≡ a
-Leads a (e ∷ es) b = (left : List Kind) × (next : State) × Step a left e next × AreMarked (group_of_entry a e) left es × Leads next es b
+Leads a es b = LeadsOn [] a es b
 
 -- ---- replies
 

@@ -1,8 +1,10 @@
 -- What an entry of the journal says of the states before and after it (Online Fsck Design, "Eventual Consistency", "Live
 -- Updates"; formats of entries: fs_model).
-use Rattle.std.specs.Prelude.{◌≡◌, ◌⊎◌, ℕ, ◌+◌, ◌*◌, ◌/◌, ◌<◌, ◌≤◌, ◌==◌, ◌&&◌, ◌||◌, nat_le, nat_lt, min, Bool, true, false, not, List, [], ◌∷◌, length, slice_get, filter, Option, Some, None, Contains}
+use Rattle.std.specs.Prelude.{◌≡◌, ◌⊎◌, ℕ, ◌*◌, ◌/◌, ◌<◌, ◌≤◌, ◌==◌, ◌&&◌, ◌||◌, nat_lt, Bool, true, false, List, [], ◌∷◌, length, slice_get, Option, Some, None, Result, Ok, Err, is_ok, Contains, if◌then◌else◌}
 use Rattle.std.specs.List.{list_any, list_all}
 use Rattle.dinode_core.specs.declared.mapping.Fork.{Fork}
+use Rattle.dinode_core.specs.declared.mapping.Fork.TheVariants as forks
+use Rattle.dinode_core.specs.declared.mapping.ForkFault.{ForkFault}
 use Rattle.fs_model.specs.declared.entry.Entry.{Entry}
 use Rattle.fs_model.specs.declared.entry.Entry.TheVariants as entries
 use Rattle.fs_model.specs.declared.entry.Extent.{Extent}
@@ -10,40 +12,47 @@ use Rattle.fs_model.specs.declared.entry.Piece.{Piece}
 use Rattle.fs_model.specs.declared.entry.SharedPiece.{SharedPiece}
 use Rattle.fs_model.specs.declared.fault.Cause.{Cause}
 use Rattle.fs_model.specs.declared.fault.Cause.TheVariants as causes
+use Rattle.fs_model.specs.declared.unit.Trust.TheVariants.{Good}
 use Rattle.fs_model.specs.declared.unit.Unit.{Unit as ScrubUnit}
-use Rattle.fs_model.specs.declared.unit.Unit.TheVariants as units
-use Rattle.geom.specs.Layout.{fs_block_of, split_of}
+use Rattle.geom.specs.Layout.{fs_block_of}
 use Rattle.ino_recs.specs.declared.chunk.InoRec.{InoRec}
-use Rattle.span_recs.specs.declared.span.SpanRec.{SpanRec}
 use Rattle.sblock.specs.declared.kind.Kind.{Kind}
-use Rattle.sblock.specs.declared.kind.Kind.TheVariants.{Bno, Cnt, Rmap, Refc, Ino, Fino}
+use Rattle.sblock.specs.declared.kind.Kind.TheVariants.{Bno, Rmap, Refc, Ino, Fino}
 use Rattle.tree_defs.specs.Lists.{is_in}
+use Rattle.fs_state.specs.Apart.{is_inode, unit_verifies}
 use Rattle.fs_state.specs.Group.{is_among}
-use Rattle.fs_state.specs.State.{State, Group}
+use Rattle.fs_state.specs.State.{State, Group, ForkList, blocks_in}
 use Rattle.fs_state.specs.declared.intent.Intent.{Intent}
 use Rattle.fs_state.specs.declared.intent.IntentKind.{IntentKind}
-use Rattle.fs_state.specs.declared.intent.IntentKind.TheVariants.{RmapAdd, RmapRemove, RmapChange, RefMore, RefLess, Free}
+use Rattle.fs_state.specs.declared.intent.IntentKind.TheVariants.{RefMore, RefLess, Free}
 use Rattle.fs_derive.specs.Contradiction.{evidence}
 use Rattle.fs_derive.specs.Derive.{is_free}
 use Rattle.fs_derive.specs.Faults.{kind_of_fault}
-use Rattle.fs_derive.specs.Kinds.{unit_of, kinds_of, all_kinds}
-use Rattle.fs_derive.specs.Claims.{fork_of}
+use Rattle.fs_derive.specs.Kinds.{unit_of, kinds_of}
 use Rattle.fs_derive.specs.Lists.{numbers}
 use Rattle.fs_change.specs.Chains.{most_chains, pending, gives, takes, Quiet}
-use Rattle.fs_change.specs.Changes.{extent_of, data_of, mapped, unmapped, converted, shared, rmap_done, ref_done, freed, taken, given, refilled, trimmed, marked, judged, reserved, released, reaped}
-use Rattle.fs_change.specs.Choice.{is_guarded, chosen, chosen_of, spare_block, free_inode, chunk_run, inode_of, group_or_first}
-use Rattle.fs_change.specs.Loose.{Loosely, tree_blocks}
-use Rattle.fs_change.specs.Parts.{sick_in, records_in, is_edited}
-use Rattle.fs_change.specs.Records.{holder_of, has_span, span, is_stretch, has_inode, is_piece, is_unmapped, is_unwritten_at}
-use Rattle.fs_change.specs.Switch.{has_owned, owned_by, need, switched}
+use Rattle.fs_change.specs.Changes.{extent_of, data_of, mapped, unmapped, converted, shared, rmap_done, ref_done, freed, taken, given, refilled, trimmed, marked, judged, reserved, released, owner_of_run, reaped}
+use Rattle.fs_change.specs.Choice.{is_guarded, none_sick, space_kinds, piece_kinds, chosen, chosen_of, spare_block, free_inode, chunk_run, inode_of}
+pub use Rattle.fs_change.specs.Edited.{group_of_inode, group_of_entry, edits_count, edits_reserve, edits_reaped, edited_kinds, edited_in, may_leave, met_by, leaves_faults}
+use Rattle.fs_change.specs.Loose.{Loosely}
+use Rattle.fs_change.specs.Parts.{sick_in, records_in}
+use Rattle.fs_change.specs.Records.{count_at, most_counted, stretch, has_inode, is_piece, is_unmapped, is_unwritten_at}
+use Rattle.fs_change.specs.Switch.{has_owned, owned_by, is_reserve_of, AreLaid, kind_need, need, switched}
 
 -- ---- first events
 
 abbrev pub is_mapping_of : ℕ → Intent → Bool
 is_mapping_of ino i = (gives i.kind || takes i.kind) && (i.ino == ino)
 
--- a first event: the chain owes nothing, and no chain owes a reverse mapping of the inode
+-- an allocated inode whose data fork can be read
+pub record IsFile (a : State) (ino : ℕ) : Type 0 where
+  pub inode : is_inode a ino ≡ true
+  pub allocated : is_free (a.core ino) ≡ false
+  pub readable : is_ok (a.fork ino forks.Data) ≡ true
+
+-- a first event: the chain owes nothing, and no chain owes a reverse mapping of the inode, which is a file
 pub record IsFirst (a : State) (chain ino : ℕ) : Type 0 where
+  pub file : IsFile a ino
   pub open_chain : chain < most_chains
   pub owes_nothing : a.chains chain ≡ []
   pub none_pending : list_any (is_mapping_of ino) (pending a) ≡ false
@@ -56,28 +65,26 @@ is_owned a e = is_guarded (records_in (a.group e.group) Rmap) e.block e.count
 abbrev pub IsChosen : State → ℕ → Extent → Type 0
 IsChosen a ino e = (gates : ℕ → Bool) × (count : ℕ) × (chosen a gates count ino ≡ Some e)
 
--- the run is part of a record of free space, which both indexes have
-abbrev pub IsListed : State → Extent → Type 0
-IsListed a e = (r : SpanRec) × (holder_of (records_in (a.group e.group) Bno) (span e.block e.count) ≡ Some r) × (has_span (records_in (a.group e.group) Cnt) r ≡ true)
-
 pub record MayMap (a : State) (m : Piece) : Type 0 where
   pub some : 0 < m.count
   pub first : IsFirst a m.chain m.ino
   pub unmapped : is_unmapped m.offset m.count (data_of a m.ino) ≡ true
   pub chosen : IsChosen a m.ino (extent_of m)
-  pub listed : IsListed a (extent_of m)
   pub unowned : is_owned a (extent_of m) ≡ false
 
 -- the piece is one of the inode's data fork
 pub record MayChange (a : State) (m : Piece) : Type 0 where
   pub some : 0 < m.count
   pub first : IsFirst a m.chain m.ino
+  pub sound : none_sick piece_kinds (a.group m.group) ≡ true
   pub piece : is_piece m.offset (fs_block_of a.geometry m.group m.block) m.count (data_of a m.ino) ≡ true
 
 pub record MayShare (a : State) (m : SharedPiece) : Type 0 where
   pub some : 0 < m.count
   pub from_first : IsFirst a m.chain m.from
   pub to_first : IsFirst a m.chain m.to
+  pub sound : none_sick piece_kinds (a.group m.group) ≡ true
+  pub below : list_all (λ b. nat_lt (count_at (records_in (a.group m.group) Refc) b) most_counted) (numbers m.block m.count) ≡ true
   pub piece : is_piece m.from_offset (fs_block_of a.geometry m.group m.block) m.count (data_of a m.from) ≡ true
   pub written : is_unwritten_at m.from_offset (data_of a m.from) ≡ false
   pub unmapped : is_unmapped m.to_offset m.count (data_of a m.to) ≡ true
@@ -97,9 +104,9 @@ is_ref true RefMore = true
 is_ref false RefLess = true
 is_ref more kind = false
 
--- a stretch of one count, unless counts aren't read any more
-abbrev pub IsStretch : Group → ℕ → ℕ → Type 0
-IsStretch p b n = (sick_in p Refc || is_stretch (records_in p Refc) b n) ≡ true
+-- the first stretch of one count, of so many blocks; all of them where counts aren't read any more
+abbrev pub first_stretch : Group → ℕ → ℕ → ℕ
+first_stretch p b n = if sick_in p Refc then n else stretch (records_in p Refc) b n
 
 -- whether a run is kept: its owner is there, or can't be asked for
 abbrev pub is_kept : State → Extent → Bool
@@ -107,72 +114,84 @@ is_kept a e = sick_in (a.group e.group) Rmap || is_owned a e
 
 -- ---- inodes
 
-abbrev pub group_of_inode : State → ℕ → ℕ
-group_of_inode a ino = group_or_first (split_of a.geometry (ino / 8))
-
 -- the inode btree has the first record of free inodes
 abbrev pub HasSame : List InoRec → List InoRec → Type 0
 HasSame inos [] = ⊥
 HasSame inos (r ∷ rs) = Contains inos r
 
--- the lowest free inode; or there is none, and it is the first of a new chunk
+-- the lowest free inode, all cores of its chunk verifying; or there is none, and it is the first of a new chunk
 abbrev pub IsTaken : State → ℕ → ℕ → Option ℕ → Type 0
-IsTaken a g i None = (gates : ℕ → Bool) × (free_inode a gates ≡ Some (g, i)) × HasSame (records_in (a.group g) Ino) (records_in (a.group g) Fino) × (is_free (a.core (inode_of a g i)) ≡ true)
+IsTaken a g i None = (gates : ℕ → Bool) × (free_inode a gates ≡ Some (g, i)) × HasSame (records_in (a.group g) Ino) (records_in (a.group g) Fino) × (unit_verifies a.geometry a.core g (i / 64) ≡ true) × (is_free (a.core (inode_of a g i)) ≡ true)
 IsTaken a g i (Some b) =
     let e : Extent = record { group = g; block = b; count = 8 } in
-    (gates : ℕ → Bool) × (free_inode a gates ≡ None) × (chunk_run a gates ≡ Some e) × (i ≡ 8 * b) × IsListed a e × (is_owned a e ≡ false)
+    (gates : ℕ → Bool) × (free_inode a gates ≡ None) × (chunk_run a gates ≡ Some e) × (i ≡ 8 * b) × (is_owned a e ≡ false)
 
+abbrev pub IsEmptyFork : Result ForkList ForkFault → Type 0
+IsEmptyFork (Ok list) = list.mappings ≡ []
+IsEmptyFork (Err fault) = ⊥
+
+-- an allocated inode, both forks of which can be read and are empty
 pub record MayGive (a : State) (ino : ℕ) : Type 0 where
-  pub empty : (f : Fork) → (fork_of a ino f).mappings ≡ []
+  pub inode : is_inode a ino ≡ true
+  pub allocated : is_free (a.core ino) ≡ false
+  pub empty : (f : Fork) → IsEmptyFork (a.fork ino f)
   pub none_pending : list_any (is_mapping_of ino) (pending a) ≡ false
 
 -- ---- the free list
 
 pub record MayRefill (a : State) (e : Extent) : Type 0 where
   pub some : 0 < e.count
+  pub sound : none_sick space_kinds (a.group e.group) ≡ true
   pub short : length (a.group e.group).free_list < 12
   pub chosen : (count : ℕ) × (chosen_of a count (e.group ∷ []) ≡ Some e)
-  pub listed : IsListed a e
   pub unowned : is_owned a e ≡ false
 
 pub record MayTrim (a : State) (e : Extent) : Type 0 where
   pub some : 0 < e.count
+  pub sound : none_sick space_kinds (a.group e.group) ≡ true
   pub on_list : list_all (λ b. is_in b (a.group e.group).free_list) (numbers e.block e.count) ≡ true
 
 -- ---- trust
 
 -- what can be said of a cause by itself
-abbrev pub MayMark : State → ℕ → Cause → Type 0
-MayMark a g (causes.Short have need) = have < need
-MayMark a g (causes.Large n) = (160 < n) × (list_any (λ k. nat_lt 24 (length (tree_blocks (a.group g) k))) all_kinds ≡ true)
-MayMark a g (causes.Block block fault) = Unit {0}
-MayMark a g causes.Missing = Unit {0}
-MayMark a g causes.Overlap = Unit {0}
-MayMark a g causes.Owner = Unit {0}
+abbrev pub MayMark : Cause → Type 0
+MayMark (causes.Short have need) = have < need
+MayMark (causes.Large n) = 160 < n
+MayMark (causes.Block block fault) = Unit {0}
+MayMark causes.Missing = Unit {0}
+MayMark causes.Overlap = Unit {0}
+MayMark causes.Owner = Unit {0}
 
 -- ---- rebuilding
 
 -- the list's first block while it has more than 8, else the lowest spare block, else the list's first; a spare block is
 -- noted by free space or by reverse mappings at least
 abbrev pub MayReserve : State → List Kind → ℕ → ScrubUnit → ℕ → Bool → Type 0
-MayReserve a left g unit b true = (length (a.group g).free_list ≤ 8) × (spare_block a g unit ≡ Some b) × ((is_among Bno left && is_among Rmap left) ≡ false)
-MayReserve a left g unit b false = (slice_get (a.group g).free_list 0 ≡ Some b) × ((8 < length (a.group g).free_list) ⊎ (spare_block a g unit ≡ None))
+MayReserve a left g unit b true = (is_reserve_of unit (a.group g) ≡ true) × (length (a.group g).free_list ≤ 8) × (spare_block a g unit ≡ Some b) × ((is_among Bno left && is_among Rmap left) ≡ false)
+MayReserve a left g unit b false = (is_reserve_of unit (a.group g) ≡ true) × (slice_get (a.group g).free_list 0 ≡ Some b) × ((8 < length (a.group g).free_list) ⊎ (spare_block a g unit ≡ None))
 
 -- nothing is pending, nothing contradicts the derivation, and the reserve has as many blocks as are needed
 pub record MaySwitch (a : State) (g : ℕ) (unit : ScrubUnit) : Type 0 where
+  pub own : is_reserve_of unit (a.group g) ≡ true
   pub quiet : Quiet a g
   pub sound : evidence a g unit ≡ None
   pub enough : need a g unit ≤ length (a.group g).reserve
 
--- the roots are blocks of the new trees; a unit of one tree has the second root 0
-abbrev pub AreRoots : List Kind → Group → ℕ → ℕ → Type 0
-AreRoots [] p root second = Unit {0}
-AreRoots (k ∷ []) p root second = (is_in root (tree_blocks p k) ≡ true) × (second ≡ 0)
-AreRoots (k ∷ j ∷ ks) p root second = (is_in root (tree_blocks p k) ≡ true) × (is_in second (tree_blocks p j) ≡ true)
+-- the roots are the first blocks of the new trees; a unit of one tree has the second root 0
+abbrev pub AreRoots : List Kind → (Kind → List ℕ) → ℕ → ℕ → Type 0
+AreRoots [] blocks root second = Unit {0}
+AreRoots (k ∷ []) blocks root second = (slice_get (blocks k) 0 ≡ Some root) × (second ≡ 0)
+AreRoots (k ∷ j ∷ ks) blocks root second = (slice_get (blocks k) 0 ≡ Some root) × (slice_get (blocks j) 0 ≡ Some second)
 
--- each block of the run is in limbo with this owner
+-- there is a reserve, and it is the unit's
+pub record MayRelease (a : State) (g : ℕ) (unit : ScrubUnit) : Type 0 where
+  pub some : 0 < length (a.group g).reserve
+  pub own : is_reserve_of unit (a.group g) ≡ true
+
+-- each block of the run is in limbo with this owner, and reverse mappings were judged
 pub record MayReap (a : State) (e : Extent) (owner : ℕ) : Type 0 where
   pub some : 0 < e.count
+  pub good : ((a.group e.group).tree Rmap).trust ≡ Good
   pub in_limbo : list_all (λ b. has_owned (a.group e.group).limbo (owned_by owner b)) (numbers e.block e.count) ≡ true
 
 -- ---- all rows
@@ -187,7 +206,7 @@ Row a left (entries.Shared m) x = MayShare a m × (x ≡ shared m a)
 Row a left (entries.RmapDone c ino g b n) x =
     (i : Intent) × (rest : List Intent) × IsNext a c g b n i rest × ((gives i.kind || takes i.kind) ≡ true) × (i.ino ≡ ino) × (i.count ≡ n) × (x ≡ rmap_done left c i rest a)
 Row a left (entries.RefDone c g b n more) x =
-    (i : Intent) × (rest : List Intent) × IsNext a c g b n i rest × (is_ref more i.kind ≡ true) × IsStretch (a.group g) b n × (x ≡ ref_done left c more (record { group = g; block = b; count = n }) i rest a)
+    (i : Intent) × (rest : List Intent) × IsNext a c g b n i rest × (is_ref more i.kind ≡ true) × (n ≡ first_stretch (a.group g) b i.count) × (x ≡ ref_done left c more (record { group = g; block = b; count = n }) i rest a)
 Row a left (entries.Freed c g b n kept) x =
     (i : Intent) × (rest : List Intent) × IsNext a c g b n i rest × (i.kind ≡ Free) × (i.count ≡ n) × (kept ≡ is_kept a (record { group = g; block = b; count = n })) × (x ≡ freed left c kept (record { group = g; block = b; count = n }) rest a)
 Row a left (entries.Taken writer ino uid chunk) x =
@@ -196,71 +215,23 @@ Row a left (entries.Given writer ino) x =
     (i : ℕ) × MayGive a ino × (list_any (has_inode i) (records_in (a.group (group_of_inode a ino)) Ino) ≡ true) × (ino ≡ inode_of a (group_of_inode a ino) i) × (x ≡ given (group_of_inode a ino) i ino a)
 Row a left (entries.Refilled e) x = MayRefill a e × (x ≡ refilled e a)
 Row a left (entries.Trimmed e) x = MayTrim a e × (x ≡ trimmed e a)
-Row a left (entries.Marked g k cause) x = MayMark a g cause × (x ≡ marked g k a)
+Row a left (entries.Marked g k cause) x = MayMark cause × (x ≡ marked g k a)
 Row a left (entries.Reserved g unit b spare) x = MayReserve a left g unit b spare × (x ≡ reserved left g unit b spare a)
-Row a left (entries.Released g unit) x = x ≡ released g a
+Row a left (entries.Released g unit) x = MayRelease a g unit × (x ≡ released g a)
 Row a left (entries.Fault g unit fault) x = (unit ≡ unit_of (kind_of_fault fault)) × (x ≡ marked g (kind_of_fault fault) a)
 Row a left (entries.Verdict g unit verdict) x = x ≡ judged g unit verdict a
-Row a left (entries.Switched g unit root second) x = MaySwitch a g unit × AreRoots (kinds_of unit) (x.group g) root second × (x ≡ switched a g unit)
-Row a left (entries.Reaped e) x = (owner : ℕ) × MayReap a e owner × (x ≡ reaped left owner e a)
+Row a left (entries.Switched g unit root second) x =
+    (blocks : Kind → List ℕ) × MaySwitch a g unit × AreLaid (kind_need a g unit) (kinds_of unit) (blocks_in (a.group g).reserve) blocks × AreRoots (kinds_of unit) blocks root second × (x ≡ switched a g unit blocks)
+Row a left (entries.Reaped e) x = MayReap a e (owner_of_run (a.group e.group) e) × (x ≡ reaped left (owner_of_run (a.group e.group) e) e a)
 Row a left (entries.Reply writer line code done refused begun) x = x ≡ a
 
--- ---- which trees an entry edits, and which of them it may leave
+-- ---- steps of a state
 
-abbrev pub edited_kinds : Entry → List Kind
-edited_kinds (entries.Mapped m) = Bno ∷ Cnt ∷ []
-edited_kinds (entries.RmapDone c ino g b n) = Rmap ∷ []
-edited_kinds (entries.RefDone c g b n more) = Refc ∷ Rmap ∷ []
-edited_kinds (entries.Freed c g b n false) = Bno ∷ Cnt ∷ []
-edited_kinds (entries.Taken writer ino uid chunk) = Bno ∷ Cnt ∷ Rmap ∷ Ino ∷ Fino ∷ []
-edited_kinds (entries.Given writer ino) = Rmap ∷ Ino ∷ Fino ∷ []
-edited_kinds (entries.Refilled e) = Bno ∷ Cnt ∷ Rmap ∷ []
-edited_kinds (entries.Trimmed e) = Bno ∷ Cnt ∷ Rmap ∷ []
-edited_kinds (entries.Reserved g unit b spare) = Bno ∷ Cnt ∷ Rmap ∷ []
-edited_kinds (entries.Reaped e) = Bno ∷ Cnt ∷ Rmap ∷ []
-edited_kinds e = []
-
--- steps, a reaped run and a reserved block go on without an index whose edit met a fault; but a spare block of a rebuild
--- of free space is reserved only where its owner is noted
-abbrev pub may_leave : Entry → List Kind
-may_leave (entries.RmapDone c ino g b n) = Rmap ∷ []
-may_leave (entries.RefDone c g b n more) = Refc ∷ Rmap ∷ []
-may_leave (entries.Freed c g b n false) = Bno ∷ Cnt ∷ []
-may_leave (entries.Reserved g units.Free b true) = []
-may_leave (entries.Reserved g unit b spare) = Bno ∷ Cnt ∷ Rmap ∷ []
-may_leave (entries.Reaped e) = Bno ∷ Cnt ∷ Rmap ∷ []
-may_leave e = []
-
--- the group that an entry is about
-abbrev pub group_of_entry : State → Entry → ℕ
-group_of_entry a (entries.Mapped m) = m.group
-group_of_entry a (entries.Unmapped m) = m.group
-group_of_entry a (entries.Converted m) = m.group
-group_of_entry a (entries.Shared m) = m.group
-group_of_entry a (entries.RmapDone c ino g b n) = g
-group_of_entry a (entries.RefDone c g b n more) = g
-group_of_entry a (entries.Freed c g b n kept) = g
-group_of_entry a (entries.Taken writer ino uid chunk) = group_of_inode a ino
-group_of_entry a (entries.Given writer ino) = group_of_inode a ino
-group_of_entry a (entries.Refilled e) = e.group
-group_of_entry a (entries.Trimmed e) = e.group
-group_of_entry a (entries.Marked g k cause) = g
-group_of_entry a (entries.Reserved g unit b spare) = g
-group_of_entry a (entries.Released g unit) = g
-group_of_entry a (entries.Fault g unit fault) = g
-group_of_entry a (entries.Verdict g unit verdict) = g
-group_of_entry a (entries.Switched g unit root second) = g
-group_of_entry a (entries.Reaped e) = e.group
-group_of_entry a (entries.Reply writer line code done refused begun) = 0
-
--- those that it edits indeed
-abbrev pub edited_in : State → List Kind → Entry → List Kind
-edited_in a left e = filter (is_edited left (a.group (group_of_entry a e))) (edited_kinds e)
-
--- What does an entry say of the states before and after it? The row holds, and the second state is the one that it
--- decides, but for what is left open.
+-- What does an entry say of the states before and after it? The row holds, each tree whose edit meets a fault is left, and
+-- the second state is the one that the row decides, but for what is left open.
 pub record Step (a : State) (left : List Kind) (e : Entry) (b : State) : Type 0 where
   pub decided : State
   pub row : Row a left e decided
-  pub leaves : list_all (λ k. is_among k (may_leave e)) left ≡ true
+  pub leaves : list_all (λ k. is_among k (may_leave a e)) left ≡ true
+  pub met : leaves_faults a left e ≡ true
   pub loosely : Loosely (group_of_entry a e) left (edited_in a left e) a decided b

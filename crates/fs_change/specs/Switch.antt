@@ -1,7 +1,7 @@
 -- What a switch makes: how many blocks it needs, which blocks it puts into limbo, and the state that it reaches (Online
 -- Fsck Design, "Reserving New B+Tree Blocks", "Reaping After Repairing Ondisk Metadata").
-use Rattle.std.specs.Prelude.{ℕ, ◌+◌, ◌-◌, ◌==◌, ◌&&◌, ◌||◌, nat_le, nat_lt, Bool, true, false, not, List, [], ◌∷◌, ◌++◌, map, filter, flat_map, length, take, drop, sum_by, count_by, unwrap_or, if◌then◌else◌}
-use Rattle.std.specs.List.{list_any}
+use Rattle.std.specs.Prelude.{◌≡◌, ℕ, ◌+◌, ◌==◌, ◌&&◌, nat_le, nat_lt, Bool, true, false, not, List, [], ◌∷◌, ◌++◌, map, filter, flat_map, length, slice_get, reverse, take, drop, sum_by, count_by, unwrap_or, if◌then◌else◌}
+use Rattle.std.specs.List.{list_any, list_all}
 use Rattle.bulk_load.specs.Shapes.{width, start}
 use Rattle.fs_model.specs.declared.fault.Counter.{Counter}
 use Rattle.fs_model.specs.declared.fault.Counter.TheVariants.{Count, Freecount, Iblocks, Fblocks, RmapBlocks, Freeblks, Longest, Btreeblks, RefcountBlocks}
@@ -12,18 +12,18 @@ use Rattle.geom.specs.Layout.{group_len_of}
 use Rattle.rmap_recs.specs.Owners.{number_of}
 use Rattle.rmap_recs.specs.declared.owner.Owner.TheVariants.{Ag, Inobt, Refc as OfRefc}
 use Rattle.rmap_recs.specs.declared.records.RmapRec.{RmapRec}
-use Rattle.span_recs.specs.declared.span.SpanRec.{SpanRec}
 use Rattle.sblock.specs.declared.kind.Kind.{Kind}
 use Rattle.sblock.specs.declared.kind.Kind.TheVariants.{Bno, Rmap}
 use Rattle.fs_state.specs.Apart.{is_free}
 use Rattle.fs_state.specs.Kinds.{RecOf}
-use Rattle.fs_state.specs.State.{State, Group, Index, Owned, Reading, Readable, Unreadable, recs_of, blocks_of, is_readable, blocks_in, pairs_of}
-use Rattle.fs_derive.specs.Claims.{Claimed, claims}
+use Rattle.fs_state.specs.State.{State, Group, Owned, Reading, Readable, Unreadable, blocks_of, is_readable, pairs_of}
+use Rattle.fs_derive.specs.Claims.{claims}
 use Rattle.fs_derive.specs.Derive.{derive}
 use Rattle.fs_derive.specs.Faults.{wanted}
-use Rattle.fs_derive.specs.Kinds.{kinds_of, counters_of}
+use Rattle.fs_derive.specs.Kinds.{kinds_of}
 use Rattle.fs_derive.specs.Lists.{numbers}
-use Rattle.fs_change.specs.Parts.{in_group, change_tree, set_blocks, records_in}
+use Rattle.tree_defs.specs.Lists.{times}
+use Rattle.fs_change.specs.Parts.{in_group, change_tree, set_blocks, in_trees, records_in}
 
 -- the owner of a unit's new blocks, and of those that its switch puts into limbo
 abbrev pub unit_owner : ScrubUnit → ℕ
@@ -101,22 +101,31 @@ need a g unit = sum_by (kind_need a g unit) (kinds_of unit)
 
 -- ---- the state that a switch reaches
 
--- the blocks of the unit's trees, one after the other, out of these
-abbrev pub lay_trees : (Kind → ℕ) → List Kind → List ℕ → Group → Group
-lay_trees needs [] blocks p = p
-lay_trees needs (k ∷ ks) blocks p = set_blocks k (take (needs k) blocks) (lay_trees needs ks (drop (needs k) blocks) p)
+-- the reserve has blocks of this unit alone
+abbrev pub is_reserve_of : ScrubUnit → Group → Bool
+is_reserve_of unit p = list_all (λ o. o.owner == unit_owner unit) p.reserve
+
+-- these blocks in the order of a walk: its root first, which was claimed last
+pub record AreOf (claimed blocks : List ℕ) : Type 0 where
+  pub same : (b : ℕ) → times b blocks ≡ times b claimed
+  pub root : slice_get blocks 0 ≡ slice_get (reverse claimed) 0
+
+-- the trees have the first of these blocks, one tree after the other, as many as each needs
+abbrev pub AreLaid : (Kind → ℕ) → List Kind → List ℕ → (Kind → List ℕ) → Type 0
+AreLaid needs [] claimed blocks = Unit {0}
+AreLaid needs (k ∷ ks) claimed blocks = AreOf (take (needs k) claimed) (blocks k) × AreLaid needs ks (drop (needs k) claimed) blocks
 
 -- What does a switch put into limbo? The lost blocks, and what the reserve has too many.
 unfoldable pub limbo_of : State → ℕ → ScrubUnit → List Owned
 limbo_of a g unit = join_limbo (lost_owned a g unit) (drop (need a g unit) (a.group g).reserve)
 
 -- the first blocks of the reserve are the trees', with the old records; the rest is limbo
-abbrev pub move_blocks : State → ℕ → ScrubUnit → Group → Group
-move_blocks a g unit p =
-    record (lay_trees (kind_need a g unit) (kinds_of unit) (blocks_in (a.group g).reserve) p) { reserve = []; limbo = join_limbo (limbo_of a g unit) (a.group g).limbo }
+abbrev pub move_blocks : State → ℕ → ScrubUnit → (Kind → List ℕ) → Group → Group
+move_blocks a g unit blocks p =
+    record (in_trees blocks (kinds_of unit) p) { reserve = []; limbo = join_limbo (limbo_of a g unit) (a.group g).limbo }
 
-unfoldable pub moved : State → ℕ → ScrubUnit → State
-moved a g unit = in_group g (move_blocks a g unit) a
+unfoldable pub moved : State → ℕ → ScrubUnit → (Kind → List ℕ) → State
+moved a g unit blocks = in_group g (move_blocks a g unit blocks) a
 
 -- the trees hold these records, and are good
 abbrev pub hold : ((k : Kind) → List (RecOf k)) → List Kind → Group → Group
@@ -147,7 +156,7 @@ exact_counters a g unit name = if sets_counter unit name then unwrap_or (wanted 
 abbrev pub with_counters : State → ℕ → ScrubUnit → State
 with_counters a g unit = in_group g (λ p. record p { counters = exact_counters a g unit }) a
 
--- Which state does a switch reach? The blocks move, then the unit's records are what is derived from the state so
--- reached, and its counters follow.
-unfoldable pub switched : State → ℕ → ScrubUnit → State
-switched a g unit = with_counters (derived_in (moved a g unit) g unit) g unit
+-- Which state does a switch reach that puts the new trees into these blocks? The blocks move, then the unit's records are
+-- what is derived from the state so reached, and its counters follow.
+unfoldable pub switched : State → ℕ → ScrubUnit → (Kind → List ℕ) → State
+switched a g unit blocks = with_counters (derived_in (moved a g unit blocks) g unit) g unit

@@ -8,7 +8,8 @@ use Rattle.span_recs.specs.declared.refcount.RefcRec.{RefcRec}
 use Rattle.span_recs.specs.declared.span.SpanRec.{SpanRec}
 use Rattle.fs_change.specs.Choice.{is_guarded}
 use Rattle.fs_change.specs.Changes.{follow, by_count}
-use Rattle.fs_change.specs.Records.{span, by_start, take_span, give_span, give_mapping, take_mapping, counted, count_at, is_stretch, set_count, turn_inode, follow_inode, add_mapping, take_piece}
+use Rattle.fs_change.specs.Records.{span, by_start, take_span, give_span, give_mapping, take_mapping, counted, count_at, stretch, set_count, turn_inode, follow_inode, add_mapping, take_piece}
+use Rattle.fs_change.specs.Met.{Met, nothing, met_taking, met_taking_count, met_giving, met_giving_count, met_losing, met_gaining, met_counting, met_following}
 use Rattle.fs_change.specs.Switch.{need_of, join_limbo, owned_by}
 
 -- ---- free space
@@ -61,10 +62,13 @@ counts = counted 4 4 2 ∷ counted 8 4 3 ∷ counted 20 2 2 ∷ []
 pub record WorkedCounts : Type 0 where
   pub there : count_at counts 11 ≡ 3
   pub none : count_at counts 12 ≡ 1
-  pub stretch : is_stretch counts 9 3 ≡ true
-  pub beyond : is_stretch counts 9 4 ≡ false
-  pub empty : is_stretch counts 12 8 ≡ true
-  pub meets : is_stretch counts 12 9 ≡ false
+  pub reach : stretch counts 9 3 ≡ 3
+  pub beyond : stretch counts 9 4 ≡ 3
+  pub empty : stretch counts 12 8 ≡ 8
+  pub meets : stretch counts 12 9 ≡ 8
+  pub last : stretch counts 22 5 ≡ 5
+  -- of records that overlap the last that begins decides
+  pub hidden : stretch (counted 4 8 2 ∷ counted 6 2 3 ∷ []) 4 8 ≡ 2
   pub risen : set_count 6 2 3 counts ≡ counted 4 2 2 ∷ counted 6 6 3 ∷ counted 20 2 2 ∷ []
   pub gone : set_count 5 1 1 counts ≡ counted 4 1 2 ∷ counted 6 2 2 ∷ counted 8 4 3 ∷ counted 20 2 2 ∷ []
   pub begun : set_count 18 2 2 counts ≡ counted 4 4 2 ∷ counted 8 4 3 ∷ counted 18 4 2 ∷ []
@@ -107,6 +111,35 @@ pub record WorkedTrees : Type 0 where
   pub nodes : need_of Refc 169681 ≡ 509
   pub pairs : join_limbo (owned_by 2 7 ∷ owned_by 1 7 ∷ []) (owned_by 1 3 ∷ owned_by 1 7 ∷ []) ≡ owned_by 1 3 ∷ owned_by 1 7 ∷ owned_by 2 7 ∷ []
 
+-- ---- what edits meet
+
+abbrev pub lacking : Met
+lacking = record { lacks = true; meets = false }
+
+abbrev pub meeting : Met
+meeting = record { lacks = false; meets = true }
+
+pub record WorkedFaults : Type 0 where
+  pub sound : met_taking spans (span 20 3) ≡ nothing
+  pub not_free : met_taking spans (span 11 2) ≡ lacking
+  -- what is left of the record has a block of another one
+  pub left_over : met_taking (span 4 8 ∷ span 10 4 ∷ []) (span 4 2) ≡ meeting
+  -- only the last that begins there or before is asked
+  pub hidden : met_taking (span 4 8 ∷ span 6 2 ∷ []) (span 9 1) ≡ lacking
+  pub listed : met_taking_count spans (span 20 3) (span 10 2 ∷ span 4 4 ∷ span 20 8 ∷ []) ≡ nothing
+  pub unlisted : met_taking_count spans (span 20 3) (span 10 2 ∷ span 4 4 ∷ []) ≡ lacking
+  pub twice_free : met_giving spans (span 8 3) ≡ meeting
+  pub neighbour : met_giving_count spans (span 8 2) (span 4 4 ∷ span 20 8 ∷ []) ≡ lacking
+  pub lost : met_losing (run 5 1 group_own 0) runs ≡ nothing
+  pub not_owned : met_losing (run 20 1 group_own 0) runs ≡ lacking
+  pub gained : met_gaining (run 8 8 group_own 0) runs ≡ nothing
+  pub same_key : met_gaining (run 4 1 group_own 0) runs ≡ meeting
+  pub risen : met_counting 6 2 3 counts ≡ nothing
+  pub beyond : met_counting 6 4 5 counts ≡ meeting
+  pub freed : met_following 130 (chunk 64 2 3 ∷ chunk 128 0 0 ∷ []) (chunk 64 2 3 ∷ []) ≡ nothing
+  pub not_listed : met_following 65 (chunk 64 2 3 ∷ []) [] ≡ lacking
+  pub listed_full : met_following 130 (chunk 128 0 0 ∷ []) (chunk 128 1 1 ∷ []) ≡ meeting
+
 pub record Worked : Type 0 where
   pub space : WorkedSpans
   pub mappings : WorkedMappings
@@ -114,3 +147,4 @@ pub record Worked : Type 0 where
   pub inodes : WorkedInodes
   pub forks : WorkedForks
   pub trees : WorkedTrees
+  pub faults : WorkedFaults

@@ -1,4 +1,4 @@
-ghost use Rattle.fs_change.specs.Laws.{ChangePending, ChangesOneGroup, CursorPasses, DecidedStands, FirstEventKeeps, GiftDone, GiftPending, HoldBegins, HoldEnds, KeepsOtherInodes, KeepsOtherTrees, LeadsCompose, OneSet, SessionsBegin, SessionsCompose, ShadowGains, ShadowLoses, SpaceDerivedAgain, StepMoves, TakingDone, TakingPending};
+ghost use Rattle.fs_change.specs.Laws.{ChangePending, ChangesOneGroup, CursorPasses, DecidedStands, FirstEventKeeps, GiftDone, GiftPending, HoldBegins, HoldEnds, InodesDerivedAgain, KeepsOtherInodes, KeepsOtherTrees, LeadsCompose, MappingsDerivedAgain, OneSet, PieceGives, ReserveCountsAlike, SessionsBegin, SessionsCompose, ShadowGains, ShadowLoses, SpaceDerivedAgain, StepMoves, TakenKeepsChunks, TakingDone, TakingPending};
 ghost use Rattle.fs_change.specs.Worked.{Worked};
 
 /// A law: the state that an entry decides is one that the entry allows, where the counters are words:
@@ -72,6 +72,16 @@ pub fn hold_begins()
     ensures { HoldBegins }
 {}
 
+/// A law: a piece that the scan was given adds its mappings' owners, and no others.
+pub fn piece_gives()
+    ensures { PieceGives }
+{}
+
+/// A law: taking a free inode of a chunk leaves the chunks as they are.
+pub fn taken_keeps_chunks()
+    ensures { TakenKeepsChunks }
+{}
+
 /// A law: an inode that was given whole is as good as visited.
 pub fn hold_ends()
     ensures { HoldEnds }
@@ -101,6 +111,22 @@ pub fn keeps_other_inodes()
 /// state that it reaches.
 pub fn space_derived_again()
     ensures { SpaceDerivedAgain }
+{}
+
+/// A law: what a switch of the inode btrees puts in is derived again from the state that it reaches.
+pub fn inodes_derived_again()
+    ensures { InodesDerivedAgain }
+{}
+
+/// A law: so is what a switch of the reverse mappings puts in, where only chunks have blocks as inodes.
+pub fn mappings_derived_again()
+    ensures { MappingsDerivedAgain }
+{}
+
+/// A law: a block of a reserve counts alike as reserve, as a new tree's and as limbo, so what a switch puts in
+/// is what its need was counted for.
+pub fn reserve_counts_alike()
+    ensures { ReserveCountsAlike }
 {}
 
 /// Edits of small lists of records, worked: they pin what the definitions mean where no law does.

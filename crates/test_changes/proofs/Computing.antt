@@ -9,7 +9,7 @@ use Rattle.fs_derive.specs.Contradiction.{first_later, bad_tree, bad_chunk, is_w
 use Rattle.fs_derive.specs.Derive.{ino_of, fino_of, bno_of, cnt_of, refc_of, derive}
 use Rattle.fs_derive.specs.Faults.{wanted, faults}
 use Rattle.fs_derive.specs.Own.{comes_before, own, rmap_of}
-use Rattle.fs_state.specs.Apart.{ino_lists, rmap_lists, block_verifies, unit_verifies, has_unit, is_listed, is_chunk, is_free as in_spans}
+use Rattle.fs_state.specs.Apart.{ino_lists, rmap_lists, block_verifies, unit_verifies, has_unit, is_listed, is_chunk, is_inode, is_free as in_spans}
 use Rattle.fs_state.specs.Kinds.{form_of}
 use Rattle.geom.specs.Numbers.{split}
 use Rattle.rmap_recs.specs.Rmap.{is_key_before, is_shareable}
@@ -23,10 +23,11 @@ use Rattle.xref_scrub.specs.Merging.{merged}
 use Rattle.fs_change.specs.Chains.{pending, settled_forks, settled_own, is_quiet}
 use Rattle.fs_change.specs.Changes.{mapped, unmapped, converted, shared, rmap_done, ref_done, freed, taken, given, refilled, trimmed, marked, judged, reserved, released, reaped}
 use Rattle.fs_change.specs.Choice.{is_guarded, chosen_of, chosen, is_spare, spare_block, free_inode, chunk_run}
-use Rattle.fs_change.specs.Records.{take_span, give_span, give_mapping, take_mapping, count_at, is_stretch, set_count, turn_inode, follow_inode, add_mapping, take_piece}
+use Rattle.fs_change.specs.Records.{take_span, give_span, give_mapping, take_mapping, count_at, stretch, set_count, turn_inode, follow_inode, add_mapping, take_piece}
+use Rattle.fs_change.specs.Edited.{leaves_faults}
 use Rattle.fs_change.specs.Scan.{visited, shadow_of}
 use Rattle.fs_change.specs.Switch.{need_of, without_trees, lost_blocks, prepared, need, limbo_of, moved, switched}
 
 unfoldable pub computing : Unit {0}
-unfolding all_below width start leaves_for ordered_by_count is_free free_space chunks inodes_in inodes metadata_claims fork_claims claims first_later bad_tree bad_chunk is_written_data first_overlap first_contradiction first_bad_fork evidence ino_of fino_of bno_of cnt_of refc_of derive wanted faults comes_before own rmap_of ino_lists rmap_lists block_verifies unit_verifies has_unit is_listed is_chunk in_spans form_of split is_key_before is_shareable goes_on followers runs_of key_word is_fork_data word_goes_on put_rec runs_below is_before_by_count differences merged pending settled_forks settled_own is_quiet mapped unmapped converted shared rmap_done ref_done freed taken given refilled trimmed marked judged reserved released reaped is_guarded chosen_of chosen is_spare spare_block free_inode chunk_run take_span give_span give_mapping take_mapping count_at is_stretch set_count turn_inode follow_inode add_mapping take_piece visited shadow_of need_of without_trees lost_blocks prepared need limbo_of moved switched
+unfolding all_below width start leaves_for ordered_by_count is_free free_space chunks inodes_in inodes metadata_claims fork_claims claims first_later bad_tree bad_chunk is_written_data first_overlap first_contradiction first_bad_fork evidence ino_of fino_of bno_of cnt_of refc_of derive wanted faults comes_before own rmap_of ino_lists rmap_lists block_verifies unit_verifies has_unit is_listed is_chunk is_inode in_spans leaves_faults form_of split is_key_before is_shareable goes_on followers runs_of key_word is_fork_data word_goes_on put_rec runs_below is_before_by_count differences merged pending settled_forks settled_own is_quiet mapped unmapped converted shared rmap_done ref_done freed taken given refilled trimmed marked judged reserved released reaped is_guarded chosen_of chosen is_spare spare_block free_inode chunk_run take_span give_span give_mapping take_mapping count_at stretch set_count turn_inode follow_inode add_mapping take_piece visited shadow_of need_of without_trees lost_blocks prepared need limbo_of moved switched
 computing = tt

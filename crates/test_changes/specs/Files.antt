@@ -1,6 +1,5 @@
 -- What writers' entries make of small images: a file that grows, one that shrinks, pieces that are shared and made written.
-use Rattle.std.specs.Prelude.{◌≡◌, ◌+◌, ◌-◌, ◌^◌, ℕ, Bool, true, false, List, [], ◌∷◌, ◌++◌, Option, Some, None}
-use Rattle.dinode_core.specs.declared.mapping.Fork.TheVariants as forks
+use Rattle.std.specs.Prelude.{◌≡◌, ◌-◌, ◌^◌, ℕ, Bool, true, false, List, [], ◌∷◌, ◌++◌, Some, None}
 use Rattle.dinode_core.specs.declared.mapping.Mapping.{Mapping}
 use Rattle.fs_model.specs.declared.entry.Entry.{Entry}
 use Rattle.fs_model.specs.declared.entry.Entry.TheVariants as entries
@@ -12,10 +11,8 @@ use Rattle.fs_model.specs.declared.fault.Fault.TheVariants.{Extra}
 use Rattle.fs_model.specs.declared.«record».AnyRec.TheVariants as recs
 use Rattle.fs_model.specs.declared.unit.Trust.TheVariants.{Sick}
 use Rattle.fs_model.specs.declared.unit.Unit.TheVariants as units
-use Rattle.rmap_recs.specs.declared.records.RmapRec.{RmapRec}
 use Rattle.sblock.specs.declared.kind.Kind.TheVariants.{Bno, Cnt, Rmap, Refc, Ino}
-use Rattle.fs_state.specs.State.{State, ForkList}
-use Rattle.fs_derive.specs.Claims.{fork_of}
+use Rattle.fs_state.specs.State.{State}
 use Rattle.fs_derive.specs.Faults.{faults}
 use Rattle.fs_change.specs.Chains.{settled_forks, settled_own, is_quiet}
 use Rattle.fs_change.specs.Changes.{mapped, unmapped, converted, shared, rmap_done, ref_done, freed, taken, marked, data_of, give_owner}
@@ -25,7 +22,7 @@ use Rattle.fs_change.specs.Run.{Leads}
 use Rattle.fs_change.specs.Scan.{shadow_of}
 use Rattle.fs_state.specs.declared.intent.Intent.{Intent}
 use Rattle.fs_state.specs.declared.intent.IntentKind.TheVariants.{Free}
-use Rattle.test_states.specs.Images.{image_a, trees_a, tree_of, file_with, fork_with, counters_with, span, shared as counted, mapped as owned, chunk, mapping, fs, inodes, inobt, ag, refc}
+use Rattle.test_states.specs.Images.{image_a, trees_a, tree_of, file_with, fork_with, counters_with, span, shared as counted, mapped as owned, chunk, mapping, fs, inodes}
 use Rattle.test_states.specs.Rows.{shared_forty, unshared_forty, six_mappings}
 
 abbrev pub piece : ℕ → ℕ → ℕ → Piece

@@ -1,4 +1,6 @@
+pub mod Crashes
 pub mod Files
 pub mod Lists
 pub mod Refused
 pub mod Repairs
+pub mod Scans

@@ -1,8 +1,7 @@
 -- The free list, chunks, needs that grow, trees that are left, and what a session keeps.
-use Rattle.std.specs.Prelude.{◌≡◌, ◌+◌, ◌-◌, ◌*◌, ◌^◌, ℕ, Bool, true, false, List, [], ◌∷◌, ◌++◌, map, length, Option, Some, None}
+use Rattle.std.specs.Prelude.{◌≡◌, ◌+◌, ◌-◌, ◌*◌, ◌^◌, ℕ, true, [], ◌∷◌, ◌++◌, map, length, Some, None}
 use Rattle.bulk_load.specs.Shapes.{count}
 use Rattle.dinode_core.specs.declared.mapping.Mapping.{Mapping}
-use Rattle.fs_model.specs.declared.entry.Entry.{Entry}
 use Rattle.fs_model.specs.declared.entry.Entry.TheVariants as entries
 use Rattle.fs_model.specs.declared.fault.Cause.TheVariants.{Short}
 use Rattle.fs_model.specs.declared.fault.Fault.TheVariants.{Extra}
@@ -10,18 +9,19 @@ use Rattle.fs_model.specs.declared.«record».AnyRec.TheVariants as recs
 use Rattle.fs_model.specs.declared.unit.Trust.TheVariants.{Unknown, Sick}
 use Rattle.fs_model.specs.declared.unit.Unit.TheVariants as units
 use Rattle.sblock.specs.declared.kind.Kind.TheVariants.{Bno, Cnt, Rmap, Ino}
-use Rattle.fs_state.specs.State.{State, Owned}
+use Rattle.fs_state.specs.State.{State}
 use Rattle.fs_derive.specs.Derive.{bno_of, cnt_of}
 use Rattle.fs_derive.specs.Faults.{faults}
 use Rattle.fs_derive.specs.Lists.{numbers}
 use Rattle.fs_derive.specs.Own.{rmap_of}
-use Rattle.fs_change.specs.Changes.{mapped, taken, refilled, trimmed, reserved, released, reaped, rmap_done, marked}
+use Rattle.fs_change.specs.Changes.{mapped, taken, refilled, trimmed, reserved, rmap_done, marked}
 use Rattle.fs_change.specs.Choice.{extent, spare_block}
 use Rattle.fs_change.specs.Forget.{forgotten}
 use Rattle.fs_change.specs.Parts.{in_group, change_tree, records_in}
 use Rattle.fs_change.specs.Run.{Leads}
 use Rattle.fs_change.specs.Switch.{need, owned_by}
-use Rattle.test_states.specs.Images.{image_a, image, group_with, trees_a, tree_of, file_with, fork_with, no_forks, counters_with, cores_to, span, mapped as owned, chunk, mapping, ag, inobt, free_a}
+use Rattle.test_states.specs.Images.{image_a, image, group_with, trees_a, tree_of, file_with, fork_with, no_forks, counters_with, cores_to, span, mapped as owned, chunk, mapping, ag, inodes}
+use Rattle.test_states.specs.Rows.{six_mappings}
 use Rattle.test_changes.specs.Files.{piece, file_made, cut_off, first_of, rest_of, done}
 use Rattle.test_changes.specs.Repairs.{rmap_rebuilt}
 
@@ -33,16 +33,25 @@ short_list = in_group 0 (λ p. record p { free_list = 7 ∷ [] }) image_a
 abbrev pub filled : State
 filled = refilled (extent 0 32 15) short_list
 
+-- of 65 blocks all but the last 16 go, run by run
+abbrev pub long_list : State
+long_list = image (group_with (numbers 7 12 ++ numbers 32 53) (counters_with 61 176 171) (record trees_a {
+  bno = tree_of (1 ∷ []) (span 19 5 ∷ span 85 171 ∷ []);
+  cnt = tree_of (2 ∷ []) (span 19 5 ∷ span 85 171 ∷ []);
+  rmap = tree_of (5 ∷ []) (six_mappings ++ owned 24 8 inodes 0 ∷ owned 32 53 ag 0 ∷ []);
+})) (cores_to 194) no_forks
+
 abbrev pub cut_list : State
-cut_list = trimmed (extent 0 7 2) image_a
+cut_list = trimmed (extent 0 32 37) (trimmed (extent 0 7 12) long_list)
 
 abbrev pub ListMoves : Type 0
 ListMoves =
     Leads short_list (entries.Refilled (extent 0 32 15) ∷ []) filled
     × ((filled.group 0).free_list ≡ 7 ∷ numbers 32 15)
     × (records_in (filled.group 0) Bno ≡ span 19 5 ∷ span 47 209 ∷ [])
-    × Leads image_a (entries.Trimmed (extent 0 7 2) ∷ []) cut_list
-    × (records_in (cut_list.group 0) Bno ≡ span 7 2 ∷ free_a)
+    × Leads long_list (entries.Trimmed (extent 0 7 12) ∷ entries.Trimmed (extent 0 32 37) ∷ []) cut_list
+    × ((cut_list.group 0).free_list ≡ numbers 69 16)
+    × (records_in (cut_list.group 0) Bno ≡ span 7 17 ∷ span 32 37 ∷ span 85 171 ∷ [])
     × (faults cut_list 0 units.Rmap ≡ []) × (faults cut_list 0 units.Free ≡ [])
 
 -- ---- where no inode is free a chunk is made, at the lowest aligned run of eight free blocks

@@ -1,21 +1,24 @@
 -- Entries that say too much, or too little: no step has them.
-use Rattle.std.specs.Prelude.{◌≡◌, ◌==◌, ℕ, Bool, true, false, List, [], ◌∷◌, if◌then◌else◌}
+use Rattle.std.specs.Prelude.{◌≡◌, ℕ, false, List, [], ◌∷◌, ◌++◌, None}
 use Rattle.fs_model.specs.declared.entry.Entry.{Entry}
 use Rattle.fs_model.specs.declared.entry.Entry.TheVariants as entries
-use Rattle.fs_model.specs.declared.fault.Cause.TheVariants.{Missing}
+use Rattle.fs_model.specs.declared.fault.Cause.TheVariants.{Missing, Owner}
+use Rattle.fs_model.specs.declared.entry.SharedPiece.{SharedPiece}
+use Rattle.fs_model.specs.declared.unit.Trust.TheVariants.{Sick}
 use Rattle.fs_model.specs.declared.unit.Unit.TheVariants as units
 use Rattle.fs_model.specs.declared.verdict.Verdict.TheVariants.{Good}
 use Rattle.sblock.specs.declared.kind.Kind.{Kind}
-use Rattle.sblock.specs.declared.kind.Kind.TheVariants.{Bno, Rmap}
+use Rattle.sblock.specs.declared.kind.Kind.TheVariants.{Bno, Cnt, Rmap, Refc}
 use Rattle.fs_state.specs.State.{State}
-use Rattle.fs_change.specs.Changes.{judged, marked, give_owner}
+use Rattle.fs_change.specs.Changes.{judged, marked, taken, data_of, give_owner}
 use Rattle.fs_change.specs.Choice.{extent}
-use Rattle.fs_change.specs.Parts.{in_group}
+use Rattle.fs_change.specs.Parts.{in_group, change_tree, records_in}
+use Rattle.fs_change.specs.Run.{Leads}
 use Rattle.fs_change.specs.Step.{Step}
-use Rattle.test_states.specs.Images.{image_a, inodes}
-use Rattle.test_states.specs.Rows.{shared_forty, unread_free, on_heads, two}
+use Rattle.test_states.specs.Images.{image_a, tree_of, shared as counted, mapped, free_a, inodes}
+use Rattle.test_states.specs.Rows.{shared_forty, unread_free, on_heads, six_mappings, two}
 use Rattle.test_changes.specs.Files.{piece, file_made, with_owner}
-use Rattle.test_changes.specs.Repairs.{free_rebuilt, rmap_reserved}
+use Rattle.test_changes.specs.Repairs.{free_rebuilt}
 
 -- no state comes after this entry
 abbrev pub NoneAfter : State → Entry → Type 0
@@ -48,9 +51,32 @@ NotToBeSwitched =
     × NoneAfter on_heads (entries.Switched 0 units.Rmap 7 0)
     × NoneAfter unread_free (entries.Reserved 0 units.Free 8 false)
 
--- a run of free space that reverse mappings give to somebody isn't taken
+-- a block with so many owners isn't shared once more
+abbrev pub most_shared : State
+most_shared = in_group 0 (λ p. change_tree Refc (λ i. tree_of (6 ∷ []) (counted 40 1 4294967200 ∷ [])) p) shared_forty
+
+abbrev pub third_place : ℕ → SharedPiece
+third_place offset = record { writer = 1; chain = 0; from = 195; from_offset = 0; to = 195; to_offset = offset; group = 0; block = 40; count = 1 }
+
+abbrev pub NotToBeShared : Type 0
+NotToBeShared = NoneAfter most_shared (entries.Shared (third_place 9))
+
+-- a run of free space that reverse mappings give to somebody isn't taken: both indexes are marked, and the file stays empty
 abbrev pub owned_space : State
 owned_space = in_group 0 (give_owner [] inodes (extent 0 19 5)) file_made
 
 abbrev pub NotToBeTaken : Type 0
 NotToBeTaken = NoneAfter owned_space (entries.Mapped (piece 0 19 3))
+
+abbrev pub owned_before : State
+owned_before = in_group 0 (λ p. change_tree Rmap (λ i. tree_of (5 ∷ []) (six_mappings ++ mapped 19 5 inodes 0 ∷ mapped 24 8 inodes 0 ∷ [])) p) image_a
+
+abbrev pub both_marked : State
+both_marked = marked 0 Cnt (marked 0 Bno (taken 0 195 195 7 None owned_before))
+
+abbrev pub OwnedSpace : Type 0
+OwnedSpace =
+    Leads owned_before (entries.Taken 1 195 7 None ∷ entries.Marked 0 Bno Owner ∷ entries.Marked 0 Cnt Owner ∷ []) both_marked
+    × (data_of both_marked 195 ≡ [])
+    × (((both_marked.group 0).tree Bno).trust ≡ Sick) × (((both_marked.group 0).tree Cnt).trust ≡ Sick)
+    × (records_in (both_marked.group 0) Bno ≡ free_a)

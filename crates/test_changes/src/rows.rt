@@ -1,6 +1,8 @@
+ghost use Rattle.test_changes.specs.Crashes.{CutReserved, CutRun, CutSwitched, EitherRoot, GivenUpSpace, GivenUpWhole};
+ghost use Rattle.test_changes.specs.Scans.{BehindCursor, HeldInode};
 ghost use Rattle.test_changes.specs.Files.{ConvertedPiece, CutUnmapping, GrowingFile, MappedHalfway, OwnerFound, SharedPieceRow, ShrinkingFile};
 ghost use Rattle.test_changes.specs.Lists.{ChunkMade, Forgotten, LeftAlone, ListMoves, NeedGrows};
-ghost use Rattle.test_changes.specs.Refused.{NotToBeFreed, NotToBeSwitched, NotToBeTaken, NothingToDo, SayTooMuch};
+ghost use Rattle.test_changes.specs.Refused.{NotToBeFreed, NotToBeShared, NotToBeSwitched, NotToBeTaken, NothingToDo, OwnedSpace, SayTooMuch};
 ghost use Rattle.test_changes.specs.Repairs.{NoBlockLeft, RebuiltFreeSpace, RebuiltInodes, RebuiltMappings, TreeSizes};
 
 /// A file is made, and grows by six blocks and by one.
@@ -111,4 +113,54 @@ pub fn forgotten_limbo()
 /// A run that has an owner isn't taken, though free space lists it.
 pub fn not_to_be_taken()
     ensures { NotToBeTaken }
+{}
+
+/// A file is mapped while a scan waits for its inode: the rebuilt tree has the mapping once.
+pub fn held_inode()
+    ensures { HeldInode }
+{}
+
+/// An inode is taken and mapped behind a scan's cursor.
+pub fn behind_cursor()
+    ensures { BehindCursor }
+{}
+
+/// A unit that contradicts itself is given up, and nothing is written.
+pub fn given_up_whole()
+    ensures { GivenUpWhole }
+{}
+
+/// A crash in a switch leaves the old root or the new one.
+pub fn either_root()
+    ensures { EitherRoot }
+{}
+
+/// A rebuild that was cut off after its first block is repaired by the next session.
+pub fn cut_reserved()
+    ensures { CutReserved }
+{}
+
+/// So is one that was cut off after its switch; after reaping nothing is left to do.
+pub fn cut_switched()
+    ensures { CutSwitched }
+{}
+
+/// A block whose count is at its limit isn't shared.
+pub fn not_to_be_shared()
+    ensures { NotToBeShared }
+{}
+
+/// An owner of free space is found: both indexes are marked, and nothing else changes.
+pub fn owned_space()
+    ensures { OwnedSpace }
+{}
+
+/// A crash after an unmapping's fork: the next repair frees its run.
+pub fn cut_run()
+    ensures { CutRun }
+{}
+
+/// A rebuild without a block to take is given up.
+pub fn given_up_space()
+    ensures { GivenUpSpace }
 {}

@@ -1,13 +1,10 @@
-use Rattle.std.specs.Prelude.{refl, [], ◌∷◌, true, false, Some, None}
+use Rattle.std.specs.Prelude.{refl, [], true, Some}
 use Rattle.test_changes.proofs.Computing.{computing}
 use Rattle.test_changes.proofs.Stands.{stands}
 use Rattle.fs_model.specs.declared.entry.Entry.TheVariants as entries
-use Rattle.fs_change.specs.Choice.{extent}
-use Rattle.std.proofs.lemmas.Bool.{ltb-true}
-use Rattle.test_states.specs.Images.{image_a, span}
-use Rattle.test_changes.specs.Lists.{short_list, filled, cut_list, all_taken, with_chunk, before_step, left_alone, and_marked}
+use Rattle.test_changes.specs.Lists.{all_taken, with_chunk}
 use Rattle.test_changes.proofs.rows.chunk_made.Goals as goal
 
 pub returns : goal.returns
 unfolding computing
-returns c = (([], with_chunk, stands all_taken with_chunk (entries.Taken 1 256 5 (Some 32)) (256, (λ g. true, refl, refl, refl, (span 32 224, refl, refl), refl), refl, refl) refl, tt, refl), refl, refl, refl, refl, refl)
+returns c = (([], with_chunk, stands all_taken with_chunk (entries.Taken 1 256 5 (Some 32)) (256, (λ g. true, refl, refl, refl, refl), refl, refl) refl, tt, refl), refl, refl, refl, refl, refl)

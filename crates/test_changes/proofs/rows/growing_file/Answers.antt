@@ -1,12 +1,11 @@
-use Rattle.std.specs.Prelude.{refl, [], ◌∷◌, true, false, Some, None}
+use Rattle.std.specs.Prelude.{refl, [], true, None}
 use Rattle.test_changes.proofs.Computing.{computing}
 use Rattle.test_changes.proofs.Stands.{stands, first, mapping_step}
 use Rattle.fs_model.specs.declared.entry.Entry.TheVariants as entries
-use Rattle.fs_change.specs.Changes.{mapped, unmapped, converted, shared, taken, marked}
+use Rattle.fs_change.specs.Changes.{mapped}
 use Rattle.std.proofs.lemmas.Bool.{ltb-true}
-use Rattle.test_changes.specs.Files.{piece, first_of, rest_of, file_made, grown_six, grown_seven, lost_one, lost_both, all_freed, with_owner, kept_block, unwritten_file, half_written, second_place, shared_twice, step_mapping, step_count, step_free}
-use Rattle.test_states.specs.Images.{image_a, span}
-use Rattle.test_states.specs.Rows.{shared_forty, unshared_forty}
+use Rattle.test_changes.specs.Files.{piece, first_of, rest_of, file_made, grown_six, grown_seven}
+use Rattle.test_states.specs.Images.{image_a}
 use Rattle.test_changes.proofs.rows.growing_file.Goals as goal
 
 pub returns : goal.returns
@@ -15,12 +14,12 @@ returns c = (
   (
     [],
     file_made,
-    stands image_a file_made (entries.Taken 1 195 7 None) (195, (λ g. true, refl, (0, ltb-true 0 1 refl, refl), refl), refl, refl) refl,
+    stands image_a file_made (entries.Taken 1 195 7 None) (195, (λ g. true, refl, (0, ltb-true 0 1 refl, refl), refl, refl), refl, refl) refl,
     tt,
     (
       [],
       mapped (piece 0 32 6) file_made,
-      stands (file_made) (mapped (piece 0 32 6) (file_made)) (entries.Mapped (piece 0 32 6)) (record { some = ltb-true 0 6 refl; first = first (file_made) 195 refl refl; unmapped = refl; chosen = (λ g. true, 6, refl); listed = (span 32 224, refl, refl); unowned = refl }, refl) refl,
+      stands (file_made) (mapped (piece 0 32 6) (file_made)) (entries.Mapped (piece 0 32 6)) (record { some = ltb-true 0 6 refl; first = first (file_made) 195 refl refl refl refl refl; unmapped = refl; chosen = (λ g. true, 6, refl); unowned = refl }, refl) refl,
       tt,
       (
         [],
@@ -30,7 +29,7 @@ returns c = (
         (
           [],
           mapped (piece 6 19 1) grown_six,
-          stands (grown_six) (mapped (piece 6 19 1) (grown_six)) (entries.Mapped (piece 6 19 1)) (record { some = ltb-true 0 1 refl; first = first (grown_six) 195 refl refl; unmapped = refl; chosen = (λ g. true, 1, refl); listed = (span 19 5, refl, refl); unowned = refl }, refl) refl,
+          stands (grown_six) (mapped (piece 6 19 1) (grown_six)) (entries.Mapped (piece 6 19 1)) (record { some = ltb-true 0 1 refl; first = first (grown_six) 195 refl refl refl refl refl; unmapped = refl; chosen = (λ g. true, 1, refl); unowned = refl }, refl) refl,
           tt,
           (
             [],

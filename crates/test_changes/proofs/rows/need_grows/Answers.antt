@@ -1,4 +1,4 @@
-use Rattle.std.specs.Prelude.{refl, [], ◌∷◌, true, false, Some, None}
+use Rattle.std.specs.Prelude.{refl}
 use Rattle.test_changes.proofs.Computing.{computing}
 use Rattle.bulk_load.specs.Shapes.{count, items, share}
 use Rattle.test_changes.proofs.rows.need_grows.Goals as goal

@@ -1,8 +1,8 @@
-use Rattle.std.specs.Prelude.{refl, [], ◌∷◌, true, false, Some, None}
+use Rattle.std.specs.Prelude.{false, Some, None}
 use Rattle.test_changes.proofs.Computing.{computing}
-use Rattle.std.proofs.Common.{ap, sym, ◌∙◌, ◌≡◌, ℕ, List, Bool, is_some, Option, length, subst}
+use Rattle.std.proofs.Common.{ap, ℕ, Bool, is_some, Option}
 use Rattle.std.proofs.lemmas.Bool.{true≢false}
-use Rattle.std.proofs.Common.{arith, ◌<◌, ◌≤◌}
+use Rattle.std.proofs.Common.{arith, ◌≤◌}
 use Rattle.test_changes.proofs.rows.not_to_be_switched.Goals as goal
 use Rattle.std.specs.Prelude.{◌==◌}
 
@@ -15,4 +15,4 @@ no_two h = omega arith
 
 pub returns : goal.returns
 unfolding computing
-returns c = (λ left b s. no_two s.row.0.enough, λ left b s. true≢false (ap is_some s.row.0.sound), λ left b s. true≢false (ap is_seven s.row.0.0))
+returns c = (λ left b s. no_two s.row.1.enough, λ left b s. true≢false (ap is_some s.row.1.sound), λ left b s. true≢false (ap is_seven s.row.0.1))

@@ -1,6 +1,4 @@
-use Rattle.std.specs.Prelude.{refl, [], ◌∷◌, true, false, Some, None}
 use Rattle.test_changes.proofs.Computing.{computing}
-use Rattle.std.proofs.Common.{ap, sym, ◌≡◌}
 use Rattle.std.proofs.lemmas.Bool.{true≢false}
 use Rattle.test_changes.proofs.rows.not_to_be_taken.Goals as goal
 

@@ -1,17 +1,16 @@
-use Rattle.std.specs.Prelude.{refl, [], ◌∷◌, true, false, Some, None}
+use Rattle.std.specs.Prelude.{refl, [], ◌∷◌}
 use Rattle.test_changes.proofs.Computing.{computing}
 use Rattle.test_changes.proofs.Stands.{reserve_step, switch_step, reap_step, fault_step, verdict_step}
-use Rattle.test_changes.specs.Repairs.{free_reserved, free_rebuilt, free_reaped, rmap_reserved, rmap_rebuilt, rmap_reaped, ino_reserved, ino_rebuilt, ino_reaped}
-use Rattle.fs_change.specs.Changes.{marked, reserved}
+use Rattle.test_changes.specs.Repairs.{in_blocks, rmap_reserved, rmap_rebuilt, rmap_reaped}
+use Rattle.fs_change.specs.Changes.{marked}
 use Rattle.fs_change.specs.Switch.{switched}
-use Rattle.fs_model.specs.declared.fault.Fault.TheVariants.{Block, Missing}
+use Rattle.fs_model.specs.declared.fault.Fault.TheVariants.{Missing}
 use Rattle.fs_model.specs.declared.«record».AnyRec.TheVariants as recs
 use Rattle.fs_model.specs.declared.unit.Unit.TheVariants as units
 use Rattle.fs_model.specs.declared.verdict.Verdict.TheVariants.{Rebuilt}
-use Rattle.sblock.specs.declared.block.BlockFault.TheVariants.{Checksum}
-use Rattle.sblock.specs.declared.kind.Kind.TheVariants.{Bno, Rmap, Ino}
-use Rattle.test_states.specs.Images.{mapped as owned, chunk, ag, inobt, inodes, mask}
-use Rattle.test_states.specs.Rows.{unread_free, short_rmap, short_ino}
+use Rattle.sblock.specs.declared.kind.Kind.TheVariants.{Rmap}
+use Rattle.test_states.specs.Images.{mapped as owned, inodes}
+use Rattle.test_states.specs.Rows.{short_rmap}
 use Rattle.test_changes.proofs.rows.rebuilt_mappings.Goals as goal
 
 pub returns : goal.returns
@@ -30,18 +29,18 @@ returns c = (
       tt,
       (
         [],
-        switched rmap_reserved 0 units.Rmap,
-        switch_step rmap_reserved units.Rmap 7 0 refl refl refl (refl, refl) refl,
+        switched rmap_reserved 0 units.Rmap (in_blocks (7 ∷ []) []),
+        switch_step rmap_reserved units.Rmap (in_blocks (7 ∷ []) []) 7 0 refl refl refl ((record { same = λ b. refl; root = refl }), tt) (refl, refl) refl,
         tt,
         (
           [],
           rmap_rebuilt,
-          verdict_step (switched rmap_reserved 0 units.Rmap) units.Rmap Rebuilt refl,
+          verdict_step (switched rmap_reserved 0 units.Rmap (in_blocks (7 ∷ []) [])) units.Rmap Rebuilt refl,
           tt,
           (
             [],
             rmap_reaped,
-            reap_step rmap_rebuilt ag 5 1 refl refl refl,
+            reap_step rmap_rebuilt 5 1 refl refl refl refl,
             tt,
             refl,
           ),

@@ -1,6 +1,6 @@
-use Rattle.std.specs.Prelude.{refl, [], ◌∷◌, true, false, Some, None}
+use Rattle.std.specs.Prelude.{[], ◌∷◌, true, false}
 use Rattle.test_changes.proofs.Computing.{computing}
-use Rattle.std.proofs.Common.{ap, sym, ◌∙◌, ◌≡◌, ℕ, List, Bool, is_some, Option, length, subst}
+use Rattle.std.proofs.Common.{ap, ◌∙◌, ◌≡◌, ℕ, List, Bool}
 use Rattle.std.proofs.lemmas.Bool.{true≢false}
 use Rattle.std.proofs.Common.{arith}
 use Rattle.test_changes.proofs.rows.say_too_much.Goals as goal

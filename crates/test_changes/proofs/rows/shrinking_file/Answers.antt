@@ -1,12 +1,10 @@
-use Rattle.std.specs.Prelude.{refl, [], ◌∷◌, true, false, Some, None}
+use Rattle.std.specs.Prelude.{refl, [], false}
 use Rattle.test_changes.proofs.Computing.{computing}
 use Rattle.test_changes.proofs.Stands.{stands, first, changes, mapping_step, count_step, free_step}
 use Rattle.fs_model.specs.declared.entry.Entry.TheVariants as entries
-use Rattle.fs_change.specs.Changes.{mapped, unmapped, converted, shared, taken, marked}
-use Rattle.std.proofs.lemmas.Bool.{ltb-true}
-use Rattle.test_changes.specs.Files.{piece, first_of, rest_of, file_made, grown_six, grown_seven, lost_one, lost_both, all_freed, with_owner, kept_block, unwritten_file, half_written, second_place, shared_twice, step_mapping, step_count, step_free}
-use Rattle.test_states.specs.Images.{image_a, span}
-use Rattle.test_states.specs.Rows.{shared_forty, unshared_forty}
+use Rattle.fs_change.specs.Changes.{unmapped}
+use Rattle.test_changes.specs.Files.{piece, first_of, rest_of, lost_one, lost_both, all_freed, step_mapping}
+use Rattle.test_states.specs.Rows.{shared_forty}
 use Rattle.test_changes.proofs.rows.shrinking_file.Goals as goal
 
 pub returns : goal.returns
@@ -15,7 +13,7 @@ returns c = (
   (
     [],
     unmapped (piece 5 40 1) shared_forty,
-    stands (shared_forty) (unmapped (piece 5 40 1) (shared_forty)) (entries.Unmapped (piece 5 40 1)) (changes (shared_forty) (piece 5 40 1) refl refl (first (shared_forty) 195 refl refl) refl, refl) refl,
+    stands (shared_forty) (unmapped (piece 5 40 1) (shared_forty)) (entries.Unmapped (piece 5 40 1)) (changes (shared_forty) (piece 5 40 1) refl refl (first (shared_forty) 195 refl refl refl refl refl) refl, refl) refl,
     tt,
     (
       [],
@@ -37,7 +35,7 @@ returns c = (
   (
     [],
     unmapped (piece 0 40 1) lost_one,
-    stands (lost_one) (unmapped (piece 0 40 1) (lost_one)) (entries.Unmapped (piece 0 40 1)) (changes (lost_one) (piece 0 40 1) refl refl (first (lost_one) 195 refl refl) refl, refl) refl,
+    stands (lost_one) (unmapped (piece 0 40 1) (lost_one)) (entries.Unmapped (piece 0 40 1)) (changes (lost_one) (piece 0 40 1) refl refl (first (lost_one) 195 refl refl refl refl refl) refl, refl) refl,
     tt,
     (
       [],

@@ -1,4 +1,4 @@
-use Rattle.std.specs.Prelude.{refl, [], ◌∷◌, true, false, Some, None}
+use Rattle.std.specs.Prelude.{refl}
 use Rattle.test_changes.proofs.Computing.{computing}
 use Rattle.test_changes.proofs.rows.tree_sizes.Goals as goal
 

@@ -1,0 +1,136 @@
+-- Why an index is marked: what an edit of it met, in an entry that stands in the journal or in one that wasn't made; or
+-- what a choice met (Online Fsck Design, "Eventual Consistency").
+use Rattle.std.specs.Prelude.{◌≡◌, ◌⊎◌, ℕ, ◌*◌, ◌/◌, ◌<◌, ◌&&◌, nat_lt, Bool, true, false, List, [], ◌∷◌, ◌++◌, map, find, length, Some, if◌then◌else◌}
+use Rattle.std.specs.List.{list_any, list_all}
+use Rattle.fs_model.specs.declared.entry.Entry.{Entry}
+use Rattle.fs_model.specs.declared.entry.Entry.TheVariants as entries
+use Rattle.fs_model.specs.declared.entry.Extent.{Extent}
+use Rattle.fs_model.specs.declared.fault.Cause.{Cause}
+use Rattle.fs_model.specs.declared.fault.Cause.TheVariants as causes
+use Rattle.geom.specs.Layout.{group_len_of}
+use Rattle.sblock.specs.declared.kind.Kind.{Kind}
+use Rattle.sblock.specs.declared.kind.Kind.TheVariants.{Bno, Cnt, Rmap, Refc, Ino, Fino}
+use Rattle.tree_defs.specs.Lists.{is_in}
+use Rattle.fs_state.specs.Apart.{unit_verifies}
+use Rattle.fs_state.specs.Group.{is_among}
+use Rattle.fs_state.specs.State.{State, Owned, is_readable}
+use Rattle.fs_derive.specs.Derive.{is_free}
+use Rattle.fs_derive.specs.Kinds.{all_kinds}
+use Rattle.fs_derive.specs.Lists.{numbers}
+use Rattle.fs_change.specs.Choice.{extent, chosen_of, is_free_unit, free_inode, inode_of}
+use Rattle.fs_change.specs.Edited.{group_of_inode, group_of_entry, edited_in, met_by}
+use Rattle.fs_change.specs.Loose.{tree_blocks, pool_of, met_by_moves}
+use Rattle.fs_change.specs.Met.{Met, and_then, met_moving}
+use Rattle.fs_change.specs.Parts.{sick_in, records_in}
+use Rattle.fs_change.specs.Step.{MayMap, MayGive, MayRefill, MayTrim, MayReserve, IsTaken, HasSame, is_owned}
+
+-- the cause says what the edit met. A list that is too short, or a batch that is too large, is met between an entry's
+-- edits, where no state stands: of these numbers no more is said than that they are too small, or too great. In a tree
+-- that can be read no block fails.
+abbrev pub Explains : State → ℕ → Kind → Met → Cause → Type 0
+Explains a g k m causes.Missing = m.lacks ≡ true
+Explains a g k m causes.Overlap = m.meets ≡ true
+Explains a g k m (causes.Short have need) = have < need
+Explains a g k m (causes.Large n) = (160 < n) × (list_any (λ j. nat_lt 24 (length (tree_blocks (a.group g) j))) all_kinds ≡ true)
+Explains a g k m (causes.Block block fault) = is_readable ((a.group g).tree k).reading ≡ false
+Explains a g k m causes.Owner = ⊥
+
+-- ---- marks behind an entry
+
+-- why a mark is due: the tree was left, or an owner was found
+pub data Why : Type 0 where
+  EditMet : (met : Met) → Why
+  FoundOwner : Why
+
+-- a mark that has to stand next, and the state before its entry
+pub record Due : Type 0 where
+  pub before : State
+  pub group : ℕ
+  pub kind : Kind
+  pub why : Why
+
+abbrev pub IsReason : State → ℕ → Kind → Why → Cause → Type 0
+IsReason a g k (EditMet m) cause = Explains a g k m cause
+IsReason a g k FoundOwner causes.Owner = Unit {0}
+IsReason a g k FoundOwner cause = ⊥
+
+abbrev pub IsDue : Due → Entry → Type 0
+IsDue d (entries.Marked g k cause) = (g ≡ d.group) × (k ≡ d.kind) × IsReason d.before d.group d.kind d.why cause
+IsDue d e = ⊥
+
+-- what the edits of a tree met in an entry from a that decided x and led to b: reverse mappings also follow moved blocks
+abbrev pub met_in : State → State → State → Entry → Kind → Met
+met_in a x b e Rmap = and_then (met_by a e Rmap) (met_by_moves (x.group (group_of_entry a e)) (b.group (group_of_entry a e)))
+met_in a x b e k = met_by a e k
+
+-- a run is kept because it has an owner: reference counts are wrong. And an owner of a run that was to be taken shows that
+-- both indexes of free space are.
+abbrev pub owners_due : State → Entry → List Due
+owners_due a (entries.Freed c g b n true) = if sick_in (a.group g) Rmap then [] else record { before = a; group = g; kind = Refc; why = FoundOwner } ∷ []
+owners_due a (entries.Marked g Bno causes.Owner) = record { before = a; group = g; kind = Cnt; why = FoundOwner } ∷ []
+owners_due a e = []
+
+abbrev pub dues : State → List Kind → Entry → State → State → List Due
+dues a left e x b = map (λ k. record { before = a; group = group_of_entry a e; kind = k; why = EditMet (met_in a x b e k) }) left ++ owners_due a e
+
+-- ---- marks by themselves
+
+-- the entry would be made, but for its edits
+abbrev pub IsWanted : State → Entry → Type 0
+IsWanted a (entries.Mapped m) = MayMap a m
+IsWanted a (entries.Taken writer ino uid chunk) = (i : ℕ) × IsTaken a (group_of_inode a ino) i chunk × (ino ≡ inode_of a (group_of_inode a ino) i)
+IsWanted a (entries.Given writer ino) = MayGive a ino
+IsWanted a (entries.Refilled e) = MayRefill a e
+IsWanted a (entries.Trimmed e) = MayTrim a e
+IsWanted a (entries.Reserved g unit b true) = MayReserve a [] g unit b true
+IsWanted a e = ⊥
+
+-- its edit of this tree meets what the cause says
+pub record IsStopped (a : State) (g : ℕ) (k : Kind) (cause : Cause) : Type 0 where
+  pub entry : Entry
+  pub wanted : IsWanted a entry
+  pub group : group_of_entry a entry ≡ g
+  pub edits : is_among k (edited_in a [] entry) ≡ true
+  pub explains : Explains a g k (met_by a entry k) cause
+
+-- or reverse mappings couldn't follow blocks that it would have moved
+pub record IsStuck (a : State) (g : ℕ) (cause : Cause) : Type 0 where
+  pub old : List Owned
+  pub new : List Owned
+  pub pool : list_all (λ o. is_in o.block (pool_of (a.group g))) (old ++ new) ≡ true
+  pub explains : Explains a g Rmap (met_moving old new (records_in (a.group g) Rmap)) cause
+
+-- of a run that would be taken, for some wanted count or for a chunk, reverse mappings know an owner
+pub record IsOthers (a : State) (g : ℕ) : Type 0 where
+  pub run : Extent
+  pub chosen : ((count : ℕ) × (chosen_of a count (g ∷ []) ≡ Some run)) ⊎ ((u : ℕ) × (find (is_free_unit (records_in (a.group g) Bno)) (numbers 0 (group_len_of a.geometry g / 8)) ≡ Some u) × (run ≡ extent g (8 * u) 8))
+  pub owned : is_owned a run ≡ true
+
+-- the inode that would be taken is allocated, or a core of its chunk doesn't verify
+pub record IsNotFree (a : State) (g : ℕ) : Type 0 where
+  pub gates : ℕ → Bool
+  pub inode : ℕ
+  pub chosen : free_inode a gates ≡ Some (g, inode)
+  pub same : HasSame (records_in (a.group g) Ino) (records_in (a.group g) Fino)
+  pub found : (unit_verifies a.geometry a.core g (inode / 64) && is_free (a.core (inode_of a g inode))) ≡ false
+
+-- the inode btree hasn't the first record of free inodes
+pub record LacksFirst (a : State) (g : ℕ) : Type 0 where
+  pub gates : ℕ → Bool
+  pub inode : ℕ
+  pub chosen : free_inode a gates ≡ Some (g, inode)
+  pub other : HasSame (records_in (a.group g) Ino) (records_in (a.group g) Fino) → ⊥
+
+-- an event that makes no entry met it
+abbrev pub IsLone : State → ℕ → Kind → Cause → Type 0
+IsLone a g Bno causes.Owner = IsOthers a g
+IsLone a g Ino causes.Owner = IsNotFree a g
+IsLone a g k causes.Owner = ⊥
+IsLone a g k (causes.Block block fault) = is_readable ((a.group g).tree k).reading ≡ false
+IsLone a g Ino causes.Missing = LacksFirst a g ⊎ IsStopped a g Ino causes.Missing
+IsLone a g Rmap cause = IsStopped a g Rmap cause ⊎ IsStuck a g cause
+IsLone a g k cause = IsStopped a g k cause
+
+abbrev pub MayStandAlone : State → Entry → Type 0
+MayStandAlone a (entries.Marked g k cause) = IsLone a g k cause
+MayStandAlone a e = Unit {0}
