@@ -1,0 +1,8 @@
+ghost use Rattle.std.specs.Prelude.{ℕ, List};
+ghost use Rattle.tree_defs.specs.declared.site.Site.{Site};
+ghost use Rattle.inode_scan.specs.Search.{FindsFirst};
+
+/// A law: in a readable tree a search finds the lowest allocated inode of the range.
+pub fn finds_first()
+    ensures { (site : Site) (m : ℕ → List ℕ) (from end : ℕ) → FindsFirst site m from end }
+{}
