@@ -20,14 +20,13 @@ module _ (from end : ℕ) (r : InoRec) where
   unfolding first_slot
   slot_nowhere s le = let e : 64 - s ≡ 0 = omega (arith, le) in rw e refl
 
-  pub sought_below : (s : ℕ) → is_sought from end r s ≡ true → r.startino + s < end
+  pub sought_in : (s : ℕ) → is_sought from end r s ≡ true → (from ≤ r.startino + s) × (r.startino + s < end)
   unfolding is_sought
-  sought_below s h = below_by (nat_le from (r.startino + s)) (r.startino + s) (not (is_free r s)) h
+  sought_in s h = in_range (r.startino + s) (not (is_free r s)) h
     where
-      below_by : (a : Bool) (n : ℕ) (c : Bool) → (a && nat_lt n end && c) ≡ true → n < end
-      below_by true n true h = grind (arith, nat_tests)
-      below_by true n false h = grind (arith, nat_tests)
-      below_by false n c h = absurd (false≢true h)
+      in_range : (n : ℕ) (c : Bool) → (nat_le from n && nat_lt n end && c) ≡ true → (from ≤ n) × (n < end)
+      in_range n true h = (grind (arith, nat_tests), grind (arith, nat_tests))
+      in_range n false h = (grind (arith, nat_tests), grind (arith, nat_tests))
 
 module _ (from end : ℕ) (item : ℕ → InoRec) (n i : ℕ) where
   more : i < n → items_from item (n - i) i ≡ item i ∷ items_from item (n - (i + 1)) (i + 1)

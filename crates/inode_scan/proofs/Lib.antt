@@ -1,3 +1,4 @@
 pub mod ChunkLemmas
+pub mod CursorLemmas
 pub mod FirstLaw
 pub mod SearchLemmas

@@ -35,7 +35,7 @@ fn is_sought(rec: &InoRec, slot: u32, from: u32, end: u32) -> bool
 /// below `end`.
 pub fn first_of(rec: &InoRec, from: u32, end: u32) -> Option<u32>
     ensures value { result ≡ first_is from end rec.now }
-    ensures below { IfSome result (λ n. n < end) }
+    ensures range { IfSome result (λ n. (from ≤ n) × (n < end)) }
 {
     for slot in 0..CHUNK_INODES {
         if is_sought(rec, slot, from, end) {
@@ -49,7 +49,7 @@ pub fn first_of(rec: &InoRec, from: u32, end: u32) -> Option<u32>
 pub fn first_in_leaf(block: &Block, from: u32, end: u32) -> Option<u32>
     requires { numrecs block.now.bytes ≤ leaf_most_of Ino }
     ensures value { result ≡ first_in from end (records_of ino_form block.now.bytes) }
-    ensures below { IfSome result (λ n. n < end) }
+    ensures range { IfSome result (λ n. (from ≤ n) × (n < end)) }
 {
     let area = data_area(block);
     for i in 0..count_of(block) {

@@ -26,7 +26,7 @@ fn search_node<B: Blocks>(
     requires inside { p < site.now.bounds.length }
     requires here { B.place blocks.old ≡ site.now }
     ensures exact { (m : ℕ → List ℕ) → B.told blocks.old ≡ Some m → Meets (search_below site.now m from end level root p) result }
-    ensures below { IfOk result (λ found. IfSome found (λ n. n < end)) }
+    ensures range { IfOk result (λ found. IfSome found (λ n. (from ≤ n) × (n < end))) }
     ensures no_memory { IfErr result IsNoMemory }
     ensures reading { Reads B.Blocks blocks.old blocks.new }
     ensures cause { HasCause is_failed (B.faults blocks.old) (B.faults blocks.new) result }
@@ -64,7 +64,7 @@ pub fn search_site<B: Blocks>(
 ) -> Result<Option<u32>, WalkFault>
     requires here { B.place blocks.old ≡ site.now }
     ensures exact { (m : ℕ → List ℕ) → B.told blocks.old ≡ Some m → Meets (search_in site.now m from end tree.now.root tree.now.levels) result }
-    ensures below { IfOk result (λ found. IfSome found (λ n. n < end)) }
+    ensures range { IfOk result (λ found. IfSome found (λ n. (from ≤ n) × (n < end))) }
     ensures no_memory { IfErr result IsNoMemory }
     ensures reading { Reads B.Blocks blocks.old blocks.new }
     ensures cause { HasCause is_failed (B.faults blocks.old) (B.faults blocks.new) result }

@@ -1,0 +1,45 @@
+use Rattle.std.proofs.Common.{Ok, arith, refl, sym, ap, ◌∙◌}
+use Rattle.blk_device.specs.ReadingLaws.{read_on}
+use Rattle.blk_device.specs.declared.device.Region.TheVariants.{Image}
+use Rattle.geom.specs.Places.{layout}
+use Rattle.tree_blocks.proofs.ReadingLemmas.{told, each_told}
+use Rattle.inode_scan.proofs.CursorLemmas.{trees_found, trees_none, trees_fault, no_trees}
+use Rattle.inode_scan.proofs.cursor.Cursor.next_inode.Goals as goal
+
+pub returns-in-Ok-Some-clause-exact : goal.returns-in-Ok-Some-clause-exact
+returns-in-Ok-Some-clause-exact g c =
+    told (g.D.Device.content c.args.dev.now) _
+    (λ m e. sym (c.loop-tree.invariant.goes_on m e)
+    ∙ trees_found (layout c.args.geo.now) (m Image) c.args.self.now.at c.in-Some.tree.now c.loop-tree.rest.now c.in-Some.later.now c.in-Some.ensures.cases.0 c.in-Ok-Some.ino
+    (each_told (g.D.Device.content c.loop-tree.dev) _ m c.in-Ok-Some.ensures.exact (c.loop-tree.invariant.reading.same ∙ e) ∙ ap Ok c.in-Ok-Some.field-0-is))
+
+pub returns-in-Ok-Some-clause-reading : goal.returns-in-Ok-Some-clause-reading
+returns-in-Ok-Some-clause-reading g c =
+    read_on g.D.Device g.met.D.Device.only_now g.met.D.Device.counts_now c.args.dev.now c.loop-tree.dev c.next_in_tree.new.dev c.args.steps.now c.loop-tree.steps c.next_in_tree.new.steps c.loop-tree.invariant.reading c.next_in_tree.ensures.reading
+
+pub returns-in-Err-clause-exact : goal.returns-in-Err-clause-exact
+returns-in-Err-clause-exact g c =
+    told (g.D.Device.content c.args.dev.now) _
+    (λ m e. rw (← c.loop-tree.invariant.goes_on m e)
+    (trees_fault (layout c.args.geo.now) (m Image) c.args.self.now.at c.in-Some.tree.now c.loop-tree.rest.now c.in-Some.later.now c.in-Some.ensures.cases.0 c.in-Err.fault
+    (each_told (g.D.Device.content c.loop-tree.dev) _ m c.in-Err.ensures.exact (c.loop-tree.invariant.reading.same ∙ e))))
+
+pub returns-in-Err-clause-reading : goal.returns-in-Err-clause-reading
+returns-in-Err-clause-reading g c =
+    read_on g.D.Device g.met.D.Device.only_now g.met.D.Device.counts_now c.args.dev.now c.loop-tree.dev c.next_in_tree.new.dev c.args.steps.now c.loop-tree.steps c.next_in_tree.new.steps c.loop-tree.invariant.reading c.next_in_tree.ensures.reading
+
+pub loop-tree-preserved : goal.loop-tree-preserved
+loop-tree-preserved g c = record {
+  goes_on = λ m e. sym (trees_none (layout c.args.geo.now) (m Image) c.args.self.now.at c.in-Some.tree.now c.loop-tree.rest.now c.in-Some.later.now c.in-Some.ensures.cases.0
+      (each_told (g.D.Device.content c.loop-tree.dev) _ m c.in-Ok-None.ensures.exact (c.loop-tree.invariant.reading.same ∙ e) ∙ ap Ok c.in-Ok-None.field-0-is))
+      ∙ c.loop-tree.invariant.goes_on m e;
+  trees = (rw c.in-Some.ensures.cases.0 at c.loop-tree.invariant.trees).1;
+  reading = read_on g.D.Device g.met.D.Device.only_now g.met.D.Device.counts_now c.args.dev.now c.loop-tree.dev c.next_in_tree.new.dev c.args.steps.now c.loop-tree.steps c.next_in_tree.new.steps c.loop-tree.invariant.reading c.next_in_tree.ensures.reading;
+  calm = c.in-Ok-None.ensures.cause ∙ c.loop-tree.invariant.calm;
+  agrees = c.next_in_tree.ensures.agrees;
+}
+
+pub returns-clause-exact : goal.returns-clause-exact
+returns-clause-exact g c =
+    told (g.D.Device.content c.args.dev.now) _
+    (λ m e. sym (c.loop-tree.invariant.goes_on m e) ∙ no_trees (layout c.args.geo.now) (m Image) c.args.self.now.at c.loop-tree.rest.now c.in_default.ensures.cases)
