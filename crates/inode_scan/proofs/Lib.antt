@@ -1,4 +1,5 @@
 pub mod ChunkLemmas
 pub mod CursorLemmas
 pub mod FirstLaw
+pub mod LeastLaw
 pub mod SearchLemmas

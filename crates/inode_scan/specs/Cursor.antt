@@ -35,16 +35,29 @@ abbrev pub from_start : ℕ → (ℕ → Search) → Option ℕ → Search
 from_start first search None = Ok None
 from_start first search (Some from) = numbered first (search from)
 
+abbrev pub reads_from : (ℕ → ℕ) → Option ℕ → ℕ
+reads_from reads None = 0
+reads_from reads (Some from) = reads from
+
 module _ (at : Layout) (image : ℕ → List ℕ) (c : ℕ) where
   -- the next inode of one group; where the cursor has passed all of it, nothing is read
   unfoldable pub next_in_tree : TreeAt → Search
   next_in_tree t =
       from_start (first_number at t.group) (λ from. search_in (site_of at t.group) (group_blocks (site_of at t.group) image) from (numbers_in at t.group) t.root t.levels) (start_in c (first_number at t.group) (numbers_in at t.group))
 
+  -- and how many blocks are read for it
+  unfoldable pub reads_in_tree : TreeAt → ℕ
+  reads_in_tree t =
+      reads_from (λ from. reads_in (site_of at t.group) (group_blocks (site_of at t.group) image) from (numbers_in at t.group) t.root t.levels) (start_in c (first_number at t.group) (numbers_in at t.group))
+
   -- the next one of all groups, in their order
   unfoldable pub next_in_trees : List TreeAt → Search
   next_in_trees [] = Ok None
   next_in_trees (t ∷ ts) = then_next (next_in_tree t) (next_in_trees ts)
+
+  unfoldable pub reads_in_trees : List TreeAt → ℕ
+  reads_in_trees [] = 0
+  reads_in_trees (t ∷ ts) = then_reads (next_in_tree t) (reads_in_tree t) (reads_in_trees ts)
 
 -- an inode btree of a group that there is
 pub record IsInoTree (agcount : ℕ) (t : TreeAt) : Type 0 where

@@ -1,3 +1,4 @@
 pub mod Chunk
 pub mod Cursor
+pub mod Least
 pub mod Search

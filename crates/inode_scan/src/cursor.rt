@@ -1,4 +1,4 @@
-ghost use Rattle.std.specs.Prelude.{◌≡◌, ◌+◌, ◌^◌, ◌<◌, ◌≤◌, IfOk, IfErr, IfSome};
+ghost use Rattle.std.specs.Prelude.{◌≡◌, ◌+◌, ◌^◌, ◌<◌, ◌≤◌, IfOk, IfErr, IfSome, OnOk};
 ghost use Rattle.blk_cache.specs.Cache.{AgreesTold};
 ghost use Rattle.blk_device.specs.Causes.{HasCause};
 ghost use Rattle.blk_device.specs.Reading.{OnlyRead};
@@ -8,7 +8,7 @@ ghost use Rattle.sblock.specs.declared.kind.Kind.TheVariants.{Ino};
 ghost use Rattle.tree_blocks.specs.Meets.{IsNoMemory};
 ghost use Rattle.tree_blocks.specs.Reading.{is_failed};
 ghost use Rattle.tree_find.specs.Meets.{Meets};
-ghost use Rattle.inode_scan.specs.Cursor.{is_visited, first_number as first_number_of, numbers_in as numbers_of, start_in as start_of, next_in_tree as next_of_tree, next_in_trees, IsInoTree, AllInoTrees};
+ghost use Rattle.inode_scan.specs.Cursor.{is_visited, first_number as first_number_of, numbers_in as numbers_of, start_in as start_of, next_in_tree as next_of_tree, next_in_trees, reads_in_tree as reads_of_tree, reads_in_trees, IsInoTree, AllInoTrees};
 
 use crate::tree::next_in_group;
 use blk_cache::BlkCache;
@@ -81,6 +81,7 @@ fn next_in_tree<D: Device, L: Ledger>(
     ensures reading { OnlyRead D.Device dev.old dev.new steps.old steps.new }
     ensures cause { HasCause is_failed (D.faults dev.old) (D.faults dev.new) result }
     ensures agrees { AgreesTold cache.new (D.content dev.new) }
+    ensures counted { IfSome (D.content dev.old) (λ m. OnOk result (steps.new.reads ≡ steps.old.reads + reads_of_tree (layout geo.now) (m Image) at tree.now)) }
 {
     let first = first_number(geo, tree.group);
     let end = numbers_in(geo, tree.group);
@@ -124,6 +125,7 @@ impl Cursor {
         ensures reading { OnlyRead D.Device dev.old dev.new steps.old steps.new }
         ensures cause { HasCause is_failed (D.faults dev.old) (D.faults dev.new) result }
         ensures agrees { AgreesTold cache.new (D.content dev.new) }
+        ensures counted { IfSome (D.content dev.old) (λ m. OnOk result (steps.new.reads ≡ steps.old.reads + reads_in_trees (layout geo.now) (m Image) self.now.at trees.now)) }
     {
         let at = self.at;
         let mut rest = trees;
