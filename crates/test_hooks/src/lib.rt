@@ -6,6 +6,8 @@ mod counting;
 #[cfg(test)]
 mod edits;
 #[cfg(test)]
+mod inodes;
+#[cfg(test)]
 mod random;
 #[cfg(test)]
 mod scans;
