@@ -16,20 +16,20 @@ use Rattle.inode_scan.proofs.ChunkLemmas.{sought_in}
 -- ---- the elements of a list
 
 module _ {A : Type 0} where
-  nothing_in : (x : A) → Contains [] x → ⊥
+  pub nothing_in : (x : A) → Contains [] x → ⊥
   nothing_in x c = let within = c.1 in omega arith
 
-  in_front : (x : A) (xs : List A) → Contains (x ∷ xs) x
+  pub in_front : (x : A) (xs : List A) → Contains (x ∷ xs) x
   in_front x xs = (0, omega arith, refl)
 
-  in_rest : (y : A) (xs : List A) (x : A) → Contains xs x → Contains (y ∷ xs) x
+  pub in_rest : (y : A) (xs : List A) (x : A) → Contains xs x → Contains (y ∷ xs) x
   in_rest y xs x c = let within = c.1 in (suc c.0, omega arith, c.2)
 
   place_in : (y : A) (xs : List A) (x : A) (k : ℕ) → k < length (y ∷ xs) → get_or (y ∷ xs) k x ≡ x → (y ≡ x) ⊎ Contains xs x
   place_in y xs x zero within here = inl here
   place_in y xs x (suc k) within here = inr (k, omega arith, here)
 
-  in_either : (y : A) (xs : List A) (x : A) → Contains (y ∷ xs) x → (y ≡ x) ⊎ Contains xs x
+  pub in_either : (y : A) (xs : List A) (x : A) → Contains (y ∷ xs) x → (y ≡ x) ⊎ Contains xs x
   in_either y xs x c = place_in y xs x c.0 c.1 c.2
 
   module _ (before : A → A → Bool) (along : (a b c : A) → before a b ≡ true → before b c ≡ true → before a c ≡ true) where
@@ -37,7 +37,7 @@ module _ {A : Type 0} where
     ahead_of a b [] h ahead = tt
     ahead_of a b (x ∷ xs) h ahead = along a b x h ahead
 
-    before_rest : (a : A) (xs : List A) → Rises before (a ∷ xs) → (x : A) → Contains xs x → before a x ≡ true
+    pub before_rest : (a : A) (xs : List A) → Rises before (a ∷ xs) → (x : A) → Contains xs x → before a x ≡ true
     before_rest a [] rises x c = absurd (nothing_in x c)
     before_rest a (y ∷ xs) rises x c = elim (in_either y xs x c) [
       | inl same ↦ subst (λ (z : A). before a z ≡ true) same rises.0

@@ -1,9 +1,10 @@
-use Rattle.std.proofs.Common.{Ok, arith, refl, sym, ap, ◌∙◌}
+use Rattle.std.proofs.Common.{Ok, Err, Some, None, arith, refl, sym, ap, ◌∙◌}
 use Rattle.blk_device.specs.ReadingLaws.{read_on}
 use Rattle.blk_device.specs.declared.device.Region.TheVariants.{Image}
 use Rattle.geom.specs.Places.{layout}
 use Rattle.tree_blocks.proofs.ReadingLemmas.{told, each_told}
 use Rattle.inode_scan.proofs.CursorLemmas.{trees_found, trees_none, trees_fault, no_trees, more_reads, found_reads, no_reads, count_by, count_end}
+use Rattle.inode_scan.proofs.NextLaw.{gives_next, all_below}
 use Rattle.inode_scan.proofs.cursor.Cursor.next_inode.Goals as goal
 
 pub returns-in-Ok-Some-clause-exact : goal.returns-in-Ok-Some-clause-exact
@@ -64,3 +65,21 @@ pub returns-clause-counted : goal.returns-clause-counted
 returns-clause-counted g c =
     told (g.D.Device.content c.args.dev.now) _
     (λ m e. count_end c.args.steps.now.reads c.loop-tree.steps.reads _ _ (c.loop-tree.invariant.counted m e) (no_reads (layout c.args.geo.now) (m Image) c.args.self.now.at c.loop-tree.rest.now c.in_default.ensures.cases))
+
+pub returns-in-Ok-Some-clause-right : goal.returns-in-Ok-Some-clause-right
+returns-in-Ok-Some-clause-right g c =
+    told (g.D.Device.content c.args.dev.now) _
+    (λ m e chunks groups readable. gives_next (layout c.args.geo.now) (m Image) chunks c.args.self.now.at c.args.geo.now.fitting c.args.trees.now groups (all_below c.args.geo.now.agcount c.args.trees.now c.requires.trees) (Ok (Some c.in-Ok-Some.ino))
+    (each_told (g.D.Device.content c.args.dev.now) _ m (returns-in-Ok-Some-clause-exact g c) e) readable)
+
+pub returns-in-Err-clause-right : goal.returns-in-Err-clause-right
+returns-in-Err-clause-right g c =
+    told (g.D.Device.content c.args.dev.now) _
+    (λ m e chunks groups readable. gives_next (layout c.args.geo.now) (m Image) chunks c.args.self.now.at c.args.geo.now.fitting c.args.trees.now groups (all_below c.args.geo.now.agcount c.args.trees.now c.requires.trees) (Err c.in-Err.fault)
+    (each_told (g.D.Device.content c.args.dev.now) _ m (returns-in-Err-clause-exact g c) e) readable)
+
+pub returns-clause-right : goal.returns-clause-right
+returns-clause-right g c =
+    told (g.D.Device.content c.args.dev.now) _
+    (λ m e chunks groups readable. gives_next (layout c.args.geo.now) (m Image) chunks c.args.self.now.at c.args.geo.now.fitting c.args.trees.now groups (all_below c.args.geo.now.agcount c.args.trees.now c.requires.trees) (Ok None)
+    (each_told (g.D.Device.content c.args.dev.now) _ m (returns-clause-exact g c) e) readable)
