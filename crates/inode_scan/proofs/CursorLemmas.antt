@@ -1,14 +1,13 @@
 -- The next inode group by group.
-use Rattle.std.proofs.Common.{◌≡◌, ℕ, ◌+◌, ◌-◌, ◌<◌, ◌≤◌, Bool, true, false, List, [], ◌∷◌, length, Option, Some, None, Result, Ok, Err, refl, sym, ap, subst, ◌∙◌, arith}
+use Rattle.std.proofs.Common.{◌≡◌, ℕ, ◌+◌, ◌-◌, ◌<◌, ◌≤◌, Bool, true, false, List, [], ◌∷◌, length, Option, Some, None, Ok, refl, sym, ap, subst, ◌∙◌, arith}
 use Rattle.std.specs.Prelude.{nat_lt, if◌then◌else◌, IfSome}
-use Rattle.std.proofs.lemmas.Bool.Decides.{nat_tests}
 use Rattle.geom.specs.Layout.{Layout}
 use Rattle.tree_blocks.specs.Meets.{Refuses}
 use Rattle.tree_blocks.specs.declared.tree.TreeAt.{TreeAt}
 use Rattle.tree_blocks.specs.declared.tree.WalkFault.{WalkFault}
 use Rattle.tree_blocks.specs.declared.tree.WalkFault.TheVariants.{Bad, Failed, Memory}
 use Rattle.tree_defs.specs.Sites.{site_of, group_blocks}
-use Rattle.inode_scan.specs.Cursor.{first_number, numbers_in, start_in, numbered, from_start, next_in_tree, next_in_trees, reads_in_tree, reads_in_trees}
+use Rattle.inode_scan.specs.Cursor.{first_number, numbers_in, start_in, numbered, next_in_tree, next_in_trees, reads_in_tree, reads_in_trees}
 use Rattle.inode_scan.specs.Search.{Search, then_next, then_reads, search_in, reads_in}
 
 pub start_is : (c first end from : ℕ) → Some from ≡ start_in c first end → from ≡ (c + 1) - first

@@ -1,5 +1,5 @@
 -- In a readable tree a search finds the lowest allocated inode of the range.
-use Rattle.std.proofs.Common.{◌≡◌, ℕ, zero, suc, ◌+◌, ◌-◌, ◌<◌, ◌≤◌, Bool, true, false, List, [], ◌∷◌, ◌++◌, Option, Some, None, Result, Ok, Err, refl, sym, ap, subst, ◌∙◌, arith}
+use Rattle.std.proofs.Common.{◌≡◌, ℕ, zero, suc, ◌+◌, ◌-◌, ◌<◌, Bool, true, false, List, [], ◌∷◌, ◌++◌, Option, Some, None, Result, Ok, refl, sym, ap, subst, ◌∙◌, arith}
 use Rattle.std.specs.Prelude.{nat_lt}
 use Rattle.std.proofs.lemmas.Bool.Decides.{nat_tests}
 use Rattle.ino_recs.specs.Chunks.{ino_form}
@@ -9,7 +9,7 @@ use Rattle.sblock.specs.Area.{area_of}
 use Rattle.sblock.specs.Blocks.{numrecs, IsRising}
 use Rattle.sblock.specs.Lists.{items_from, Each}
 use Rattle.tree_defs.specs.Levels.{over, AllEntries, recs_of, IsSound, IsTree}
-use Rattle.tree_defs.specs.Tree.{entry_at, entries_from}
+use Rattle.tree_defs.specs.Tree.{entries_from}
 use Rattle.tree_defs.specs.declared.site.Site.{Site}
 use Rattle.tree_defs.proofs.Trees.{reads_trees_lem}
 use Rattle.tree_blocks.specs.declared.tree.WalkFault.{WalkFault}

@@ -1,7 +1,7 @@
 -- The first allocated inode of chunks in order is the least.
-use Rattle.std.proofs.Common.{◌≡◌, ℕ, zero, suc, ◌+◌, ◌-◌, ◌%◌, ◌<◌, ◌≤◌, Bool, true, false, not, ◌&&◌, ◌==◌, ◌⊎◌, List, [], ◌∷◌, length, get_or, Contains, Option, Some, None, refl, sym, ap, ◌∙◌, subst, inl, inr, arith, eqb-true}
+use Rattle.std.proofs.Common.{◌≡◌, ℕ, zero, suc, ◌+◌, ◌%◌, ◌<◌, ◌≤◌, Bool, true, false, not, ◌&&◌, ◌==◌, ◌⊎◌, List, [], ◌∷◌, length, get_or, Contains, Option, Some, None, refl, sym, ◌∙◌, subst, inl, inr, arith, eqb-true}
 use Rattle.std.specs.Prelude.{nat_le, nat_lt, cond, MatchOption}
-use Rattle.std.proofs.lemmas.Bool.{false≢true, and_parts, cases_lt}
+use Rattle.std.proofs.lemmas.Bool.{false≢true, cases_lt}
 use Rattle.std.proofs.lemmas.Bool.Decides.{nat_tests}
 use Rattle.ino_recs.specs.Chunks.{ino_form, is_ino_in_range}
 use Rattle.ino_recs.specs.ChunkLaws.{lawful_ino}
@@ -10,7 +10,7 @@ use Rattle.sblock.specs.Blocks.{IsRising, AllInside}
 use Rattle.sblock.specs.declared.block.Bounds.{Bounds}
 use Rattle.sblock.specs.Lists.{Each, IsAhead, Rises}
 use Rattle.inode_scan.specs.Chunk.{or_else, is_free, is_sought, first_slot, first_of, first_in}
-use Rattle.inode_scan.specs.Least.{IsAllocatedIn, IsLeast, IsNone, FirstIsLeast}
+use Rattle.inode_scan.specs.Least.{IsLeast, IsNone, FirstIsLeast}
 use Rattle.inode_scan.proofs.ChunkLemmas.{sought_in}
 
 -- ---- the elements of a list

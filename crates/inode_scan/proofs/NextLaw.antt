@@ -1,21 +1,21 @@
 -- Where all inode btrees are readable, the next inode is the least allocated one above the cursor.
-use Rattle.std.proofs.Common.{◌≡◌, ℕ, zero, suc, ◌+◌, ◌-◌, ◌*◌, ◌^◌, ◌<◌, ◌≤◌, ◌⊎◌, Bool, true, false, List, [], ◌∷◌, ◌++◌, Contains, Option, Some, None, Result, Ok, Err, refl, sym, ap, subst, ◌∙◌, inl, inr, arith}
+use Rattle.std.proofs.Common.{◌≡◌, ℕ, zero, suc, ◌+◌, ◌-◌, ◌*◌, ◌^◌, ◌<◌, ◌≤◌, Bool, true, false, List, [], ◌∷◌, ◌++◌, Contains, Option, Some, None, Result, Ok, Err, refl, sym, ap, subst, ◌∙◌, inl, inr, arith}
 use Rattle.std.specs.Prelude.{nat_lt, if◌then◌else◌, MatchOption, ◌==◌}
 use Rattle.std.proofs.Math.Nat.{mul-le-mul_left}
 use Rattle.std.proofs.lemmas.Bool.Decides.{nat_tests}
 use Rattle.geom.specs.Layout.{Layout, group_len_of}
-use Rattle.geom.specs.Numbers.{length_of, Fitting}
+use Rattle.geom.specs.Numbers.{Fitting}
 use Rattle.ino_recs.specs.Chunks.{ino_form}
 use Rattle.ino_recs.specs.ChunkLaws.{lawful_ino}
 use Rattle.ino_recs.specs.declared.chunk.InoRec.{InoRec}
-use Rattle.sblock.specs.Blocks.{records_of, numrecs, AllInside}
+use Rattle.sblock.specs.Blocks.{numrecs, AllInside}
 use Rattle.sblock.specs.Lists.{Each, Rises, items_from}
 use Rattle.tree_blocks.specs.declared.tree.TreeAt.{TreeAt}
 use Rattle.tree_blocks.specs.declared.tree.WalkFault.{WalkFault}
 use Rattle.tree_blocks.specs.declared.tree.WalkFault.TheVariants.{Bad, Failed, Memory}
 use Rattle.tree_defs.specs.Levels.{over, AllEntries, recs_of, IsSound, IsTree}
 use Rattle.tree_defs.specs.Sites.{site_of, group_blocks}
-use Rattle.tree_defs.specs.Tree.{Entry, entry_at, entries_from}
+use Rattle.tree_defs.specs.Tree.{entry_at, entries_from}
 use Rattle.tree_defs.specs.declared.site.Site.{Site}
 use Rattle.tree_defs.proofs.LoneFacts.{leaf_inside}
 use Rattle.tree_defs.proofs.Trees.{reads_trees_lem}
@@ -26,8 +26,7 @@ use Rattle.tree_find.proofs.NodeLemmas.{Fits}
 use Rattle.inode_scan.specs.Chunk.{first_in}
 use Rattle.inode_scan.specs.Cursor.{first_number, numbers_in, start_in, next_in_tree, next_in_trees, AllInoTrees}
 use Rattle.inode_scan.specs.Least.{IsAllocatedIn, IsLeast, IsNone}
-use Rattle.inode_scan.specs.NextInode.{IsAllocated, IsNext, GivesNext, AreAllGroups, AreReadable}
-use Rattle.inode_scan.specs.Search.{search_in}
+use Rattle.inode_scan.specs.NextInode.{IsAllocated, GivesNext, AreAllGroups, AreReadable}
 use Rattle.inode_scan.proofs.CursorLemmas.{start_is, all_passed, told_none, told_some, trees_found, trees_none}
 use Rattle.inode_scan.proofs.FirstLaw.{finds_first}
 use Rattle.inode_scan.proofs.LeastLaw.{nothing_in, in_front, in_rest, in_either, before_rest, first_is_least}

@@ -1,13 +1,10 @@
 -- The place of a scan among the inodes of all groups, and the next one that it comes to (XFS Online Fsck Design, "Live Inode
 -- Scans").
-use Rattle.std.specs.Prelude.{◌≡◌, ◌<◌, ℕ, ◌+◌, ◌-◌, ◌*◌, ◌^◌, nat_le, nat_lt, Bool, if◌then◌else◌, List, [], ◌∷◌, Contains, Option, Some, None, Result, Ok, Err}
+use Rattle.std.specs.Prelude.{◌≡◌, ◌<◌, ℕ, ◌+◌, ◌-◌, ◌*◌, ◌^◌, nat_le, nat_lt, Bool, if◌then◌else◌, List, [], ◌∷◌, Option, Some, None, Ok, Err}
 use Rattle.geom.specs.Layout.{Layout, group_len_of}
-use Rattle.ino_recs.specs.Chunks.{ino_form}
-use Rattle.ino_recs.specs.declared.chunk.InoRec.{InoRec}
 use Rattle.sblock.specs.declared.kind.Kind.TheVariants.{Ino}
 use Rattle.tree_blocks.specs.declared.tree.TreeAt.{TreeAt}
 use Rattle.tree_defs.specs.Sites.{site_of, group_blocks}
-use Rattle.inode_scan.specs.Chunk.{first_in}
 use Rattle.inode_scan.specs.Search.{Search, then_next, search_in, reads_in, then_reads}
 
 -- the cursor is the greatest number that was passed

@@ -10,7 +10,7 @@ use Rattle.sblock.specs.Lists.{items_from}
 use Rattle.sblock.specs.declared.block.BlockFault.{BlockFault}
 use Rattle.sblock.specs.declared.block.BlockFault.TheVariants.{Range}
 use Rattle.tree_defs.specs.Claims.{lone_fault}
-use Rattle.tree_defs.specs.Tree.{Entry, entry_at, tested, top_of, read_tree}
+use Rattle.tree_defs.specs.Tree.{Entry, entry_at, tested, top_of}
 use Rattle.tree_defs.specs.declared.site.Site.{Site}
 use Rattle.tree_find.specs.Laws.{Holds}
 use Rattle.tree_find.specs.Next.{start_of}

@@ -1,4 +1,4 @@
-use Rattle.std.proofs.Common.{Ok, None, arith, sym, ap, ◌∙◌}
+use Rattle.std.proofs.Common.{Ok, arith, sym, ap, ◌∙◌}
 use Rattle.blk_device.specs.declared.device.Region.TheVariants.{Image}
 use Rattle.geom.specs.Places.{layout}
 use Rattle.tree_blocks.proofs.ReadingLemmas.{told, each_told}

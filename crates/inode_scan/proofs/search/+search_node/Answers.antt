@@ -1,4 +1,4 @@
-use Rattle.std.proofs.Common.{rules, ◌≡◌, ◌+◌, ◌-◌, ◌<◌, ◌≤◌, ℕ, false, Ok, arith, refl, sym, ap, ◌∙◌}
+use Rattle.std.proofs.Common.{rules, ◌≡◌, ◌-◌, ◌<◌, false, Ok, arith, sym, ap, ◌∙◌}
 use Rattle.ino_recs.specs.Chunks.{ino_form}
 use Rattle.sblock.specs.Area.{area_of, child_of}
 use Rattle.sblock.specs.Blocks.{numrecs}

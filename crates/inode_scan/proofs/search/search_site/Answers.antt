@@ -1,5 +1,4 @@
-use Rattle.std.proofs.Common.{◌≡◌, ◌+◌, arith, ap, ◌∙◌}
-use Rattle.std.specs.Prelude.{OnOk}
+use Rattle.std.proofs.Common.{◌+◌, arith, ap, ◌∙◌}
 use Rattle.inode_scan.proofs.SearchLemmas.{outside, within, all_reads, on_ok}
 use Rattle.inode_scan.proofs.search.search_site.Goals as goal
 use Rattle.inode_scan.proofs.search.search_site.Goals.{then-root-eq0-via-then-root-eq0, then-root-eq0-via-else-root-eq0+then-root-site}

@@ -1,8 +1,7 @@
-use Rattle.std.proofs.Common.{◌≡◌, ap}
+use Rattle.std.proofs.Common.{ap}
 use Rattle.blk_device.specs.declared.device.Region.TheVariants.{Image}
 use Rattle.geom.specs.Places.{layout}
-use Rattle.tree_defs.specs.Sites.{bounds_of, site_of, group_blocks}
-use Rattle.tree_defs.specs.declared.site.Site.{Site}
+use Rattle.tree_defs.specs.Sites.{site_of, group_blocks}
 use Rattle.tree_blocks.specs.Cached.{blocks_told}
 use Rattle.tree_blocks.proofs.ReadingLemmas.{told}
 use Rattle.inode_scan.proofs.FirstLaw.{right_first}

@@ -1,4 +1,4 @@
-use Rattle.std.proofs.Common.{Ok, Err, Some, None, arith, refl, sym, ap, ◌∙◌}
+use Rattle.std.proofs.Common.{Ok, Err, Some, None, arith, sym, ap, ◌∙◌}
 use Rattle.blk_device.specs.ReadingLaws.{read_on}
 use Rattle.blk_device.specs.declared.device.Region.TheVariants.{Image}
 use Rattle.geom.specs.Places.{layout}

@@ -1,4 +1,4 @@
-use Rattle.std.proofs.Common.{◌≡◌, ◌+◌, ◌≤◌, length, Some}
+use Rattle.std.proofs.Common.{◌≡◌, ◌+◌, length, Some}
 use Rattle.blk_cache.specs.Cache.{AgreesTold}
 use Rattle.blk_device.specs.Contents.{Contents}
 use Rattle.blk_device.specs.Reading.{OnlyRead}
