@@ -1,0 +1,6 @@
+pub mod ChunkLemmas
+pub mod CursorLemmas
+pub mod FirstLaw
+pub mod LeastLaw
+pub mod NextLaw
+pub mod SearchLemmas

@@ -1,0 +1,5 @@
+pub mod Chunk
+pub mod Cursor
+pub mod Least
+pub mod NextInode
+pub mod Search

@@ -1,0 +1,4 @@
+pub mod Heard
+pub mod Meaning
+pub mod Scan
+pub mod Silent

@@ -1,0 +1,7 @@
+//! The owners of a group's blocks as a scan in progress knows them.
+#![tactic(auto)]
+
+mod listening;
+mod shadow;
+
+pub use shadow::Shadow;

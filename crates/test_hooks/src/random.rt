@@ -1,0 +1,110 @@
+// A shadow beside a table of single blocks.
+use crate::shadows::{edit, rec_of, runs_of};
+use rmap_recs::{Memory, RmapRec};
+use shadow_rmap::Shadow;
+use std::alloc::Global;
+use std::test::Fail;
+
+// Whether a block is kept, of 32 blocks and two owners.
+type Table = [bool; 64];
+
+// The next of a row of numbers that look random.
+fn next(number: u32) -> u32 {
+    number.wrapping_mul(1_664_525).wrapping_add(1_013_904_223)
+}
+
+// A record of up to 4 blocks below 32, by a number. The offset of a block is its own number, so
+// that all neighbours of one owner join.
+fn rec_at(number: u32) -> RmapRec {
+    let start = (number >> 8) % 28;
+    let count = 1 + (number >> 16) % 4;
+    let owner = 195 + u64::from((number >> 24) % 2);
+    rec_of(start, count, owner, u64::from(start))
+}
+
+// Where a block of an owner stands in the table.
+fn place_of(owner: u64, block: u32) -> usize {
+    let row = if owner == 195 { 0 } else { 32usize };
+    row.saturating_add(block as usize)
+}
+
+fn at(table: &Table, owner: u64, block: u32) -> bool {
+    match table.get(place_of(owner, block)) {
+        Some(kept) => *kept,
+        None => false,
+    }
+}
+
+// Whether all blocks of the record are kept, or none is.
+fn all_are(table: &Table, rec: &RmapRec, kept: bool) -> bool {
+    for i in 0..rec.count {
+        if at(table, rec.owner, rec.start.saturating_add(i)) != kept {
+            return false;
+        }
+    }
+    true
+}
+
+fn put(table: &mut Table, rec: &RmapRec, kept: bool) {
+    for i in 0..rec.count {
+        let place = place_of(rec.owner, rec.start.saturating_add(i));
+        if place < 64 {
+            table[place] = kept;
+        }
+    }
+}
+
+// The table that some runs make.
+fn table_of(runs: &[RmapRec]) -> Table {
+    let mut table = [false; 64];
+    for run in runs {
+        put(&mut table, run, true);
+    }
+    table
+}
+
+// Whether two of the runs could be one.
+fn does_one_join(runs: &[RmapRec]) -> bool {
+    runs.iter()
+        .any(|run| runs.iter().any(|other| run.can_join(other)))
+}
+
+// Makes the change of a number where all or none of its blocks are there, in shadow and table.
+fn change(shadow: &mut Shadow, table: &mut Table, number: u32) -> Result<(), Memory> {
+    let rec = rec_at(number);
+    if all_are(table, &rec, false) {
+        edit(shadow, true, &rec)?;
+        put(table, &rec, true);
+    } else if all_are(table, &rec, true) {
+        edit(shadow, false, &rec)?;
+        put(table, &rec, false);
+    }
+    Ok(())
+}
+
+fn runs_after(
+    alloc: Global,
+    seed: u32,
+    many: u32,
+    table: &mut Table,
+) -> Result<Vec<RmapRec>, Memory> {
+    let mut shadow = Shadow::new(alloc, 0)?;
+    let mut number = seed;
+    for _ in 0..many {
+        number = next(number);
+        change(&mut shadow, table, number)?;
+    }
+    runs_of(alloc, &shadow)
+}
+
+#[test]
+fn changes_at_random_keep_the_runs_of_the_table(rt: HostRuntime) -> Result<(), Fail> {
+    let alloc = rt.alloc();
+    for seed in 0..60 {
+        let mut table = [false; 64];
+        let runs = runs_after(alloc, seed, 20 + seed, &mut table)?;
+        assert_eq!(rt; table_of(runs.as_slice()), table, "seed {seed}");
+        assert_eq!(rt; does_one_join(runs.as_slice()), false, "seed {seed}");
+    }
+    Ok(())
+}
