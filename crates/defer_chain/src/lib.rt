@@ -1,0 +1,9 @@
+//! What a chain still owes: its intents in their order, what is left of them after each step, and
+//! the stretch of a reference count that one step changes. No call reads a device or takes memory.
+#![tactic(auto)]
+
+mod chain;
+mod kinds;
+
+pub use chain::{Chain, ChainInode, MOST_PUT};
+pub use kinds::{StepKind, deltas_of, entries_of, step_kind, steps_of};
