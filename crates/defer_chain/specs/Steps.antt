@@ -4,6 +4,8 @@ use Rattle.std.specs.List.{list_all, slice_get}
 use Rattle.fs_state.specs.declared.intent.Intent.{Intent}
 use Rattle.fs_state.specs.declared.intent.IntentKind.{IntentKind}
 use Rattle.fs_state.specs.declared.intent.IntentKind.TheVariants.{RmapAdd, RmapRemove, RmapChange, RefMore, RefLess, Free}
+use Rattle.defer_chain.specs.declared.kinds.Due.{Due}
+use Rattle.defer_chain.specs.declared.kinds.Due.TheVariants.{Entries, Blocks, Deltas}
 use Rattle.defer_chain.specs.declared.kinds.StepKind.{StepKind}
 use Rattle.defer_chain.specs.declared.kinds.StepKind.TheVariants as steps
 
@@ -117,19 +119,9 @@ stretched n free (i ∷ is) = freed_if free n i ++ (left_if (n == i.count) n i +
 abbrev pub entries_of : Intent → ℕ
 entries_of i = if is_rmap i.kind then 2 else if is_less i.kind then 6 * i.count else if is_ref i.kind then 3 * i.count else 3
 
-unfoldable pub entries_due : List Intent → ℕ
-entries_due is = sum_by entries_of is
-
 -- how many steps an intent needs at most
 abbrev pub steps_of : Intent → ℕ
 steps_of i = if is_less i.kind then 2 * i.count else if is_ref i.kind then i.count else 1
-
--- those of one group
-abbrev pub steps_in_group : ℕ → Intent → ℕ
-steps_in_group g i = if i.group == g then steps_of i else 0
-
-unfoldable pub steps_due : ℕ → List Intent → ℕ
-steps_due g is = sum_by (steps_in_group g) is
 
 -- how many differences of owners an intent makes
 abbrev pub deltas_of : IntentKind → ℕ
@@ -140,9 +132,19 @@ deltas_of RefMore = 0
 deltas_of RefLess = 0
 deltas_of Free = 0
 
-unfoldable pub deltas_due : List Intent → ℕ
-deltas_due is = sum_by (λ i. deltas_of i.kind) is
+-- what the steps of an intent may use; a step frees 160 blocks at most
+abbrev pub amount_of : Due → Intent → ℕ
+amount_of Entries i = entries_of i
+amount_of (Blocks g) i = if i.group == g then 160 * steps_of i else 0
+amount_of Deltas i = deltas_of i.kind
 
--- how many unfinished intents of a group there are
+-- What is due to all steps of a chain?
+unfoldable pub due_of : Due → List Intent → ℕ
+due_of what is = sum_by (amount_of what) is
+
+abbrev pub counted_in : ℕ → Intent → ℕ
+counted_in g i = if i.group == g then 1 else 0
+
+-- How many unfinished intents of a group are there?
 unfoldable pub owed_to : ℕ → List Intent → ℕ
-owed_to g is = sum_by (λ i. if i.group == g then 1 else 0) is
+owed_to g is = sum_by (counted_in g) is

@@ -2,7 +2,7 @@ ghost use Rattle.std.specs.Prelude.{◌≡◌, ◌<◌, ◌≤◌, ◌+◌, ◌=
 ghost use Rattle.std.specs.List.{slice_get};
 ghost use Rattle.defer_chain.specs.Steps.{are_owed, freed as freed_is, has_run, left_if, left_of as left_is, no_intent, steps_in};
 
-use crate::kinds::{StepKind, step_kind};
+use crate::kinds::{Due, StepKind, amount, counted, step_kind};
 use fs_state::{Intent, IntentKind};
 
 /// So many intents a first event puts at most.
@@ -138,7 +138,7 @@ impl Chain {
     ghost use Rattle.std.specs.Prelude.{[], ◌<◌, ◌≤◌, ◌+◌, ◌==◌, Bool, false, length, drop, option_copied, option_map, if◌then◌else◌};
     ghost use Rattle.std.specs.List.{slice_get};
     ghost use Rattle.defer_chain.specs.Owed.{owed, ChangesOwed};
-    ghost use Rattle.defer_chain.specs.Steps.{count_of_first, first_is, in_order, is_free, is_less, is_ref, is_rmap, owed_in, step_of, stretched};
+    ghost use Rattle.defer_chain.specs.Steps.{count_of_first, due_of, owed_to, first_is, in_order, is_free, is_less, is_ref, is_rmap, owed_in, step_of, stretched};
 
     /// A chain of this writer that holds these inodes and owes nothing.
     #[tactic(auto, unfolding(crate::specs::Steps::steps_in, crate::specs::Steps::in_order))]
@@ -202,6 +202,37 @@ impl Chain {
     {
         let intent = self.next()?;
         Some(intent.group)
+    }
+
+    /// How many of its intents are of this group.
+    #[tactic(auto, unfolding(crate::specs::Steps::owed_to, crate::specs::Steps::steps_in))]
+    pub fn owes(&self, group: u32) -> u32
+        ensures value { result ≡ owed_to group (owed self.now) }
+        ensures few { result ≤ 6 }
+    {
+        let mut owes = match self.free {
+            Some(run) => counted(&run, group),
+            None => 0,
+        };
+        for intent in &self.steps[self.done..self.end] {
+            owes += counted(intent, group);
+        }
+        owes
+    }
+
+    /// What its steps may still use at most, all together.
+    #[tactic(auto, unfolding(crate::specs::Steps::due_of, crate::specs::Steps::steps_in))]
+    pub fn due(&self, what: Due) -> u64
+        ensures { result ≡ due_of what (owed self.now) }
+    {
+        let mut due = match self.free {
+            Some(run) => amount(what, &run),
+            None => 0,
+        };
+        for intent in &self.steps[self.done..self.end] {
+            due += amount(what, intent);
+        }
+        due
     }
 
     // The chain with other intents.

@@ -1,5 +1,5 @@
-ghost use Rattle.std.specs.Prelude.{◌≡◌, ◌*◌, ◌<◌, ◌^◌};
-ghost use Rattle.defer_chain.specs.Steps.{deltas_of as deltas_are, entries_of as entries_are, step_of, steps_of as steps_are};
+ghost use Rattle.std.specs.Prelude.{◌≡◌, ◌*◌, ◌<◌, ◌≤◌, ◌^◌, ◌==◌, if◌then◌else◌};
+ghost use Rattle.defer_chain.specs.Steps.{amount_of, counted_in, deltas_of as deltas_are, entries_of as entries_are, step_of, steps_of as steps_are};
 
 use fs_state::{Intent, IntentKind};
 
@@ -61,4 +61,37 @@ pub fn deltas_of(kind: IntentKind) -> u64
         IntentKind::RmapChange => 2,
         _ => 0,
     }
+}
+
+/// What room is taken for before a chain's steps are made: entries of the journal, blocks of a
+/// group's limbo, or differences of owners that a listener hears.
+#[derive(Clone, Copy, Debug, PartialEq, Eq)]
+pub enum Due {
+    Entries,
+    Blocks(u32),
+    Deltas,
+}
+
+/// So many blocks one step frees at most: as many as a batch writes.
+pub const BLOCKS_A_STEP: u64 = 160;
+
+/// What the steps of an intent may use at most; of blocks, those of one group.
+pub fn amount(what: Due, intent: &Intent) -> u64
+    ensures value { result ≡ amount_of what intent.now }
+    ensures most { result < 2 ^ 42 }
+{
+    match what {
+        Due::Entries => entries_of(intent),
+        Due::Blocks(group) if intent.group == group => BLOCKS_A_STEP * steps_of(intent),
+        Due::Blocks(_) => 0,
+        Due::Deltas => deltas_of(intent.kind),
+    }
+}
+
+/// 1 for an intent of this group, 0 for any other.
+pub fn counted(intent: &Intent, group: u32) -> u32
+    ensures value { result ≡ counted_in group intent.now }
+    ensures most { result ≤ 1 }
+{
+    if intent.group == group { 1 } else { 0 }
 }

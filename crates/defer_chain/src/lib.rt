@@ -6,4 +6,4 @@ mod chain;
 mod kinds;
 
 pub use chain::{Chain, ChainInode, MOST_PUT};
-pub use kinds::{StepKind, deltas_of, entries_of, step_kind, steps_of};
+pub use kinds::{BLOCKS_A_STEP, Due, StepKind, step_kind};
