@@ -1,4 +1,5 @@
 ghost use Rattle.std.specs.Prelude.{◌≡◌, ◌*◌, ◌<◌, ◌≤◌, ◌^◌, ◌==◌, if◌then◌else◌};
+ghost use Rattle.defer_chain.specs.Falls.{DueFalls};
 ghost use Rattle.defer_chain.specs.Steps.{amount_of, counted_in, deltas_of as deltas_are, entries_of as entries_are, step_of, steps_of as steps_are};
 
 use fs_state::{Intent, IntentKind};
@@ -95,3 +96,8 @@ pub fn counted(intent: &Intent, group: u32) -> u32
 {
     if intent.group == group { 1 } else { 0 }
 }
+
+/// A law: each step lowers what is due to a chain by what the step may use.
+pub fn due_falls()
+    ensures { DueFalls }
+{}

@@ -3,7 +3,9 @@
 #![tactic(auto)]
 
 mod chain;
+mod counts;
 mod kinds;
 
 pub use chain::{Chain, ChainInode, MOST_PUT};
-pub use kinds::{BLOCKS_A_STEP, Due, StepKind, step_kind};
+pub use counts::{Stretch, first_stretch, one_count};
+pub use kinds::{BLOCKS_A_STEP, Due, StepKind, due_falls, step_kind};
