@@ -1,5 +1,5 @@
 -- What a switch makes of the heads of its group ("AG Free Space Block", "AG Inode Management").
-use Rattle.std.specs.Prelude.{ℕ, ◌+◌, ◌-◌, Bool, true, false, Option, Some, None, unwrap_or}
+use Rattle.std.specs.Prelude.{ℕ, Bool, true, false, Option, unwrap_or}
 use Rattle.ag_headers.specs.declared.agf.Agf.{Agf}
 use Rattle.ag_headers.specs.declared.agi.Agi.{Agi}
 use Rattle.root_switch.specs.declared.heads.Heads.{Heads}

@@ -1,6 +1,5 @@
-use Rattle.std.proofs.Common.{◌≡◌, ◌∙◌, ap, sym, None, arith, ℕ}
+use Rattle.std.proofs.Common.{◌∙◌, ap, arith}
 use Rattle.ag_headers.specs.Agf.{agf_in, agf_form}
-use Rattle.ag_headers.specs.Fields.{sector}
 use Rattle.ag_headers.specs.Tests.{head_fault}
 use Rattle.root_switch.proofs.heads.put_heads.Goals as goal
 
