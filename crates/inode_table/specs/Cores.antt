@@ -1,5 +1,5 @@
 -- The cores of inodes that are taken, given back, or made with their chunk ("On-disk Inode").
-use Rattle.std.specs.Prelude.{ℕ, ◌+◌, ◌*◌, List, take, drop, replicate}
+use Rattle.std.specs.Prelude.{ℕ, ◌*◌, List, take, drop, replicate}
 use Rattle.dinode_core.specs.declared.inode.Core3.{Core3}
 
 -- a new regular file: its mode, its owner and one link, both forks empty; the rest of the core stays

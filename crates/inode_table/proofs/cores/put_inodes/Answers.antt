@@ -1,4 +1,4 @@
-use Rattle.std.proofs.Common.{◌≡◌, None, ap, sym, subst, ◌∙◌, arith, ℕ, List, length, ◌+◌, ◌*◌}
+use Rattle.std.proofs.Common.{◌≡◌, None, ap, sym, ◌∙◌, arith, ℕ}
 use Rattle.dinode_core.specs.Core.{core_fault, core_of}
 use Rattle.geom.specs.Layout.{inode_at}
 use Rattle.geom.specs.Places.{layout}
