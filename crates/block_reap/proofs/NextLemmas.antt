@@ -1,11 +1,11 @@
 -- The run that is reaped next, and what is left without it.
-use Rattle.std.proofs.Common.{◌≡◌, ℕ, ◌+◌, ◌-◌, ◌^◌, ◌<◌, ◌≤◌, Bool, true, false, List, [], ◌∷◌, refl, sym, ap, ◌∙◌, arith, subst, inl, inr, min, Option, Some, None}
-use Rattle.std.specs.Prelude.{◌⊎◌, ◌==◌, ◌&&◌, ◌||◌, nat_lt, nat_le, not, IfSome, IfNone, get_or}
+use Rattle.std.proofs.Common.{◌≡◌, ℕ, ◌+◌, ◌-◌, ◌<◌, ◌≤◌, Bool, true, false, List, [], ◌∷◌, refl, sym, ap, ◌∙◌, arith, subst, inl, inr, min, Option, Some, None}
+use Rattle.std.specs.Prelude.{◌⊎◌, ◌&&◌, ◌||◌, not, IfSome, IfNone, get_or}
 use Rattle.std.specs.List.{remove}
 use Rattle.std.proofs.lemmas.Bool.{cases_lt, false≢true}
 use Rattle.std.proofs.lemmas.Bool.Decides.{nat_tests}
 use Rattle.block_reap.specs.declared.runs.LimboRun.{LimboRun}
-use Rattle.block_reap.specs.Limbo.{covers, has, comes_first, touches, end_of, HasRun, AllFollow, IsLimbo, IsNext, next_of, put_run}
+use Rattle.block_reap.specs.Limbo.{covers, has, comes_first, touches, end_of, AllFollow, IsLimbo, IsNext, next_of, put_run}
 use Rattle.block_reap.proofs.RunLemmas.{not_covered, end_not_covered, pair_later, pair_inside}
 use Rattle.block_reap.proofs.PutLemmas.{AllApart, put_limbo, has_put}
 

@@ -1,11 +1,9 @@
 -- A run put into limbo.
-use Rattle.std.proofs.Common.{◌≡◌, ℕ, suc, zero, ◌+◌, ◌<◌, Bool, true, false, List, [], ◌∷◌, ◌++◌, take, drop, refl, sym, ap, ◌∙◌, arith, subst}
-use Rattle.std.specs.Prelude.{◌&&◌, ◌||◌, not, filter, if◌then◌else◌}
-use Rattle.std.specs.List.{list_any}
-use Rattle.std.proofs.lemmas.Bool.{false≢true}
+use Rattle.std.proofs.Common.{◌≡◌, ℕ, suc, ◌+◌, Bool, true, false, List, [], ◌∷◌, ◌++◌, take, drop, refl, sym, ap, ◌∙◌, arith, subst}
+use Rattle.std.specs.Prelude.{◌||◌, not, filter, if◌then◌else◌}
 use Rattle.block_reap.specs.declared.runs.LimboRun.{LimboRun}
 use Rattle.block_reap.specs.Limbo.{covers, has, before, touches, union, HasRun, AllHaveRuns, Follows, AllFollow, IsLimbo, hull_of, is_beside, place_in, put_run}
-use Rattle.block_reap.proofs.RunLemmas.{touches_sym, later_first, before_along, Wide, wide_self, wide_union, wide_touches, has_union, covers_union, apart_union}
+use Rattle.block_reap.proofs.RunLemmas.{touches_sym, later_first, before_along, Wide, wide_self, wide_union, wide_touches, covers_union, apart_union}
 
 -- none of these touches the run
 abbrev pub AllApart : LimboRun → List LimboRun → Type 0

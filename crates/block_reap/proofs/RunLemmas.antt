@@ -1,9 +1,9 @@
 -- Two runs of blocks: their order, what they have in common, and both as one.
-use Rattle.std.proofs.Common.{◌≡◌, ℕ, ◌+◌, ◌-◌, ◌^◌, ◌<◌, ◌≤◌, Bool, true, false, List, [], ◌∷◌, refl, arith, min, max}
-use Rattle.std.specs.Prelude.{◌==◌, ◌&&◌, ◌||◌, nat_lt, nat_le, not, if◌then◌else◌}
+use Rattle.std.proofs.Common.{◌≡◌, ℕ, ◌≤◌, true, false, refl, arith}
+use Rattle.std.specs.Prelude.{◌||◌}
 use Rattle.std.proofs.lemmas.Bool.Decides.{nat_tests}
 use Rattle.block_reap.specs.declared.runs.LimboRun.{LimboRun}
-use Rattle.block_reap.specs.Limbo.{covers, before, comes_first, touches, union, end_of, HasRun, Follows}
+use Rattle.block_reap.specs.Limbo.{covers, before, comes_first, touches, union, end_of, HasRun}
 
 pub touches_sym : (a b : LimboRun) → touches a b ≡ false → touches b a ≡ false
 touches_sym a b h = grind (arith, nat_tests)

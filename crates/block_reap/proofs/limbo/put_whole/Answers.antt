@@ -1,5 +1,4 @@
-use Rattle.std.proofs.Common.{◌≡◌, List, ap, sym, subst, ◌∙◌, filter}
-use Rattle.block_reap.specs.declared.runs.LimboRun.{LimboRun}
+use Rattle.std.proofs.Common.{◌≡◌, ap, sym, subst, ◌∙◌, filter}
 use Rattle.block_reap.specs.Limbo.{AllHaveRuns, HasRun, IsLimbo, has, hull_of, is_beside, put_run}
 use Rattle.block_reap.proofs.PutLemmas.{runs_of, put_keeps, put_has}
 use Rattle.block_reap.proofs.limbo.put_whole.Goals as goal

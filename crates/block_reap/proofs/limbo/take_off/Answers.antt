@@ -1,7 +1,5 @@
-use Rattle.std.proofs.Common.{◌≡◌, ◌∷◌, ◌+◌, ◌-◌, ap, sym, subst, ◌∙◌, refl}
-use Rattle.std.specs.Prelude.{◌&&◌, not}
-use Rattle.block_reap.specs.declared.runs.LimboRun.{LimboRun}
-use Rattle.block_reap.specs.Limbo.{IsLimbo, covers, has, put_run}
+use Rattle.std.proofs.Common.{ap, sym, subst, ◌∙◌}
+use Rattle.block_reap.specs.Limbo.{IsLimbo, has}
 use Rattle.block_reap.proofs.NextLemmas.{parts_of, off_of, rest_is, front_left, front_has, whole_has}
 use Rattle.block_reap.proofs.limbo.take_off.Goals as goal
 

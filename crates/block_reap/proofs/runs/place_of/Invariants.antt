@@ -1,4 +1,4 @@
-use Rattle.std.proofs.Common.{◌≡◌, ◌+◌, ◌≤◌, drop}
+use Rattle.std.proofs.Common.{◌≡◌, ◌+◌, drop}
 use Rattle.block_reap.specs.Limbo.{place_in}
 use Rattle.block_reap.proofs.runs.place_of.Given as goal
 

@@ -1,5 +1,4 @@
-use Rattle.std.proofs.Common.{◌≡◌, ◌++◌, ◌∷◌, Bool, if◌then◌else◌, ℕ, List, take, drop, ap, ◌∙◌}
-use Rattle.block_reap.specs.declared.runs.LimboRun.{LimboRun}
+use Rattle.std.proofs.Common.{◌≡◌, ◌++◌, ◌∷◌, Bool, if◌then◌else◌, ℕ, take, drop, ap, ◌∙◌}
 use Rattle.block_reap.specs.Limbo.{place_in}
 use Rattle.block_reap.proofs.PutLemmas.{put_at}
 use Rattle.block_reap.proofs.runs.put_in_place.Goals as goal
