@@ -7,6 +7,8 @@ mod chains;
 #[cfg(test)]
 mod chunks;
 #[cfg(test)]
+mod forks;
+#[cfg(test)]
 mod heads;
 #[cfg(test)]
 mod limbo;
