@@ -1,0 +1,3 @@
+pub mod NextLemmas
+pub mod PutLemmas
+pub mod RunLemmas

@@ -1,0 +1,4 @@
+pub mod ChainLemmas
+pub mod DueLemmas
+pub mod StepLemmas
+pub mod StretchLemmas

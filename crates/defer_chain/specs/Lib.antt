@@ -1,0 +1,4 @@
+pub mod Falls
+pub mod Owed
+pub mod Steps
+pub mod Stretch

@@ -1,0 +1,10 @@
+//! Changes of a fork's list of mappings: one is added, a piece of one is taken out, or made written.
+//! No call reads a device; a list changes only once its new form is known to fit.
+#![tactic(auto)]
+
+mod change;
+mod joins;
+mod lists;
+
+pub use change::{ForkChange, add, convert, take};
+pub use joins::MOST_MAPPED;

@@ -1,0 +1,10 @@
+use Rattle.std.proofs.Common.{◌∙◌, ap, arith}
+use Rattle.ag_headers.specs.Agf.{agf_in, agf_form}
+use Rattle.ag_headers.specs.Tests.{head_fault}
+use Rattle.root_switch.proofs.heads.put_heads.Goals as goal
+
+pub returns-clause-agf : goal.returns-clause-agf
+returns-clause-agf c = ap agf_in (c.encode-2.ensures.elsewhere 1 (omega arith)) ∙ c.encode.ensures.again
+
+pub returns-clause-agf_accepted : goal.returns-clause-agf_accepted
+returns-clause-agf_accepted c = λ at g fits. ap (head_fault agf_form at g) (c.encode-2.ensures.elsewhere 1 (omega arith)) ∙ c.encode.ensures.accepted at g fits
