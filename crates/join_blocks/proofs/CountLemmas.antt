@@ -1,8 +1,9 @@
 -- How many blocks are joined.
-use Rattle.std.proofs.Common.{◌≡◌, ◌≤◌, ◌<◌, ◌^◌, ℕ, suc, ◌+◌, Bool, true, false, List, [], ◌∷◌, length, refl, sym, ap, subst, ◌∙◌, arith, Result, Ok, Err, IsErrOf, eqb-true, inl, inr}
+use Rattle.std.proofs.Common.{◌≡◌, ◌≤◌, ◌<◌, ◌^◌, ℕ, suc, ◌+◌, Bool, true, false, List, [], ◌∷◌, ◌++◌, length, refl, sym, ap, subst, ◌∙◌, arith, Result, Ok, Err, IsErrOf, eqb-true, inl, inr}
 use Rattle.std.specs.Prelude.{◌↔◌, ◌⊎◌, ◌==◌, ◌||◌, not, nat_lt, is_some, if◌then◌else◌, Option, Some, None}
 use Rattle.std.specs.Result.{IsErr, IsErrAnd}
-use Rattle.redo_area.specs.Area.{Batch, homes_of}
+use Rattle.byte_fields.specs.declared.block.Block.{Block}
+use Rattle.redo_area.specs.Area.{Batch}
 use Rattle.redo_area.specs.Table.{rises}
 use Rattle.meta_txn.specs.Joined.{bytes_at, with_block, IsBatch, WouldBe}
 use Rattle.meta_txn.specs.Places.{is_there}
@@ -10,7 +11,7 @@ use Rattle.meta_txn.proofs.ListLemmas.{there_is}
 use Rattle.meta_txn.proofs.JoinedLaws.{bytes_at_with}
 use Rattle.meta_txn.specs.declared.fault.TxnFault.{TxnFault}
 use Rattle.meta_txn.specs.declared.fault.TxnFault.TheVariants.{TooMany, Failed}
-use Rattle.join_blocks.specs.Joins.{is_joined, fresh, numbers, count_of}
+use Rattle.join_blocks.specs.Joins.{is_joined, fresh, numbers, count_of, placed_in, CountGrows}
 
 -- one block more where its number wasn't there
 count_there : (at : ℕ) (bytes : List ℕ) (ps : Batch) → length (with_block at bytes ps) ≡ (if is_there at ps then length ps else suc (length ps))
@@ -118,6 +119,35 @@ room_on first b v bytes ps qs bs e put long room =
     let on = count_on (first + v) bytes ps qs (numbers first bs) put long in
     let same = ap (λ (n : ℕ). length ps + fresh (is_joined ps) ((first + n) ∷ numbers first bs)) e in
     omega (arith, on, same, room)
+
+-- what is to be joined besides is counted alike
+pub counts_on : (first b v : ℕ) (bytes : List ℕ) (ps qs : Batch) (later bs : List ℕ) → v ≡ b → qs ≡ with_block (first + v) bytes ps → length qs ≡ (if is_joined ps (first + v) then length ps else suc (length ps)) → count_of qs first (later ++ bs) ≡ count_of ps first ((b ∷ later) ++ bs)
+counts_on first b v bytes ps qs later bs e put long =
+    count_on (first + v) bytes ps qs (numbers first (later ++ bs)) put long
+    ∙ ap (λ (n : ℕ). length ps + fresh (is_joined ps) ((first + n) ∷ numbers first (later ++ bs))) e
+
+pub none_counted : (first : ℕ) (rest : List (ℕ × Block)) (ps : Batch) (bs : List ℕ) → length rest ≡ 0 → count_of ps first bs ≡ count_of ps first (placed_in rest ++ bs)
+none_counted first [] ps bs e = refl
+none_counted first (x ∷ xs) ps bs e = absurd (omega (arith, e))
+
+-- more blocks are as many or more
+pub fresh_grows : (f : ℕ → Bool) (xs ys : List ℕ) → fresh f xs ≤ fresh f (xs ++ ys)
+unfolding fresh
+fresh_grows f [] ys = omega arith
+fresh_grows f (x ∷ xs) ys = elim (f x) as (λ t. (if t then fresh f xs else suc (fresh (λ n. n == x || f n) xs)) ≤ (if t then fresh f (xs ++ ys) else suc (fresh (λ n. n == x || f n) (xs ++ ys)))) [
+  | true ↦ fresh_grows f xs ys
+  | false ↦ let rest = fresh_grows (λ n. n == x || f n) xs ys in omega (arith, rest)
+]
+
+numbers_both : (first : ℕ) (xs ys : List ℕ) → numbers first (xs ++ ys) ≡ numbers first xs ++ numbers first ys
+numbers_both first [] ys = refl
+numbers_both first (x ∷ xs) ys = ap (λ (l : List ℕ). (first + x) ∷ l) (numbers_both first xs ys)
+
+pub count_grows : CountGrows
+count_grows joined first xs ys =
+    let rest = fresh_grows (is_joined joined) (numbers first xs) (numbers first ys) in
+    let both = ap (λ (l : List ℕ). fresh (is_joined joined) l) (numbers_both first xs ys) in
+    omega (arith, rest, both)
 
 pub free_room : (first b v : ℕ) (ps : Batch) (bs : List ℕ) → v ≡ b → count_of ps first (b ∷ bs) ≤ 160 → (length ps < 160) ⊎ (is_joined ps (first + v) ≡ true)
 free_room first b v ps bs e room = subst (λ (n : ℕ). (length ps < 160) ⊎ (is_joined ps (first + n) ≡ true)) (sym e) (room_or_joined (first + b) ps (numbers first bs) room)

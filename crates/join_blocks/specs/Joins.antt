@@ -1,5 +1,5 @@
 -- Blocks of a group that are joined to a transaction. `first` is the image's number of the group's block 0.
-use Rattle.std.specs.Prelude.{◌≡◌, ℕ, suc, ◌+◌, ◌<◌, ◌==◌, Bool, ◌||◌, List, [], ◌∷◌, is_some, length, map, Option, Some, if◌then◌else◌}
+use Rattle.std.specs.Prelude.{◌≡◌, ℕ, suc, ◌+◌, ◌<◌, ◌≤◌, ◌==◌, Bool, ◌||◌, List, [], ◌∷◌, ◌++◌, is_some, length, map, Option, Some, if◌then◌else◌}
 use Rattle.byte_fields.specs.declared.block.Block.{Block}
 use Rattle.blk_device.specs.Contents.{Contents}
 use Rattle.redo_area.specs.Area.{Batch}
@@ -55,3 +55,7 @@ PutsOthers = (first at : ℕ) (placed : List (ℕ × Block)) (joined : Batch) �
 
 abbrev pub FindsOthers : Type 0
 FindsOthers = (told : Option Contents) (first at : ℕ) (blocks : List ℕ) (old new : Batch) → AreFound told first blocks old new → ((b : ℕ) → In b blocks → first + b ≡ at → ⊥) → bytes_at at new ≡ bytes_at at old
+
+-- with more blocks to be joined, no fewer are joined
+abbrev pub CountGrows : Type 0
+CountGrows = (joined : Batch) (first : ℕ) (xs ys : List ℕ) → count_of joined first xs ≤ count_of joined first (xs ++ ys)

@@ -20,12 +20,7 @@ fn note(txn: &Txn, seen: &mut BTreeSet<u64>, at: u64) -> Result<bool, AllocError
 /// How many blocks the transaction would have with each of these joined, a block that is joined
 /// already or stands twice counted once. Blocks are counted from the group's block 0, which is
 /// `first` of the image. It costs a step a block, and memory for as many numbers.
-pub fn count_with(
-    alloc: Global,
-    txn: &Txn,
-    first: u64,
-    blocks: &[u32],
-) -> Result<u64, AllocError>
+pub fn count_with(alloc: Global, txn: &Txn, first: u64, blocks: &[u32]) -> Result<u64, AllocError>
     requires fits { LieBelow (2 ^ 64) first blocks.now }
     requires few { length blocks.now + MAX_BATCH < 2 ^ 64 }
     ensures { IfOk result (λ count. count ≡ count_of txn.now.blocks first blocks.now) }

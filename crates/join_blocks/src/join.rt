@@ -1,4 +1,4 @@
-ghost use Rattle.std.specs.Prelude.{◌≡◌, ◌+◌, ◌^◌, ◌<◌, ◌≤◌, ◌↔◌, ℕ, true, suc, List, length, map, is_some, if◌then◌else◌, IfErr, OnOk, OnErr, IsErrOf};
+ghost use Rattle.std.specs.Prelude.{◌≡◌, ◌+◌, ◌^◌, ◌<◌, ◌≤◌, ◌↔◌, ◌++◌, ℕ, true, suc, List, length, map, is_some, if◌then◌else◌, IfErr, OnOk, OnErr, IsErrOf};
 ghost use Rattle.blk_cache.specs.Cache.{AgreesTold};
 ghost use Rattle.blk_device.specs.Causes.{HasCause, any_error};
 ghost use Rattle.blk_device.specs.Reading.{OnlyRead};
@@ -80,6 +80,7 @@ pub fn join_put<D: Device, L: Ledger>(
     requires room { count_of txn.old.blocks first (placed_in placed.now) ≤ MAX_BATCH }
     requires agreed { AgreesTold cache.old (D.content dev.old) }
     ensures put { OnOk result (txn.new.blocks ≡ with_all first placed.now txn.old.blocks) }
+    ensures count { OnOk result ((bs : List ℕ) → count_of txn.new.blocks first bs ≡ count_of txn.old.blocks first (placed_in placed.now ++ bs)) }
     ensures marked { txn.new.marked ≡ txn.old.marked }
     ensures kind { IfErr result (λ fault. fault ≡ TxnFault.Failed) }
     ensures reading { OnlyRead D.Device dev.old dev.new steps.old steps.new }

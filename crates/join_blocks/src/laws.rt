@@ -1,4 +1,4 @@
-ghost use Rattle.join_blocks.specs.Joins.{PutsEach, PutsOthers, FindsOthers};
+ghost use Rattle.join_blocks.specs.Joins.{PutsEach, PutsOthers, FindsOthers, CountGrows};
 
 /// Where none of the blocks stands twice, each has the bytes that were put in.
 pub fn puts_each()
@@ -9,4 +9,9 @@ pub fn puts_each()
 pub fn joins_these_alone()
     ensures put { PutsOthers }
     ensures found { FindsOthers }
+{}
+
+/// With more blocks to be joined, no fewer are joined.
+pub fn count_grows()
+    ensures { CountGrows }
 {}

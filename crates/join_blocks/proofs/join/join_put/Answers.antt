@@ -1,4 +1,4 @@
-use Rattle.std.proofs.Common.{◌≡◌, ◌<◌, ◌^◌, ◌+◌, ◌≤◌, ◌∙◌, ℕ, List, sym, ap, subst, arith, IfErr}
+use Rattle.std.proofs.Common.{◌≡◌, ◌<◌, ◌^◌, ◌+◌, ◌≤◌, ◌++◌, ◌∙◌, ℕ, List, sym, ap, subst, arith, IfErr}
 use Rattle.byte_fields.specs.declared.block.Block.{Block}
 use Rattle.blk_device.specs.Causes.{MovesOnly, HasCause}
 use Rattle.blk_device.specs.ReadingLaws.{read_on}
@@ -6,7 +6,7 @@ use Rattle.blk_device.specs.declared.device.Region.{Region}
 use Rattle.blk_device.specs.declared.device.Region.TheVariants.{Image}
 use Rattle.meta_txn.specs.declared.fault.TxnFault.TheVariants.{Failed}
 use Rattle.join_blocks.specs.Joins.{count_of, with_all, placed_in, numbers, LieBelow}
-use Rattle.join_blocks.proofs.CountLemmas.{with_err, room_on, free_room, by_either}
+use Rattle.join_blocks.proofs.CountLemmas.{with_err, counts_on, none_counted, room_on, free_room, by_either}
 use Rattle.join_blocks.proofs.PutLemmas.{none_left, one_less}
 use Rattle.join_blocks.proofs.join.join_put.Goals as goal
 
@@ -44,6 +44,7 @@ loop-block-preserved g c =
       fits = fits.1;
       room = room_on c.args.first e.0 c.from.result e.1.bytes s.txn.blocks c.put_one.new.txn.blocks (placed_in c.in-Some.later.now) c.from.ensures done.put done.count room;
       put = one_less c.args.first c.from.result e c.in-Some.later.now s.rest.now c.args.placed.now s.txn.blocks c.put_one.new.txn.blocks c.args.txn.now.blocks c.from.ensures is done.put s.invariant.put;
+      count = λ bs. counts_on c.args.first e.0 c.from.result e.1.bytes s.txn.blocks c.put_one.new.txn.blocks (placed_in c.in-Some.later.now) bs c.from.ensures done.put done.count ∙ sym (ap (λ (l : List (ℕ × Block)). count_of s.txn.blocks c.args.first (placed_in l ++ bs)) is) ∙ s.invariant.count bs;
       marked = done.marked ∙ s.invariant.marked;
       reading = read_on g.D.Device met.only_now met.counts_now c.args.dev.now s.dev c.put_one.new.dev c.args.steps.now s.steps c.put_one.new.steps s.invariant.reading done.reading;
       calm = done.cause ∙ s.invariant.calm;
@@ -52,3 +53,6 @@ loop-block-preserved g c =
 
 pub returns-clause-put : goal.returns-clause-put
 returns-clause-put g c = none_left c.args.first c.loop-block.rest.now c.args.placed.now c.loop-block.txn.blocks c.args.txn.now.blocks c.in_default.ensures.cases c.loop-block.invariant.put
+
+pub returns-clause-count : goal.returns-clause-count
+returns-clause-count g c = λ bs. none_counted c.args.first c.loop-block.rest.now c.loop-block.txn.blocks bs c.in_default.ensures.cases ∙ c.loop-block.invariant.count bs

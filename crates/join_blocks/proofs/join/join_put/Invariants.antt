@@ -1,4 +1,4 @@
-use Rattle.std.proofs.Common.{◌≡◌, ◌≤◌, ◌^◌, length}
+use Rattle.std.proofs.Common.{◌≡◌, ◌≤◌, ◌^◌, ◌++◌, ℕ, List, length}
 use Rattle.blk_cache.specs.Cache.{AgreesTold}
 use Rattle.blk_device.specs.Reading.{OnlyRead}
 use Rattle.blk_device.specs.declared.device.Region.TheVariants.{Image}
@@ -12,6 +12,7 @@ invariant-loop-block g l = record {
   fits : LieBelow (2 ^ 64) l.first (placed_in l.rest);
   room : count_of l.txn.blocks l.first (placed_in l.rest) ≤ MAX_BATCH;
   put : with_all l.first l.rest l.txn.blocks ≡ with_all l.first l.placed l.initial.txn.blocks;
+  count : (bs : List ℕ) → count_of l.txn.blocks l.first (placed_in l.rest ++ bs) ≡ count_of l.initial.txn.blocks l.first (placed_in l.placed ++ bs);
   marked : l.txn.marked ≡ l.initial.txn.marked;
   reading : OnlyRead g.D.Device l.initial.dev l.dev l.initial.steps l.steps;
   calm : g.D.Device.faults l.dev ≡ g.D.Device.faults l.initial.dev;
