@@ -6,7 +6,7 @@ ghost use Rattle.tree_blocks.specs.Reading.{is_failed};
 ghost use Rattle.tree_defs.specs.Tree.{read_tree};
 ghost use Rattle.tree_walk.specs.Meets.{MeetsTree};
 ghost use Rattle.tree_walk.specs.Trails.{AreSound, LieInside};
-ghost use Rattle.txn_blocks.specs.Through.{OfEdited, FindsIn};
+ghost use Rattle.txn_blocks.specs.Through.{OfEdited, FindsIn, Lasts};
 ghost use Rattle.blk_cache.specs.Cache.{AgreesTold};
 ghost use Rattle.blk_device.specs.declared.device.Region.TheVariants.{Image};
 
@@ -82,6 +82,7 @@ pub fn find_edited<K: RecKind, D: Device, L: Ledger>(
     ensures right { OfEdited edit.old.site edit.old.txn.now (D.content edit.old.dev.now) (λ m. FindsIn K.form edit.old.site m tree.now key.now result) }
     ensures joined { edit.new.txn.now ≡ edit.old.txn.now }
     ensures reading { OnlyRead D.Device edit.old.dev.now edit.new.dev.now edit.old.steps.now edit.new.steps.now }
+    ensures lasts { Lasts D.Device edit.old.dev edit.new.dev edit.old.cache edit.new.cache edit.old.steps edit.new.steps edit.old.txn edit.new.txn }
     ensures cause { HasCause is_failed (D.faults edit.old.dev.now) (D.faults edit.new.dev.now) result }
 {
     let site = edit.site;
@@ -101,6 +102,7 @@ pub fn walk_edited<K: RecKind, D: Device, L: Ledger>(
     ensures lie { IfOk result (λ read. LieInside edit.old.site.bounds.length read.blocks.items) }
     ensures joined { edit.new.txn.now ≡ edit.old.txn.now }
     ensures site { edit.new.site ≡ edit.old.site }
+    ensures lasts { Lasts D.Device edit.old.dev edit.new.dev edit.old.cache edit.new.cache edit.old.steps edit.new.steps edit.old.txn edit.new.txn }
     ensures reading { OnlyRead D.Device edit.old.dev.now edit.new.dev.now edit.old.steps.now edit.new.steps.now }
     ensures cause { HasCause is_failed (D.faults edit.old.dev.now) (D.faults edit.new.dev.now) result }
     ensures each { IfOk result (λ read. edit.new.steps.now.reads ≡ edit.old.steps.now.reads + length read.blocks.items) }
