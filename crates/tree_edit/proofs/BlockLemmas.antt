@@ -1,6 +1,9 @@
 -- Which blocks an edited tree has and leaves.
-use Rattle.std.proofs.Common.{◌≡◌, ◌≤◌, ◌-◌, ℕ, zero, suc, ◌+◌, Bool, true, false, List, [], ◌∷◌, ◌++◌, length, take, drop, refl, sym, ap, subst, ◌∙◌, inl, inr, arith, length-drop, take-append-drop, eqb-true}
-use Rattle.std.specs.Prelude.{◌⊎◌, ◌==◌, if◌then◌else◌}
+use Rattle.std.proofs.Common.{◌≡◌, ◌≤◌, ◌<◌, ◌-◌, ℕ, zero, suc, ◌+◌, Bool, true, false, List, [], ◌∷◌, ◌++◌, length, take, drop, refl, sym, ap, subst, ◌∙◌, inl, inr, arith, length-drop, take-append-drop, eqb-true}
+use Rattle.std.specs.Prelude.{◌⊎◌, ◌==◌, ◌&&◌, nat_le, nat_lt, if◌then◌else◌}
+use Rattle.std.proofs.lemmas.Bool.Decides.{nat_tests}
+use Rattle.sblock.specs.Blocks.{AreBlocks}
+use Rattle.sblock.specs.Lists.{Each}
 use Rattle.tree_defs.specs.Lists.{In, times, AllDiffer}
 use Rattle.edit_blocks.specs.Choice.{chosen, taken, freed}
 use Rattle.edit_blocks.proofs.ChoiceLemmas.{times_append, each_once}
@@ -28,7 +31,7 @@ some_long b [] there = absurd there
 some_long b (c ∷ cs) there = omega arith
 
 module _ (before listed claimed left : List ℕ) (chose : AreChosen before listed claimed left) (b : ℕ) where
-  once : times b claimed + times b left ≡ times b before + times b (taken before listed (length claimed))
+  pub once : times b claimed + times b left ≡ times b before + times b (taken before listed (length claimed))
   once =
       let c = ap (times b) chose.first in
       let f = ap (times b) chose.rest in
@@ -73,3 +76,26 @@ lie_first size first (x ∷ xs) ys lie = (lie.0, lie_first size first xs ys lie.
 pub lie_rest : (size first : ℕ) (xs ys : List ℕ) → LieBelow size first (xs ++ ys) → LieBelow size first ys
 lie_rest size first [] ys lie = lie
 lie_rest size first (x ∷ xs) ys lie = lie_rest size first xs ys lie.1
+
+lies : (b len : ℕ) → nat_lt b len ≡ true → b < len
+lies b len h = grind (arith, nat_tests)
+
+lies_behind : (b len : ℕ) → (nat_le 1 b && nat_lt b len) ≡ true → b < len
+lies_behind b len h = grind (arith, nat_tests)
+
+pub lie_of_blocks : (size first len : ℕ) (bs : List ℕ) → first + len ≤ size → AreBlocks len bs → LieBelow size first bs
+lie_of_blocks size first len [] room all = tt
+lie_of_blocks size first len (b ∷ bs) room all = let low = lies_behind b len all.0 in (omega (arith, low, room), lie_of_blocks size first len bs room all.1)
+
+pub lie_of_inside : (size first len : ℕ) (bs : List ℕ) → first + len ≤ size → Each (λ b. nat_lt b len) bs → LieBelow size first bs
+lie_of_inside size first len [] room all = tt
+lie_of_inside size first len (b ∷ bs) room all = let low = lies b len all.0 in (omega (arith, low, room), lie_of_inside size first len bs room all.1)
+
+pub lie_both : (size first : ℕ) (xs ys : List ℕ) → LieBelow size first xs → LieBelow size first ys → LieBelow size first (xs ++ ys)
+lie_both size first [] ys low high = high
+lie_both size first (x ∷ xs) ys low high = (low.0, lie_both size first xs ys low.1 high)
+
+pub each_drop : (test : ℕ → Bool) (n : ℕ) (xs : List ℕ) → Each test xs → Each test (drop n xs)
+each_drop test zero xs all = all
+each_drop test (suc n) [] all = tt
+each_drop test (suc n) (x ∷ xs) all = each_drop test n xs all.1

@@ -1,2 +1,4 @@
 pub mod BlockLemmas
+pub mod MakeLemmas
+pub mod PrepareLemmas
 pub mod ReadLemmas

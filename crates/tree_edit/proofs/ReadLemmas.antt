@@ -32,7 +32,7 @@ drop_end (x ∷ xs) (suc k) le = drop_end xs k (omega (arith, le))
 
 module _ {R K : Type 0} (form : Form R K) (list : List R) (claimed : List ℕ) (frame : Frame) where
   -- the blocks that are put in are the claimed ones
-  placed_are : (k : ℕ) (es : List (ℕ × Block)) → AreLaid form list claimed frame k es → k + length es ≡ length claimed → placed_in es ≡ drop k claimed
+  pub placed_are : (k : ℕ) (es : List (ℕ × Block)) → AreLaid form list claimed frame k es → k + length es ≡ length claimed → placed_in es ≡ drop k claimed
   placed_are k [] laid e = sym (drop_end claimed k (omega (arith, e)))
   placed_are k (x ∷ es) laid e =
       let rest : drop k claimed ≡ slice_index claimed k ∷ drop (k + 1) claimed = rw add-one (drop-cons claimed k 0 (omega (arith, e))) in

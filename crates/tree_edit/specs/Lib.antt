@@ -1,3 +1,7 @@
 pub mod Anew
+pub mod Device
 pub mod Faults
+pub mod Making
 pub mod Plans
+pub mod Prepared
+pub mod Reads

@@ -4,7 +4,11 @@
 mod fault;
 mod join;
 mod laws;
+mod make;
 mod plan;
+mod prepare;
+mod read;
+mod settle;
 
 pub use fault::EditFault;
 pub use join::join_tree;
