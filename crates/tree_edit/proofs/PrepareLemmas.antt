@@ -20,7 +20,7 @@ use Rattle.tree_edit.specs.declared.fault.EditFault.{EditFault}
 use Rattle.tree_edit.specs.declared.fault.EditFault.TheVariants.{Bad, Missing, Overlap, Short, TooLarge, Failed, Memory}
 
 -- what holds of each content that is told
-on_told : {P Q : Contents → Type 0} (told : Option Contents) → IfSome told P → ((c : Contents) → P c → Q c) → IfSome told Q
+pub on_told : {P Q : Contents → Type 0} (told : Option Contents) → IfSome told P → ((c : Contents) → P c → Q c) → IfSome told Q
 on_told None p f = tt
 on_told (Some c) p f = f c p
 

@@ -1,5 +1,6 @@
 pub mod Anew
 pub mod Device
+pub mod Edited
 pub mod Faults
 pub mod Making
 pub mod Plans

@@ -8,6 +8,7 @@ mod make;
 mod plan;
 mod prepare;
 mod read;
+mod rewrite;
 mod settle;
 
 pub use fault::EditFault;
