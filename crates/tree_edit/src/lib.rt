@@ -1,6 +1,7 @@
 //! A tree of a group with a record put in, taken out or changed, as a change of a transaction.
 #![tactic(auto)]
 
+mod edits;
 mod fault;
 mod join;
 mod laws;
@@ -11,6 +12,7 @@ mod read;
 mod rewrite;
 mod settle;
 
+pub use edits::{change, insert, remove};
 pub use fault::EditFault;
 pub use join::join_tree;
 pub use laws::joined_tree_is_read;
