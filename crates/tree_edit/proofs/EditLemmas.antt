@@ -1,5 +1,5 @@
 -- An edit that was prepared, joined and settled is one.
-use Rattle.std.proofs.Common.{◌≡◌, ◌≤◌, ◌<◌, ◌+◌, ◌*◌, ◌^◌, ℕ, true, List, ◌++◌, length, drop, Ok, [], sym, ap, subst, ◌∙◌, arith}
+use Rattle.std.proofs.Common.{◌≡◌, ◌≤◌, ◌<◌, ◌+◌, ◌*◌, ◌^◌, ℕ, true, List, ◌++◌, length, drop, Ok, [], ◌∷◌, sym, ap, subst, ◌∙◌, arith}
 use Rattle.std.proofs.lemmas.List.{length-take-le}
 use Rattle.std.specs.Prelude.{nat_lt, Option, Some, IfSome}
 use Rattle.blk_device.specs.Contents.{Contents}
@@ -10,7 +10,8 @@ use Rattle.blk_device.specs.Reading.{EachBlock, OnlyRead}
 use Rattle.blk_device.specs.ReadingLaws.{keeps_on}
 use Rattle.blk_device.specs.declared.device.Device.{Ghosts}
 use Rattle.redo_area.specs.Area.{Batch}
-use Rattle.meta_txn.specs.Joined.{Joined, written}
+use Rattle.meta_txn.specs.Joined.{Joined, with_block, written, AreBelow}
+use Rattle.meta_txn.proofs.JoinedLaws.{below_with}
 use Rattle.sblock.specs.Form.{Form, IsLawful}
 use Rattle.sblock.specs.Headers.{no_block}
 use Rattle.tree_defs.specs.Lists.{times, AllDiffer}
@@ -22,7 +23,7 @@ use Rattle.tree_defs.proofs.Trees.{reads_trees_lem}
 use Rattle.tree_defs.proofs.Rows.{blocks_differ_lem}
 use Rattle.edit_blocks.specs.Choice.{need_of, taken, untaken, for_list, for_limbo}
 use Rattle.edit_blocks.proofs.ChoiceLemmas.{taken_are_first}
-use Rattle.join_blocks.specs.Joins.{count_of, placed_in, LieBelow}
+use Rattle.join_blocks.specs.Joins.{count_of, placed_in, with_all, AreFound, LieBelow}
 use Rattle.list_edit.specs.Edits.{edited}
 use Rattle.list_edit.specs.declared.edits.Edit.{Edit}
 use Rattle.load_trees.specs.Fit.{frame_of}
@@ -136,3 +137,13 @@ left_on g only_now counts_now old mid new before after left reading = record {
   later = omega (arith, left.later, reading.later);
   crash = keeps_on g only_now counts_now EachBlock old mid new left.crash reading.crash;
 }
+
+-- numbers that are joined stay below the image's size
+pub put_below : (size first : ℕ) (placed : List (ℕ × Block)) (joined : Batch) → AreBelow size joined → LieBelow size first (placed_in placed) → AreBelow size (with_all first placed joined)
+unfolding with_all
+put_below size first [] joined below lie = below
+put_below size first (e ∷ es) joined below lie = put_below size first es (with_block (first + e.0) e.1.bytes joined) (below_with size (first + e.0) e.1.bytes joined below lie.0) lie.1
+
+pub found_below : (size : ℕ) (about : Option Contents) (first : ℕ) (left : List ℕ) (old new : Batch) → AreBelow size old → LieBelow size first left → AreFound about first left old new → AreBelow size new
+found_below size about first [] old new below lie found = subst (AreBelow size) (sym found) below
+found_below size about first (b ∷ bs) old new below lie found = found_below size about first bs (with_block (first + b) found.0 old) new (below_with size (first + b) found.0 old below lie.0) lie.1 found.2

@@ -5,6 +5,7 @@ ghost use Rattle.blk_device.specs.Causes.{HasCause};
 ghost use Rattle.blk_device.specs.declared.device.Region.TheVariants.{Image};
 ghost use Rattle.edit_blocks.specs.Choice.{IsSameList};
 ghost use Rattle.geom.specs.Places.{layout};
+ghost use Rattle.meta_txn.specs.Joined.{AreBelow};
 ghost use Rattle.tree_defs.specs.Sites.{site_of};
 ghost use Rattle.tree_edit.specs.Device.{IsLeft};
 ghost use Rattle.tree_edit.specs.Edited.{IsEdited, IsSameTree, RefusesEdit};
@@ -52,6 +53,7 @@ pub fn insert<K: RecKind, D: Device, L: Ledger>(
     requires agreed { AgreesTold cache.old (D.content dev.old) }
     ensures edited { OnOk result (IsEdited K.form (site_of (layout geo.now) tree.old.group) Edit.Insert rec (D.content dev.old) (held tree.old txn.old list.old limbo.old.items) (held tree.new txn.new list.new limbo.new.items)) }
     ensures refused { IfErr result (RefusesEdit K.form (site_of (layout geo.now) tree.old.group) Edit.Insert rec (D.content dev.old) (held tree.old txn.old list.old limbo.old.items)) }
+    ensures below { AreBelow (D.blocks dev.old Image) txn.old.blocks → OnOk result (AreBelow (D.blocks dev.old Image) txn.new.blocks) }
     ensures marked { txn.new.marked ≡ txn.old.marked }
     ensures tree { IsSameTree tree.old tree.new }
     ensures list { IsSameList list.old list.new }
@@ -94,6 +96,7 @@ pub fn remove<K: RecKind, D: Device, L: Ledger>(
     requires agreed { AgreesTold cache.old (D.content dev.old) }
     ensures edited { OnOk result (IsEdited K.form (site_of (layout geo.now) tree.old.group) Edit.Remove rec (D.content dev.old) (held tree.old txn.old list.old limbo.old.items) (held tree.new txn.new list.new limbo.new.items)) }
     ensures refused { IfErr result (RefusesEdit K.form (site_of (layout geo.now) tree.old.group) Edit.Remove rec (D.content dev.old) (held tree.old txn.old list.old limbo.old.items)) }
+    ensures below { AreBelow (D.blocks dev.old Image) txn.old.blocks → OnOk result (AreBelow (D.blocks dev.old Image) txn.new.blocks) }
     ensures marked { txn.new.marked ≡ txn.old.marked }
     ensures tree { IsSameTree tree.old tree.new }
     ensures list { IsSameList list.old list.new }
@@ -139,6 +142,7 @@ pub fn change<K: RecKind, D: Device, L: Ledger>(
     requires agreed { AgreesTold cache.old (D.content dev.old) }
     ensures edited { OnOk result (IsEdited K.form (site_of (layout geo.now) tree.old.group) Edit.Change rec (D.content dev.old) (held tree.old txn.old list.old limbo.old.items) (held tree.new txn.new list.new limbo.new.items)) }
     ensures refused { IfErr result (RefusesEdit K.form (site_of (layout geo.now) tree.old.group) Edit.Change rec (D.content dev.old) (held tree.old txn.old list.old limbo.old.items)) }
+    ensures below { AreBelow (D.blocks dev.old Image) txn.old.blocks → OnOk result (AreBelow (D.blocks dev.old Image) txn.new.blocks) }
     ensures marked { txn.new.marked ≡ txn.old.marked }
     ensures tree { IsSameTree tree.old tree.new }
     ensures list { IsSameList list.old list.new }

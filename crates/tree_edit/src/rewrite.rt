@@ -6,6 +6,7 @@ ghost use Rattle.blk_device.specs.Causes.{HasCause};
 ghost use Rattle.blk_device.specs.declared.device.Region.TheVariants.{Image};
 ghost use Rattle.edit_blocks.specs.Choice.{IsSameList};
 ghost use Rattle.list_edit.specs.Laws.{IsPut};
+ghost use Rattle.meta_txn.specs.Joined.{AreBelow};
 ghost use Rattle.sblock.specs.Headers.{no_block};
 ghost use Rattle.tree_edit.specs.Device.{IsLeft};
 ghost use Rattle.tree_edit.specs.Edited.{IsEdited, IsSameTree, RefusesEdit};
@@ -49,6 +50,7 @@ pub(crate) fn rewrite<K: RecKind, D: Device, L: Ledger>(
     requires agreed { AgreesTold cache.old (D.content dev.old) }
     ensures edited { OnOk result (IsEdited K.form site.now how rec.now (D.content dev.old) (held tree.old txn.old list.old limbo.old.items) (held tree.new txn.new list.new limbo.new.items)) }
     ensures refused { IfErr result (RefusesEdit K.form site.now how rec.now (D.content dev.old) (held tree.old txn.old list.old limbo.old.items)) }
+    ensures below { AreBelow (D.blocks dev.old Image) txn.old.blocks → OnOk result (AreBelow (D.blocks dev.old Image) txn.new.blocks) }
     ensures marked { txn.new.marked ≡ txn.old.marked }
     ensures tree { IsSameTree tree.old tree.new }
     ensures list { IsSameList list.old list.new }

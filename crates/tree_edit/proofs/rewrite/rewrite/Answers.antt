@@ -3,9 +3,10 @@ use Rattle.blk_device.specs.declared.device.Region.{Region}
 use Rattle.blk_device.specs.declared.device.Region.TheVariants.{Image}
 use Rattle.ag_headers.specs.Ring.{entries}
 use Rattle.edit_blocks.specs.Choice.{for_list, for_limbo}
-use Rattle.join_blocks.specs.Joins.{count_of, LieBelow}
+use Rattle.join_blocks.specs.Joins.{count_of, placed_in, with_all, LieBelow}
 use Rattle.meta_txn.specs.Joined.{Joined}
-use Rattle.tree_edit.proofs.EditLemmas.{touched_are, touched_lie, same_touched, same_joined, is_edited, left_on}
+use Rattle.tree_edit.proofs.EditLemmas.{touched_are, touched_lie, same_touched, same_joined, is_edited, left_on, put_below, found_below}
+use Rattle.tree_edit.proofs.BlockLemmas.{lie_first, lie_rest}
 use Rattle.tree_edit.proofs.rewrite.rewrite.Goals as goal
 
 pub join_tree-requires-clause-touched : goal.join_tree-requires-clause-touched
@@ -58,3 +59,18 @@ returns-clause-edited g c =
     (c.join_tree.ensures.marked ∙ ap (λ (t : Joined). t.marked) same)
     (c.in-Ok-settle.ensures.list ∙ ap (λ (bs : List ℕ). rest ++ for_list rest bs) c.deref-4.ensures.value)
     (c.in-Ok-settle.ensures.limbo ∙ ap (λ (bs : List ℕ). limbo ++ for_limbo rest bs) c.deref-4.ensures.value)
+
+pub returns-clause-below : goal.returns-clause-below
+returns-clause-below g c = λ below.
+    let d = g.D.Device in
+    let form = g.K.RecKind.form in
+    let site = c.args.site.now in
+    let old = c.args.txn.now in
+    let made = c.in-Ok.made in
+    let p = c.in-Ok.ensures.prepared in
+    let listed = entries c.args.list.now in
+    let size = d.blocks c.args.dev.now Image in
+    let lie = subst (LieBelow size site.first) (touched_are form site c.args.tree.now.lsn p.records p.before listed made p.ready) (touched_lie form site c.args.tree.now.lsn p.records p.before listed made p.ready size c.requires.room p.lie) in
+    let put = put_below size site.first made.placed.items old.blocks below (lie_first size site.first (placed_in made.placed.items) made.left.items lie) in
+    let joined = same_joined (d.content c.args.dev.now) (d.content c.prepare.new.dev) site.first made.placed.items c.deref.result.now made.left.items c.deref-2.result.now old.blocks c.prepare.new.txn.blocks c.join_tree.new.txn.blocks c.prepare.ensures.left.same c.deref.ensures.value c.deref-2.ensures.value (ap (λ (t : Joined). t.blocks) c.prepare.ensures.txn) c.in-Ok-join_tree.ensures.joined in
+    found_below size (d.content c.args.dev.now) site.first made.left.items (with_all site.first made.placed.items old.blocks) c.join_tree.new.txn.blocks put (lie_rest size site.first (placed_in made.placed.items) made.left.items lie) joined
