@@ -14,4 +14,4 @@ pub use tree_claims::claimed;
 pub use tree_cover::covering;
 pub use tree_find::{find, last, next_leaf};
 pub use tree_pieces::path_piece;
-pub use walker::walk;
+pub use walker::{walk, walk_site};

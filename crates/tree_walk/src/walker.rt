@@ -159,8 +159,9 @@ fn walk_levels<K: RecKind, B: Blocks>(
     })
 }
 
-// Reads the tree of this root and count of levels.
-fn walk_site<K: RecKind, B: Blocks>(
+/// The records and blocks of a tree, or its first fault, read by any way of reading a group's blocks,
+/// as through a transaction; `walk` is the same on a device.
+pub fn walk_site<K: RecKind, B: Blocks>(
     alloc: Global,
     blocks: &mut B,
     site: &Site,

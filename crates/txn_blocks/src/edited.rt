@@ -1,9 +1,12 @@
 ghost use Rattle.std.proofs.Props.{props};
-ghost use Rattle.std.specs.Prelude.{◌≡◌, ◌+◌, ◌*◌, ◌^◌, ◌<◌, ◌≤◌};
+ghost use Rattle.std.specs.Prelude.{◌≡◌, ◌+◌, ◌*◌, ◌^◌, ◌<◌, ◌≤◌, length, IfOk};
 ghost use Rattle.blk_device.specs.Reading.{OnlyRead};
 ghost use Rattle.blk_device.specs.Causes.{HasCause};
 ghost use Rattle.tree_blocks.specs.Reading.{is_failed};
-ghost use Rattle.txn_blocks.specs.Through.{OfEdited, FindsIn};
+ghost use Rattle.tree_defs.specs.Tree.{read_tree};
+ghost use Rattle.tree_walk.specs.Meets.{MeetsTree};
+ghost use Rattle.tree_walk.specs.Trails.{AreSound, LieInside};
+ghost use Rattle.txn_blocks.specs.Through.{OfEdited, FindsIn, Lasts};
 ghost use Rattle.blk_cache.specs.Cache.{AgreesTold};
 ghost use Rattle.blk_device.specs.declared.device.Region.TheVariants.{Image};
 
@@ -12,10 +15,12 @@ use blk_device::Device;
 use byte_fields::{Block, Steps};
 use meta_txn::Txn;
 use sblock::RecKind;
+use std::alloc::Global;
 use std::sync::ledger::Ledger;
-use tree_blocks::{Blocks, TreeAt, WalkFault};
+use tree_blocks::{Blocks, TreeAt, TreeRead, WalkFault};
 use tree_defs::Site;
 use tree_find::find_site;
+use tree_walk::walk_site;
 
 /// The blocks of a group as a transaction has changed them: those that are joined as they are
 /// joined, and the others read through a cache. A read joins nothing, and each is counted, also of a
@@ -77,8 +82,31 @@ pub fn find_edited<K: RecKind, D: Device, L: Ledger>(
     ensures right { OfEdited edit.old.site edit.old.txn.now (D.content edit.old.dev.now) (λ m. FindsIn K.form edit.old.site m tree.now key.now result) }
     ensures joined { edit.new.txn.now ≡ edit.old.txn.now }
     ensures reading { OnlyRead D.Device edit.old.dev.now edit.new.dev.now edit.old.steps.now edit.new.steps.now }
+    ensures lasts { Lasts D.Device edit.old.dev edit.new.dev edit.old.cache edit.new.cache edit.old.steps edit.new.steps edit.old.txn edit.new.txn }
     ensures cause { HasCause is_failed (D.faults edit.old.dev.now) (D.faults edit.new.dev.now) result }
 {
     let site = edit.site;
     find_site::<K, Edited<D, L>>(edit, &site, tree, key)
+}
+
+/// The records and blocks of a tree as the transaction has changed it, or its first fault; nothing is
+/// joined (XFS Algorithms and Data Structures, "Short Format B+trees").
+pub fn walk_edited<K: RecKind, D: Device, L: Ledger>(
+    alloc: Global,
+    edit: &mut Edited<D, L>,
+    tree: &TreeAt,
+) -> Result<TreeRead<K::Rec>, WalkFault>
+    ensures exact { OfEdited edit.old.site edit.old.txn.now (D.content edit.old.dev.now)
+        (λ m. MeetsTree (read_tree K.form edit.old.site m tree.now.root tree.now.levels) result) }
+    ensures sound { IfOk result (λ read. AreSound K.form edit.old.site.bounds read.recs.items) }
+    ensures lie { IfOk result (λ read. LieInside edit.old.site.bounds.length read.blocks.items) }
+    ensures joined { edit.new.txn.now ≡ edit.old.txn.now }
+    ensures site { edit.new.site ≡ edit.old.site }
+    ensures lasts { Lasts D.Device edit.old.dev edit.new.dev edit.old.cache edit.new.cache edit.old.steps edit.new.steps edit.old.txn edit.new.txn }
+    ensures reading { OnlyRead D.Device edit.old.dev.now edit.new.dev.now edit.old.steps.now edit.new.steps.now }
+    ensures cause { HasCause is_failed (D.faults edit.old.dev.now) (D.faults edit.new.dev.now) result }
+    ensures each { IfOk result (λ read. edit.new.steps.now.reads ≡ edit.old.steps.now.reads + length read.blocks.items) }
+{
+    let site = edit.site;
+    walk_site::<K, Edited<D, L>>(alloc, edit, &site, tree)
 }

@@ -4,4 +4,4 @@
 
 mod edited;
 
-pub use edited::{Edited, find_edited};
+pub use edited::{Edited, find_edited, walk_edited};

@@ -1,0 +1,75 @@
+ghost use Rattle.std.specs.Prelude.{◌≡◌, ◌+◌, ◌-◌, ◌≤◌, length, take, drop, ◌++◌, IfOk, OnErr, OnOk};
+ghost use Rattle.ag_headers.specs.Ring.{entries};
+ghost use Rattle.edit_blocks.specs.Choice.{need_of, chosen, for_list, for_limbo, IsSameList};
+
+use ag_headers::Agfl;
+use std::alloc::{AllocError, Global};
+
+/// How many blocks a group's free list holds at most
+/// (XFS Algorithms and Data Structures, "AG Free List").
+pub const LIST_MOST: u32 = 119;
+
+/// The blocks for an edited tree of so many: those that it has, group-relative and in their order,
+/// and then those that it needs, the free list's first ones
+/// (XFS Algorithms and Data Structures, "AG Free List").
+pub fn choose(
+    alloc: Global,
+    blocks: &[u32],
+    list: &Agfl,
+    after: usize,
+    need: u32,
+) -> Result<Vec<u32>, AllocError>
+    requires needed { need ≡ need_of (length blocks.now) after }
+    requires enough { need ≤ length (entries list.now) }
+    ensures { IfOk result (λ claimed. claimed.items ≡ chosen blocks.now (entries list.now) after) }
+{
+    let kept = after.min(blocks.len());
+    let (first, _) = blocks.split_at(kept);
+    let mut claimed = Vec::from_slice(alloc, first)?;
+    for i in 0..need {
+        claimed.push(list.entry(i))?;
+    }
+    Ok(claimed)
+}
+
+/// Takes so many of the free list's first blocks off it.
+pub fn take_from(list: &mut Agfl, count: u32)
+    requires enough { count ≤ length (entries list.old) }
+    ensures rest { entries list.new ≡ drop count (entries list.old) }
+    ensures same { IsSameList list.old list.new }
+{
+    for i in 0..count {
+        let _ = list.take_first();
+    }
+}
+
+// Puts these blocks behind the last one of the list, which has room for them.
+fn put_all(list: &mut Agfl, blocks: &[u32])
+    requires room { length (entries list.old) + length blocks.now ≤ LIST_MOST }
+    ensures list { entries list.new ≡ entries list.old ++ blocks.now }
+    ensures same { IsSameList list.old list.new }
+{
+    let mut rest = blocks;
+    while let Some((block, later)) = rest.split_first() {
+        list.put_last(*block);
+        rest = later;
+    }
+}
+
+/// Puts the blocks that are left over at the end of the free list, in their order, and into `limbo`
+/// those for which the list has no room. Without memory nothing changes
+/// (XFS Algorithms and Data Structures, "AG Free List").
+pub fn give_back(list: &mut Agfl, limbo: &mut Vec<u32>, freed: &[u32]) -> Result<(), AllocError>
+    ensures list { OnOk result (entries list.new ≡ entries list.old ++ for_list (entries list.old) freed.now) }
+    ensures limbo { OnOk result (limbo.new.items ≡ limbo.old.items ++ for_limbo (entries list.old) freed.now) }
+    ensures same { IsSameList list.old list.new }
+    ensures most { length (entries list.old) ≤ LIST_MOST }
+    ensures kept { OnErr result (list.new ≡ list.old) }
+    ensures kept_limbo { OnErr result (limbo.new.items ≡ limbo.old.items) }
+{
+    let room = (LIST_MOST - list.len()) as usize;
+    let (to_list, to_limbo) = freed.split_at(room.min(freed.len()));
+    limbo.extend_from_slice(to_limbo)?;
+    put_all(list, to_list);
+    Ok(())
+}

@@ -1,0 +1,17 @@
+use Rattle.std.proofs.Common.{◌≡◌, IfErr}
+use Rattle.meta_txn.specs.declared.fault.TxnFault.TheVariants.{Failed}
+use Rattle.join_blocks.proofs.CountLemmas.{count_joined, with_err, is_failed, is_failed_joined}
+use Rattle.join_blocks.proofs.join.find_one.Goals as goal
+
+pub returns-in_err-join-clause-kind : goal.returns-in_err-join-clause-kind
+returns-in_err-join-clause-kind g c = λ room.
+    with_err {T = Unit {0}} (λ r. IfErr r (λ f. f ≡ Failed)) c.in_err-join.field-0.0 c.from_residual.result c.from_residual.ensures
+    (is_failed c.in_err-join.field-0.0 c.args.at c.args.txn.now.blocks c.in_err-join.ensures.too_many room)
+
+pub returns-in_err-join-clause-kind_joined : goal.returns-in_err-join-clause-kind_joined
+returns-in_err-join-clause-kind_joined g c = λ there.
+    with_err {T = Unit {0}} (λ r. IfErr r (λ f. f ≡ Failed)) c.in_err-join.field-0.0 c.from_residual.result c.from_residual.ensures
+    (is_failed_joined c.in_err-join.field-0.0 c.args.at c.args.txn.now.blocks c.in_err-join.ensures.too_many there)
+
+pub returns-clause-count : goal.returns-clause-count
+returns-clause-count g c = count_joined c.args.at c.in_ok-join.field-0.now.bytes c.args.txn.now.blocks c.len.ensures.batch

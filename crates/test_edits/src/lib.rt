@@ -1,0 +1,5 @@
+//! Tests of edits of trees, over public calls alone.
+#![tactic(auto)]
+
+#[cfg(test)]
+mod lists;

@@ -1,0 +1,146 @@
+// Lists of records, edited.
+use list_edit::{Edit, ListFault, edit_list};
+use rmap_recs::{RmapKind, RmapRec};
+use span_recs::{BnoKind, CntKind, RefcKind, RefcRec, SpanRec};
+use std::alloc::AllocError;
+
+fn span(start: u32, count: u32) -> SpanRec {
+    SpanRec { start, count }
+}
+
+fn shared(start: u32, count: u32, refcount: u32) -> RefcRec {
+    RefcRec {
+        start,
+        count,
+        refcount,
+    }
+}
+
+fn owned(start: u32, count: u32, owner: u64, word: u64) -> RmapRec {
+    RmapRec {
+        start,
+        count,
+        owner,
+        word,
+    }
+}
+
+#[test]
+fn free_space_by_start_is_edited(rt: HostRuntime) -> Result<(), AllocError> {
+    for (how, rec, wanted) in [
+        (
+            Edit::Insert,
+            span(1, 2),
+            [span(1, 2), span(19, 5), span(32, 224)],
+        ),
+        (
+            Edit::Insert,
+            span(24, 8),
+            [span(19, 5), span(24, 8), span(32, 224)],
+        ),
+        (
+            Edit::Insert,
+            span(256, 4),
+            [span(19, 5), span(32, 224), span(256, 4)],
+        ),
+    ] {
+        let mut list = Vec::from_array(rt.alloc(), [span(19, 5), span(32, 224)])?;
+        assert_eq!(rt; edit_list::<BnoKind>(&mut list, how, &rec), Ok(()));
+        assert_eq!(rt; list.as_slice(), wanted.as_slice());
+    }
+    for (how, rec, wanted) in [
+        (Edit::Remove, span(19, 5), [span(32, 224)]),
+        (Edit::Remove, span(32, 224), [span(19, 5)]),
+    ] {
+        let mut list = Vec::from_array(rt.alloc(), [span(19, 5), span(32, 224)])?;
+        assert_eq!(rt; edit_list::<BnoKind>(&mut list, how, &rec), Ok(()));
+        assert_eq!(rt; list.as_slice(), wanted.as_slice());
+    }
+    Ok(())
+}
+
+#[test]
+fn free_space_by_start_refuses(rt: HostRuntime) -> Result<(), AllocError> {
+    for (how, rec, fault) in [
+        (Edit::Remove, span(20, 1), ListFault::Missing),
+        (Edit::Remove, span(19, 4), ListFault::Missing),
+        (Edit::Change, span(20, 4), ListFault::Missing),
+        (Edit::Insert, span(22, 4), ListFault::Overlap),
+        (Edit::Insert, span(18, 2), ListFault::Overlap),
+        (Edit::Insert, span(1, 255), ListFault::Overlap),
+        (Edit::Insert, span(19, 5), ListFault::Overlap),
+        (Edit::Change, span(19, 14), ListFault::Overlap),
+    ] {
+        let mut list = Vec::from_array(rt.alloc(), [span(19, 5), span(32, 224)])?;
+        assert_eq!(rt; edit_list::<BnoKind>(&mut list, how, &rec), Err(fault));
+        assert_eq!(rt; list.as_slice(), [span(19, 5), span(32, 224)].as_slice());
+    }
+    Ok(())
+}
+
+#[test]
+fn free_space_by_count_stands_by_count(rt: HostRuntime) -> Result<(), AllocError> {
+    let mut list = Vec::from_array(rt.alloc(), [span(19, 5), span(32, 224)])?;
+    assert_eq!(rt;
+        edit_list::<CntKind>(&mut list, Edit::Insert, &span(1, 5)),
+        Ok(())
+    );
+    assert_eq!(rt;
+        edit_list::<CntKind>(&mut list, Edit::Insert, &span(1, 6)),
+        Ok(())
+    );
+    assert_eq!(rt;
+        list.as_slice(),
+        [span(1, 5), span(19, 5), span(1, 6), span(32, 224)].as_slice()
+    );
+    assert_eq!(rt;
+        edit_list::<CntKind>(&mut list, Edit::Insert, &span(1, 5)),
+        Err(ListFault::Overlap)
+    );
+    Ok(())
+}
+
+#[test]
+fn counts_change_in_place(rt: HostRuntime) -> Result<(), AllocError> {
+    let mut list = Vec::from_array(rt.alloc(), [shared(40, 2, 2), shared(50, 4, 3)])?;
+    assert_eq!(rt;
+        edit_list::<RefcKind>(&mut list, Edit::Change, &shared(40, 10, 3)),
+        Ok(())
+    );
+    assert_eq!(rt;
+        list.as_slice(),
+        [shared(40, 10, 3), shared(50, 4, 3)].as_slice()
+    );
+    assert_eq!(rt;
+        edit_list::<RefcKind>(&mut list, Edit::Change, &shared(40, 11, 3)),
+        Err(ListFault::Overlap)
+    );
+    assert_eq!(rt;
+        edit_list::<RefcKind>(&mut list, Edit::Remove, &shared(40, 10, 2)),
+        Err(ListFault::Missing)
+    );
+    Ok(())
+}
+
+#[test]
+fn mappings_of_one_block_stand_side_by_side(rt: HostRuntime) -> Result<(), AllocError> {
+    let mut list = Vec::from_array(rt.alloc(), [owned(40, 1, 195, 0)])?;
+    assert_eq!(rt;
+        edit_list::<RmapKind>(&mut list, Edit::Insert, &owned(40, 1, 195, 5)),
+        Ok(())
+    );
+    assert_eq!(rt;
+        list.as_slice(),
+        [owned(40, 1, 195, 0), owned(40, 1, 195, 5)].as_slice()
+    );
+    assert_eq!(rt;
+        edit_list::<RmapKind>(&mut list, Edit::Insert, &owned(40, 2, 195, 5)),
+        Err(ListFault::Overlap)
+    );
+    assert_eq!(rt;
+        edit_list::<RmapKind>(&mut list, Edit::Remove, &owned(40, 1, 195, 5)),
+        Ok(())
+    );
+    assert_eq!(rt; list.as_slice(), [owned(40, 1, 195, 0)].as_slice());
+    Ok(())
+}

@@ -1,0 +1,5 @@
+pub mod BlockLemmas
+pub mod EditLemmas
+pub mod MakeLemmas
+pub mod PrepareLemmas
+pub mod ReadLemmas

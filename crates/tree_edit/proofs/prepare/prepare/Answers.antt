@@ -1,0 +1,25 @@
+use Rattle.std.proofs.Common.{List, sym, subst}
+use Rattle.ag_headers.specs.Ring.{entries}
+use Rattle.sblock.specs.Blocks.{IsRising, AllInside}
+use Rattle.tree_edit.proofs.MakeLemmas.{sound_after}
+use Rattle.tree_edit.proofs.PrepareLemmas.{is_prepared}
+use Rattle.tree_edit.proofs.prepare.prepare.Goals as goal
+
+pub make-requires-clause-rising : goal.make-requires-clause-rising
+make-requires-clause-rising g c =
+    let form = g.K.RecKind.form in
+    let sound = sound_after form g.met.K.RecKind.lawful c.args.site.now.bounds c.args.how c.args.rec.now c.in-Ok.read.recs.items c.plan_records.new.recs.items c.requires.given c.in-Ok.ensures.sound c.in-Ok-plan_records.ensures.edits in
+    subst (IsRising form) (sym c.deref.ensures.value) sound.rising
+
+pub make-requires-clause-inside : goal.make-requires-clause-inside
+make-requires-clause-inside g c =
+    let form = g.K.RecKind.form in
+    let sound = sound_after form g.met.K.RecKind.lawful c.args.site.now.bounds c.args.how c.args.rec.now c.in-Ok.read.recs.items c.plan_records.new.recs.items c.requires.given c.in-Ok.ensures.sound c.in-Ok-plan_records.ensures.edits in
+    subst (AllInside form c.args.site.now.bounds) (sym c.deref.ensures.value) sound.inside
+
+pub returns-clause-prepared : goal.returns-clause-prepared
+returns-clause-prepared g c =
+    let form = g.K.RecKind.form in
+    let sound = sound_after form g.met.K.RecKind.lawful c.args.site.now.bounds c.args.how c.args.rec.now c.in-Ok.read.recs.items c.plan_records.new.recs.items c.requires.given c.in-Ok.ensures.sound c.in-Ok-plan_records.ensures.edits in
+    is_prepared form c.args.site.now c.args.how c.args.rec.now c.args.tree.now.lsn (g.D.Device.content c.args.dev.now) _ c.in-Ok.read.recs.items c.plan_records.new.recs.items c.in-Ok.read.blocks.items c.deref.result.now c.deref-2.result.now
+    c.deref.ensures.value c.deref-2.ensures.value c.in-Ok.ensures.read c.in-Ok-plan_records.ensures.edits sound c.in-Ok.ensures.lie c.make.result c.make.ensures.ready

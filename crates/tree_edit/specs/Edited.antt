@@ -1,0 +1,61 @@
+-- What an edit of a tree does, and why it is refused.
+use Rattle.std.specs.Prelude.{◌≡◌, ⊤, ◌+◌, ◌<◌, ◌≤◌, ◌⊎◌, ℕ, true, List, ◌++◌, length, All, Option, IfSome, Ok}
+use Rattle.blk_device.specs.Contents.{Contents}
+use Rattle.meta_txn.specs.Joined.{bytes_at}
+use Rattle.redo_area.specs.declared.TheConstants.{MAX_BATCH}
+use Rattle.sblock.specs.Form.{Form}
+use Rattle.tree_defs.specs.Lists.{In, times}
+use Rattle.tree_defs.specs.declared.site.Site.{Site}
+use Rattle.tree_blocks.specs.declared.tree.TreeAt.{TreeAt}
+use Rattle.bulk_load.specs.Shapes.{IsShape}
+use Rattle.edit_blocks.specs.Choice.{need_of, for_list, for_limbo}
+use Rattle.join_blocks.specs.Joins.{count_of}
+use Rattle.list_edit.specs.Edits.{edited}
+use Rattle.list_edit.specs.declared.edits.Edit.{Edit}
+use Rattle.tree_edit.specs.Anew.{AreChosen}
+use Rattle.tree_edit.specs.Prepared.{Held, ReadsTo, RefusesPrepared}
+use Rattle.tree_edit.specs.declared.fault.EditFault.{EditFault}
+use Rattle.tree_edit.specs.declared.fault.EditFault.TheVariants.{Bad, Missing, Overlap, Short, TooLarge, Failed, Memory}
+
+-- a tree of the same kind and group, with the same log sequence number
+pub record IsSameTree (old new : TreeAt) : Type 0 where
+  pub kind : new.kind ≡ old.kind
+  pub group : new.group ≡ old.group
+  pub lsn : new.lsn ≡ old.lsn
+
+module _ {R K : Type 0} (form : Form R K) (site : Site) (how : Edit) (rec : R) where
+  -- The tree is that of the edited list. Its blocks are those that it had and the list's first ones, less those that
+  -- went to the list's end or to limbo, and only these blocks are changed in the transaction.
+  pub record IsEdited (told : Option Contents) (old new : Held) : Type 0 where
+    -- the records before and after, the tree's blocks before and after, those taken from the list, and those left over
+    pub recs : List R
+    pub records : List R
+    pub before : List ℕ
+    pub after : List ℕ
+    pub taken : List ℕ
+    pub kept : List ℕ
+    pub left : List ℕ
+    pub edits : edited form how rec recs ≡ Ok records
+    pub was : IfSome told (λ c. ReadsTo form site c old recs before)
+    pub is : IfSome told (λ c. All (λ r. form.is_written r ≡ true) records → (blocks : List ℕ) × ReadsTo form site c new records blocks × ((b : ℕ) → times b blocks ≡ times b after))
+    pub front : old.listed ≡ taken ++ kept
+    pub need : length taken ≡ need_of (length before) (length after)
+    pub list : new.listed ≡ kept ++ for_list kept left
+    pub limbo : new.limbo ≡ old.limbo ++ for_limbo kept left
+    pub once : (b : ℕ) → times b after + times b left ≡ times b before + times b taken
+    pub others : (at : ℕ) → ((b : ℕ) → In b before ⊎ In b taken → site.first + b ≡ at → ⊥) → bytes_at at new.joined.blocks ≡ bytes_at at old.joined.blocks
+    pub marked : new.joined.marked ≡ old.joined.marked
+    pub room : count_of old.joined.blocks site.first (after ++ left) ≤ MAX_BATCH
+
+  -- the transaction would have so many blocks, more than a batch has
+  abbrev pub IsTooLarge : Contents → Held → ℕ → Type 0
+  IsTooLarge c h n = (recs records : List R) × (blocks claimed left : List ℕ) × ReadsTo form site c h recs blocks × (edited form how rec recs ≡ Ok records) × AreChosen blocks h.listed claimed left × (n ≡ count_of h.joined.blocks site.first (claimed ++ left)) × (MAX_BATCH < n)
+
+  abbrev pub RefusesEdit : Option Contents → Held → EditFault → Type 0
+  RefusesEdit told h (TooLarge n) = IfSome told (λ c. IsTooLarge c h n)
+  RefusesEdit told h (Bad block fault) = RefusesPrepared form site how rec told h (Bad block fault)
+  RefusesEdit told h Missing = RefusesPrepared form site how rec told h Missing
+  RefusesEdit told h Overlap = RefusesPrepared form site how rec told h Overlap
+  RefusesEdit told h (Short have need) = RefusesPrepared form site how rec told h (Short have need)
+  RefusesEdit told h Failed = ⊤
+  RefusesEdit told h Memory = ⊤

@@ -1,0 +1,47 @@
+-- An edited tree's blocks, made before anything is changed, and why they can't be.
+use Rattle.std.specs.Prelude.{◌≡◌, ⊤, ℕ, ◌≤◌, List, ◌++◌, length}
+use Rattle.sblock.specs.Blocks.{AreBlocks}
+use Rattle.sblock.specs.Form.{Form}
+use Rattle.tree_defs.specs.Lists.{AllDiffer}
+use Rattle.tree_defs.specs.declared.site.Site.{Site}
+use Rattle.bulk_load.specs.Shapes.{IsShape}
+use Rattle.edit_blocks.specs.Choice.{chosen, need_of}
+use Rattle.tree_edit.specs.Anew.{root_of, AreChosen, IsMade}
+use Rattle.tree_edit.specs.Plans.{RefusesBlocks}
+use Rattle.tree_edit.specs.declared.fault.EditFault.{EditFault}
+use Rattle.tree_edit.specs.declared.fault.EditFault.TheVariants.{Bad, Missing, Overlap, Short, TooLarge, Failed, Memory}
+use Rattle.tree_edit.specs.declared.make.Made.{Made}
+
+-- each of these is a block of the group behind its block 0, and none stands twice
+abbrev pub AreApart : ℕ → List ℕ → Type 0
+AreApart len claimed = AreBlocks len claimed × AllDiffer claimed
+
+abbrev pub RefusesLaying : ℕ → List ℕ → EditFault → Type 0
+RefusesLaying len claimed (Bad block fault) = ¬ AreApart len claimed
+RefusesLaying len claimed Missing = ⊥
+RefusesLaying len claimed Overlap = ⊥
+RefusesLaying len claimed (Short have need) = ⊥
+RefusesLaying len claimed (TooLarge n) = ⊥
+RefusesLaying len claimed Failed = ⊥
+RefusesLaying len claimed Memory = ⊤
+
+module _ {R K : Type 0} (form : Form R K) where
+  -- all that a tree of these records needs, by the blocks that are claimed for it
+  pub record IsReady (site : Site) (lsn : ℕ) (recs : List R) (before listed : List ℕ) (made : Made) : Type 0 where
+    pub claimed : List ℕ
+    pub chose : AreChosen before listed claimed made.left.items
+    pub made_of : IsMade form site lsn made.levels recs claimed made.placed.items
+    pub touched : made.touched.items ≡ claimed ++ made.left.items
+    pub root : made.root ≡ root_of claimed
+    pub need : made.need ≡ need_of (length before) (length claimed)
+    pub enough : made.need ≤ length listed
+
+  -- the list is short of blocks, or the blocks aren't apart
+  abbrev pub RefusesMaking : ℕ → ℕ → List ℕ → List ℕ → EditFault → Type 0
+  RefusesMaking len n before listed (Bad block fault) = (levels after : ℕ) × IsShape form.kind n levels after × ¬ AreApart len (chosen before listed after)
+  RefusesMaking len n before listed Missing = ⊥
+  RefusesMaking len n before listed Overlap = ⊥
+  RefusesMaking len n before listed (Short have need) = (levels after : ℕ) × IsShape form.kind n levels after × RefusesBlocks (length before) (length listed) after (Short have need)
+  RefusesMaking len n before listed (TooLarge m) = ⊥
+  RefusesMaking len n before listed Failed = ⊥
+  RefusesMaking len n before listed Memory = ⊤

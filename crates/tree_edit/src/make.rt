@@ -1,0 +1,126 @@
+// The blocks of an edited tree, made before anything is changed.
+ghost use Rattle.std.specs.Prelude.{◌≡◌, ◌+◌, ◌*◌, ◌^◌, ◌<◌, ◌≤◌, ◌++◌, IfOk, IfErr, length};
+ghost use Rattle.ag_headers.specs.Ring.{entries};
+ghost use Rattle.bulk_load.specs.Shapes.{IsShape};
+ghost use Rattle.sblock.specs.Blocks.{IsRising, AllInside};
+ghost use Rattle.edit_blocks.specs.Choice.{freed};
+ghost use Rattle.tree_edit.specs.Anew.{root_of, IsMade};
+ghost use Rattle.tree_edit.specs.Making.{IsReady, RefusesLaying, RefusesMaking};
+
+use crate::fault::EditFault;
+use crate::plan::plan_blocks;
+use ag_headers::Agfl;
+use bulk_load::shape;
+use byte_fields::{Block, Steps};
+use load_trees::{Unfit, load_tree};
+use sblock::{BlockFault, RecKind};
+use std::alloc::{AllocError, Global};
+use std::sync::ledger::Ledger;
+use tree_blocks::TreeAt;
+use tree_defs::Site;
+
+// An edited tree's blocks with what goes into them, those that it leaves, all of them, its root and
+// levels, and how many blocks it takes from the list.
+#[derive(Drop)]
+pub(crate) struct Made {
+    pub placed: Vec<(u32, Block)>,
+    pub left: Vec<u32>,
+    pub touched: Vec<u32>,
+    pub root: u32,
+    pub levels: u32,
+    pub need: u32,
+}
+
+// The blocks of a tree of these records. A block that stands twice among the tree's and the list's, or
+// that is no tree's, is told as a bad root.
+fn lay<K: RecKind, L: Ledger>(
+    alloc: Global,
+    recs: &[K::Rec],
+    site: &Site,
+    tree: &TreeAt,
+    claimed: &[u32],
+    levels: u32,
+    steps: &mut Steps<L>,
+) -> Result<Vec<(u32, Block)>, EditFault>
+    requires fits { 8 * (site.now.first + site.now.bounds.length) < 2 ^ 64 }
+    requires shape { IsShape K.form.kind (length recs.now) levels (length claimed.now) }
+    requires rising { IsRising K.form recs.now }
+    requires inside { AllInside K.form site.now.bounds recs.now }
+    ensures made { IfOk result (λ placed. IsMade K.form site.now tree.now.lsn levels recs.now claimed.now placed.items) }
+    ensures refused { IfErr result (RefusesLaying site.now.bounds.length claimed.now) }
+{
+    match load_tree::<K, L>(alloc, recs, site, tree.lsn, claimed, steps) {
+        Ok(placed) => Ok(placed),
+        Err(Unfit::Memory) => Err(EditFault::Memory),
+        Err(_) => Err(EditFault::Bad {
+            block: tree.root,
+            fault: BlockFault::Sibling,
+        }),
+    }
+}
+
+// The tree's blocks behind the first so many.
+fn left_over(alloc: Global, blocks: &[u32], kept: usize) -> Result<Vec<u32>, AllocError>
+    ensures { IfOk result (λ left. left.items ≡ freed blocks.now kept) }
+{
+    let (_, rest) = blocks.split_at(kept.min(blocks.len()));
+    Vec::from_slice(alloc, rest)
+}
+
+// Both lists, one behind the other.
+fn joined(alloc: Global, first: &[u32], rest: &[u32]) -> Result<Vec<u32>, AllocError>
+    ensures { IfOk result (λ both. both.items ≡ first.now ++ rest.now) }
+{
+    let mut both = Vec::from_slice(alloc, first)?;
+    both.extend_from_slice(rest)?;
+    Ok(both)
+}
+
+// The last of some blocks.
+fn last_of(blocks: &[u32]) -> u32
+    requires { 1 ≤ length blocks.now }
+    ensures { result ≡ root_of blocks.now }
+{
+    blocks[blocks.len() - 1]
+}
+
+// All that an edited tree of these records needs, made from the tree's blocks and the list's.
+pub(crate) fn make<K: RecKind, L: Ledger>(
+    alloc: Global,
+    recs: &[K::Rec],
+    before: &[u32],
+    site: &Site,
+    tree: &TreeAt,
+    list: &Agfl,
+    steps: &mut Steps<L>,
+) -> Result<Made, EditFault>
+    requires fits { 8 * (site.now.first + site.now.bounds.length) < 2 ^ 64 }
+    requires rising { IsRising K.form recs.now }
+    requires inside { AllInside K.form site.now.bounds recs.now }
+    ensures ready { IfOk result (IsReady K.form site.now tree.now.lsn recs.now before.now (entries list.now)) }
+    ensures refused { IfErr result (RefusesMaking K.form site.now.bounds.length (length recs.now) before.now (entries list.now)) }
+{
+    let form = shape(recs.len() as u64, K::kind());
+    let plan = match plan_blocks(alloc, before, list, &form) {
+        Ok(plan) => plan,
+        Err(fault) => return Err(fault),
+    };
+    let placed = match lay::<K, L>(alloc, recs, site, tree, &plan.claimed, form.levels, steps) {
+        Ok(placed) => placed,
+        Err(fault) => return Err(fault),
+    };
+    let Ok(left) = left_over(alloc, before, plan.claimed.len()) else {
+        return Err(EditFault::Memory);
+    };
+    let Ok(touched) = joined(alloc, &plan.claimed, &left) else {
+        return Err(EditFault::Memory);
+    };
+    Ok(Made {
+        placed,
+        root: last_of(&plan.claimed),
+        left,
+        touched,
+        levels: form.levels,
+        need: plan.need,
+    })
+}
