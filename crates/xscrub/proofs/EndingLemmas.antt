@@ -1,15 +1,14 @@
 -- A journal that was told, and the line behind it.
-use Rattle.std.proofs.Common.{◌≡◌, ◌<◌, ◌≤◌, ℕ, List, [], ◌∷◌, ◌++◌, Bool, true, false, cond, IfSome, length, take, drop, Option, Some, None, ◌⊎◌, inl, inr, refl, sym, ◌∙◌, ap, subst, append_assoc, append-nil, arith}
+use Rattle.std.proofs.Common.{◌≡◌, ◌<◌, ◌≤◌, ℕ, List, [], ◌++◌, Bool, true, false, cond, IfSome, length, take, drop, Option, Some, None, ◌⊎◌, inl, inr, refl, sym, ◌∙◌, ap, subst, append_assoc, append-nil, arith}
 use Rattle.std.proofs.lemmas.List.{take-append-drop}
 use Rattle.blk_device.specs.Causes.{Rose}
-use Rattle.blk_device.specs.declared.device.Device.{Ghosts}
 use Rattle.blk_device.specs.Taken.{Takes, TakesFront, IsFront}
 use Rattle.blk_device.proofs.TakenLemmas.{then, whole_front, takes_nothing}
 use Rattle.xscrub.proofs.ShownLemmas.{told_nothing}
 use Rattle.std.specs.List.{list_all}
-use Rattle.xscrub.specs.Ending.{IsShown, IsToldOf, IsFoundBy, Decides, EndsFor, HasOutcomeCause, IsSettled, IsOutcome, IsAsked, IsShort, IsOfImage, IsWorded, IsImageLine, EndsByWords, CameBack, FindsKept, TellsKept}
+use Rattle.xscrub.specs.Ending.{IsShown, IsToldOf, IsFoundBy, Decides, EndsFor, HasOutcomeCause, IsSettled, IsOutcome, IsAsked, IsShort, IsOfImage, IsWorded, IsImageLine, EndsByWords}
 use Rattle.xscrub.specs.Command.{Job, check_of, unbuilt, usage}
-use Rattle.xscrub.specs.Stored.{Stored, Request}
+use Rattle.xscrub.specs.Stored.{Request}
 use Rattle.xscrub.specs.Units.{HasAllUnits, HasFirstUnits, HasUnits}
 use Rattle.xscrub.proofs.UnitLemmas.{no_units, all_are_first, most_are_first}
 use Rattle.xscrub.specs.Outcome.{Outcome, is_calm, is_image_line, judged_status, judged_outcome, filled_outcome, stopped_outcome, ended_outcome, outcome_of}
@@ -329,53 +328,3 @@ told_units job finding told k k' worded (inl whole) = subst (λ (o : Outcome). H
 told_units job finding told k k' worded (inr (inl failed)) = subst (λ (o : Outcome). HasUnits o.status o.journal) (sym failed.0) (worded_first job finding worded)
 told_units job finding told k k' worded (inr (inr memory)) =
     subst (λ (s : Status). HasUnits s told.journal) (sym memory.0) ((outcome_of finding).journal, worded_first job finding worded, memory.2)
-
--- ---- nothing is left out
-
-same_line : {a b : LastLine} → Some a ≡ Some b → a ≡ b
-same_line e = cc
-
-last_is_told : (told : Outcome) (line : LastLine) → told.last ≡ Some line → told.last ≡ Some lines.DeviceFailed → line ≡ lines.DeviceFailed
-last_is_told told line a b = same_line (sym a ∙ b)
-
-not_host : lines.HostFailed ≡ lines.DeviceFailed → ⊥
-not_host e = cc
-
-not_memory : lines.Memory ≡ lines.DeviceFailed → ⊥
-not_memory e = cc
-
-image_line_clash : (line : LastLine) → is_image_line line ≡ true → line ≡ lines.DeviceFailed → ⊥
-image_line_clash line image is = true_not_false (sym image ∙ ap is_image_line is)
-
-found_kept : {D : Type 0} (g : Ghosts D) (file : Option Stored) (finding : Finding) → FindsKept g file finding → IsOfImage finding → (outcome_of finding).last ≡ Some lines.DeviceFailed → CameBack g file (outcome_of finding).journal
-found_kept g file (findings.Judged journal) kept of e = no_line lines.DeviceFailed (sym e)
-found_kept g file (findings.Full journal) kept of e = absurd (full_clash e)
-  where
-    full_clash : Some lines.JournalFull ≡ Some lines.DeviceFailed → ⊥
-    full_clash e = cc
-found_kept g file (findings.Refused line) kept of e = absurd (image_line_clash line of (same_line e))
-found_kept g file findings.Usage kept of e = absurd of
-found_kept g file (findings.DeviceFailed journal) kept of e = kept
-found_kept g file findings.HostFailed kept of e = absurd (not_host (same_line e))
-found_kept g file (findings.Memory journal) kept of e = absurd (not_memory (same_line e))
-
-worded_kept : {D : Type 0} (g : Ghosts D) (file : Option Stored) (job : Job) (finding : Finding) → FindsKept g file finding → IsWorded job finding → (outcome_of finding).last ≡ Some lines.DeviceFailed → CameBack g file (outcome_of finding).journal
-worded_kept g file usage finding kept worded e =
-    let is : Some lines.Usage ≡ Some lines.DeviceFailed = ap (λ (f : Finding). (outcome_of f).last) (sym worded) ∙ e in absurd (usage_clash is)
-  where
-    usage_clash : Some lines.Usage ≡ Some lines.DeviceFailed → ⊥
-    usage_clash e = cc
-worded_kept g file unbuilt finding kept worded e =
-    let is : Some lines.UnbuiltJob ≡ Some lines.DeviceFailed = ap (λ (f : Finding). (outcome_of f).last) (sym worded) ∙ e in absurd (unbuilt_clash is)
-  where
-    unbuilt_clash : Some lines.UnbuiltJob ≡ Some lines.DeviceFailed → ⊥
-    unbuilt_clash e = cc
-worded_kept g file (check_of name) finding kept worded e = found_kept g file finding kept worded e
-
-pub told_kept : {D : Type 0} (g : Ghosts D) (file : Option Stored) (job : Job) (finding : Finding) (told : Outcome) (k k' : ℕ) → FindsKept g file finding → IsWorded job finding → IsToldOf (outcome_of finding) k k' told → TellsKept g file told
-told_kept g file job finding told k k' kept worded (inl whole) = λ e.
-    subst (λ (o : Outcome). CameBack g file o.journal) (sym whole.0) (worded_kept g file job finding kept worded (ap (λ (o : Outcome). o.last) (sym whole.0) ∙ e))
-told_kept g file job finding told k k' kept worded (inr (inl failed)) = λ e.
-    absurd (not_host (last_is_told told lines.HostFailed (ap (λ (o : Outcome). o.last) failed.0) e))
-told_kept g file job finding told k k' kept worded (inr (inr memory)) = λ e.
-    absurd (not_memory (last_is_told told lines.Memory memory.1 e))

@@ -2,17 +2,18 @@
 use Rattle.std.specs.Prelude.{◌≡◌, ◌≤◌, ◌⊎◌, ℕ, true, false, List, [], ◌∷◌, ◌++◌, length, Option, Some, None, IfSome, ⊤}
 use Rattle.std.specs.List.{list_all}
 use Rattle.blk_device.specs.Causes.{Rose}
+use Rattle.blk_device.specs.Reading.{EachBlock, Keeps}
 use Rattle.blk_device.specs.Taken.{Takes, IsFront}
 use Rattle.xscrub.specs.Command.{Job, check_of, unbuilt, usage}
 use Rattle.blk_device.specs.declared.device.Device.{Ghosts}
 use Rattle.blk_device.specs.declared.device.Region.TheVariants.{Image}
 use Rattle.xscrub.specs.Image.{image_events, image_outcome}
-use Rattle.xscrub.specs.Outcome.{Outcome, code_of, is_calm, is_image_line, judged_outcome, filled_outcome, stopped_outcome, ended_outcome}
+use Rattle.xscrub.specs.Outcome.{Outcome, outcome_of, code_of, is_calm, is_image_line, judged_outcome, filled_outcome, stopped_outcome, ended_outcome}
 use Rattle.run_text.specs.Report.{report_of}
 use Rattle.xscrub.specs.LastLines.{is_fixed}
 use Rattle.xscrub.specs.Shown.{TakesFronts, last_text}
 use Rattle.xscrub.specs.Judged.{IsKept}
-use Rattle.xscrub.specs.Stored.{Stored, Request, IsOpened}
+use Rattle.xscrub.specs.Stored.{Stored, Request, Loan, Out, Back, Lends, IsOpened}
 use Rattle.xscrub.specs.Units.{HasAllUnits, HasItsMost, HasFirstUnits, HasUnits}
 use Rattle.xscrub.specs.declared.ending.Finding.{Finding}
 use Rattle.xscrub.specs.declared.ending.Finding.TheVariants as findings
@@ -85,29 +86,33 @@ IsShort (findings.DeviceFailed journal) = ⊥
 IsShort findings.HostFailed = ⊥
 IsShort (findings.Memory journal) = journal.items ≡ []
 
--- A device was handed out with this image and came back, and the journal has all that was judged by
--- what was read of it.
-pub record CameBack {D : Type 0} (g : Ghosts D) (file : Option Stored) (journal : List Entry) : Type 0 where
+-- A device with this image was handed out, and came back. It was only read, and the journal has all
+-- that was judged by what was read of it.
+pub record CameBack {D : Type 0} (g : Ghosts D) (file : Option Stored) (loans loans' : Option (List (Loan D))) (journal : List Entry) : Type 0 where
   pub dev : D
   pub back : D
+  pub lent : Lends (Out dev ∷ Back back ∷ []) loans loans'
   pub opened : IsOpened file (g.content dev) (g.blocks dev)
+  pub same : g.content back ≡ g.content dev
+  pub crash : Keeps g EachBlock dev back
   pub kept : IfSome (g.content dev) (λ m. IsKept (image_events (g.blocks dev Image) (m Image)) (g.reads dev) (g.reads back) journal)
 
--- where the device failed, nothing that was judged is left out
-abbrev pub FindsKept : {D : Type 0} → Ghosts D → Option Stored → Finding → Type 0
-FindsKept g file (findings.Judged journal) = ⊤
-FindsKept g file (findings.Full journal) = ⊤
-FindsKept g file (findings.Refused line) = ⊤
-FindsKept g file findings.Usage = ⊤
-FindsKept g file (findings.DeviceFailed journal) = CameBack g file journal.items
-FindsKept g file findings.HostFailed = ⊤
-FindsKept g file (findings.Memory journal) = ⊤
+-- no device was handed out
+abbrev pub IsUnopened : Finding → Type 0
+IsUnopened (findings.Judged journal) = ⊥
+IsUnopened (findings.Full journal) = ⊥
+IsUnopened (findings.Refused line) = ⊥
+IsUnopened findings.Usage = ⊥
+IsUnopened (findings.DeviceFailed journal) = ⊥
+IsUnopened findings.HostFailed = ⊤
+IsUnopened (findings.Memory journal) = journal.items ≡ []
 
--- the image that is named, where the words ask for a check
-abbrev pub file_for : Job → (List ℕ → Option Stored) → Option Stored
-file_for usage stored = None
-file_for unbuilt stored = None
-file_for (check_of name) stored = stored name
+-- what is found for these words, with the device that was handed out for them
+abbrev pub FindsBy : {D : Type 0} → Ghosts D → Job → (List ℕ → Option Stored) → (loans loans' : Option (List (Loan D))) → Finding → Type 0
+FindsBy g usage stored loans loans' finding = loans' ≡ loans
+FindsBy g unbuilt stored loans loans' finding = loans' ≡ loans
+FindsBy g (check_of name) stored loans loans' finding =
+    (IsUnopened finding × (loans' ≡ loans)) ⊎ CameBack g (stored name) loans loans' (outcome_of finding).journal
 
 -- what the words alone say of a finding
 abbrev pub IsWorded : Job → Finding → Type 0
@@ -188,9 +193,15 @@ EndsByWords usage told = told ≡ ended_outcome statuses.Usage lines.Usage
 EndsByWords unbuilt told = told ≡ ended_outcome statuses.Refused lines.UnbuiltJob
 EndsByWords (check_of name) told = (told.status ≡ statuses.Usage → ⊥) × (told.last ≡ Some lines.UnbuiltJob → ⊥) × (told.status ≡ statuses.Refused → IsImageLine told.last)
 
--- nor is it where that is told
-abbrev pub TellsKept : {D : Type 0} → Ghosts D → Option Stored → Outcome → Type 0
-TellsKept g file told = told.last ≡ Some lines.DeviceFailed → CameBack g file told.journal
+-- Words that ask for no check have no device. A check has one, and tells all that was judged by what
+-- was read of it, or where memory was short a front of that; or the host handed none out.
+abbrev pub TellsBy : {D : Type 0} → Ghosts D → Job → (List ℕ → Option Stored) → (loans loans' : Option (List (Loan D))) → Outcome → Type 0
+TellsBy g usage stored loans loans' told = loans' ≡ loans
+TellsBy g unbuilt stored loans loans' told = loans' ≡ loans
+TellsBy g (check_of name) stored loans loans' told =
+    ((loans' ≡ loans) × (told.journal ≡ []) × (IsSettled told.status → ⊥))
+    ⊎ ((found : List Entry) × CameBack g (stored name) loans loans' found × IsFront told.journal found
+    × ((told.status ≡ statuses.Memory → ⊥) → told.journal ≡ found))
 
 -- What a run owes: how it ended is what words and bytes decide, or has a cause in a count that
 -- rose; its journal has each unit of each group, or the first of them where it was stopped; and this

@@ -152,6 +152,8 @@ where
 
     ghost asked = { λ h. map request_of h.asked.items };
 
+    ghost loans = { λ h. None };
+
     ghost host_faults = { λ h. h.host_faults };
 
     ghost dev_faults = { λ h. h.dev_faults };
