@@ -4,15 +4,18 @@
 usage='usage: xscrub JOB TARGET [--redo FILE] [--script FILE] [--rebuild] [--turns N]'
 
 words() {
-  local job
   expect 'no words' 2 "$usage"
   expect 'one word' 2 "$usage" check
   expect 'three words' 2 "$usage" check a b
   expect 'an option for a target' 2 "$usage" check --redo
   expect 'another job' 2 "$usage" look a
-  for job in repair run drill make; do
-    expect "the job $job" 4 'unbuilt job' "$job" a
-  done
+  expect 'help' 2 "$usage" --help
+  expect 'a repair without a redo file' 2 "$usage" repair a
+  expect 'the job repair' 4 'unbuilt job' repair a --redo b
+  expect 'the job run' 4 'unbuilt job' run a --redo b --script c
+  expect 'the job drill' 4 'unbuilt job' drill 7
+  expect 'the job make' 4 'unbuilt job' make a
+  expect 'a check with a redo file' 4 'unbuilt redo' check a --redo b
   expect 'no such file' 5 'host failed' check nothing.img
 }
 

@@ -40,6 +40,12 @@ came_back g file a b c dev back result journal out home opened same crash kept i
   kept = subst (λ (js : List Entry). IfSome (g.content dev) (λ m. IsKept (image_events (g.blocks dev Image) (m Image)) (g.reads dev) (g.reads back) js)) is kept;
 }
 
+-- there was no memory before a device was asked for
+pub short_finds : {D : Type 0} (g : Ghosts D) (job : Job) (stored : List ℕ → Option Stored) (a b : Option (List (Loan D))) (finding : Finding) → IsUnopened finding → b ≡ a → FindsBy g job stored a b finding
+short_finds g usage stored a b finding is same = same
+short_finds g (unbuilt form) stored a b finding is same = same
+short_finds g (check_of name) stored a b finding is same = inl (is, same)
+
 -- ---- and how that is told
 
 nothing : (xs rest : List Entry) → [] ≡ xs ++ rest → xs ≡ []
@@ -84,7 +90,7 @@ told_front found told k k' (inr (inr memory)) = (memory.2, λ other. absurd (oth
 pub told_by : {D : Type 0} (g : Ghosts D) (job : Job) (stored : List ℕ → Option Stored) (a b c : Option (List (Loan D))) (finding : Finding) (told : Outcome) (k k' : ℕ)
     → FindsBy g job stored a b finding → c ≡ b → IsToldOf (outcome_of finding) k k' told → TellsBy g job stored a c told
 told_by g usage stored a b c finding told k k' found same ends = same ∙ found
-told_by g unbuilt stored a b c finding told k k' found same ends = same ∙ found
+told_by g (unbuilt form) stored a b c finding told k k' found same ends = same ∙ found
 told_by g (check_of name) stored a b c finding told k k' (inl none) same ends =
     let is = told_unopened finding told k k' none.0 ends in inl (same ∙ none.1, is.0, is.1)
 told_by {D = D} g (check_of name) stored a b c finding told k k' (inr came) same ends =

@@ -19,7 +19,7 @@ pub use crate::ending::{Finding, Status, Told};
 pub use crate::file_host::FileHost;
 pub use crate::host::{Host, OpenFault, Purpose};
 pub use crate::judging::{JudgeFault, Judgement, judge};
-pub use crate::last_lines::{LastLine, fixed_line, last_line};
+pub use crate::last_lines::{Form, LastLine, fixed_line, last_line};
 pub use crate::mem_host::{MemHost, MemImage};
 pub use crate::telling::tell;
 pub use crate::top::{RunEnd, fsck_main};

@@ -65,9 +65,12 @@ fn find<H: Host>(alloc: Global, host: &mut H, words: &[String]) -> Finding
     ensures report { H.taken host.new ≡ H.taken host.old }
     ensures sink { H.sink_faults host.new ≡ H.sink_faults host.old }
 {
-    match command_of(words) {
+    let Ok(command) = command_of(alloc, words) else {
+        return Finding::Memory(Vec::new(alloc));
+    };
+    match command {
         Command::Check(image) => check(alloc, host, image),
-        Command::Unbuilt => Finding::Refused(LastLine::UnbuiltJob),
+        Command::Unbuilt(form) => Finding::Refused(LastLine::Unbuilt(form)),
         Command::Usage => Finding::Usage,
     }
 }
