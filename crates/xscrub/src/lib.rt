@@ -2,6 +2,7 @@
 //! reference counts of each group against its reverse mapping btree, and reports what was found.
 #![tactic(auto)]
 
+mod advice;
 mod asked;
 mod command;
 mod ending;
@@ -13,6 +14,7 @@ mod mem_host;
 mod telling;
 mod top;
 
+pub use crate::advice::{NamedFile, explain, tell_failure, tell_unlooked};
 pub use crate::asked::DeviceAsked;
 pub use crate::command::{Command, command_of};
 pub use crate::ending::{Finding, Status, Told};
