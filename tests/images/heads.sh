@@ -5,6 +5,7 @@ usage='usage: xscrub JOB TARGET [--redo FILE] [--script FILE] [--rebuild] [--tur
 
 words() {
   expect 'no words' 2 "$usage"
+  advised 'no words' 'xscrub check IMAGE'
   expect 'one word' 2 "$usage" check
   expect 'three words' 2 "$usage" check a b
   expect 'an option for a target' 2 "$usage" check --redo
@@ -17,6 +18,12 @@ words() {
   expect 'the job make' 4 'unbuilt job' make a
   expect 'a check with a redo file' 4 'unbuilt redo' check a --redo b
   expect 'no such file' 5 'host failed' check nothing.img
+  advised 'no such file' 'nothing.img: '
+  mkfifo pipe
+  expect 'a pipe without a writer' 5 'host failed' check pipe
+  advised 'a pipe without a writer' 'pipe: '
+  expect 'a file without a block' 4 'image deviceshort' check /dev/null
+  advised 'a file without a block' 'was it cut off?'
 }
 
 # each_with_later PREFIX FAULTS EDITS CHECKSUM: each fault alone, and then together with all that
@@ -55,6 +62,8 @@ superblock_faults() {
   for bits in 33:1 34:0x7 36:0x13 40:0x103 63:0x80000003; do
     made "features ${bits#*:}" "image feature ${bits%:*}" --head "0:sb:features_incompat:${bits#*:}"
   done
+  made 'reverse mappings off' 'image feature 1' --head 0:sb:features_ro_compat:0xd
+  advised 'reverse mappings off' 'mkfs.xfs -m rmapbt=1'
   made 'features of both fields' 'image feature 4' --head 0:sb:features_ro_compat:0x1f \
     --head 0:sb:features_incompat:1
   made 'features that may be on' "$(goods 1)" --head 0:sb:features_incompat:0xeb
