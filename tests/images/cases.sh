@@ -51,6 +51,12 @@ expect() {
     "$found" "$(head -n 5 stderr)"
 }
 
+# advised NAME TEXT: the last run said this on standard error.
+advised() {
+  grep -qF -- "$2" stderr
+  verdict "$1, on standard error" $? 'expected:' "$2" 'found:' "$(head -n 5 stderr)"
+}
+
 # checked NAME STDOUT IMAGE: a check whose status follows from its lines.
 checked() {
   local name=$1 stdout=$2 status=0

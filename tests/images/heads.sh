@@ -4,16 +4,26 @@
 usage='usage: xscrub JOB TARGET [--redo FILE] [--script FILE] [--rebuild] [--turns N]'
 
 words() {
-  local job
   expect 'no words' 2 "$usage"
+  advised 'no words' 'xscrub check IMAGE'
   expect 'one word' 2 "$usage" check
   expect 'three words' 2 "$usage" check a b
   expect 'an option for a target' 2 "$usage" check --redo
   expect 'another job' 2 "$usage" look a
-  for job in repair run drill make; do
-    expect "the job $job" 4 'unbuilt job' "$job" a
-  done
+  expect 'help' 2 "$usage" --help
+  expect 'a repair without a redo file' 2 "$usage" repair a
+  expect 'the job repair' 4 'unbuilt job' repair a --redo b
+  expect 'the job run' 4 'unbuilt job' run a --redo b --script c
+  expect 'the job drill' 4 'unbuilt job' drill 7
+  expect 'the job make' 4 'unbuilt job' make a
+  expect 'a check with a redo file' 4 'unbuilt redo' check a --redo b
   expect 'no such file' 5 'host failed' check nothing.img
+  advised 'no such file' 'nothing.img: '
+  mkfifo pipe
+  expect 'a pipe without a writer' 5 'host failed' check pipe
+  advised 'a pipe without a writer' 'pipe: '
+  expect 'a file without a block' 4 'image deviceshort' check /dev/null
+  advised 'a file without a block' 'was it cut off?'
 }
 
 # each_with_later PREFIX FAULTS EDITS CHECKSUM: each fault alone, and then together with all that
@@ -52,6 +62,8 @@ superblock_faults() {
   for bits in 33:1 34:0x7 36:0x13 40:0x103 63:0x80000003; do
     made "features ${bits#*:}" "image feature ${bits%:*}" --head "0:sb:features_incompat:${bits#*:}"
   done
+  made 'reverse mappings off' 'image feature 1' --head 0:sb:features_ro_compat:0xd
+  advised 'reverse mappings off' 'mkfs.xfs -m rmapbt=1'
   made 'features of both fields' 'image feature 4' --head 0:sb:features_ro_compat:0x1f \
     --head 0:sb:features_incompat:1
   made 'features that may be on' "$(goods 1)" --head 0:sb:features_incompat:0xeb

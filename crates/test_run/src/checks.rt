@@ -13,17 +13,24 @@ const USAGE: &str =
 #[test]
 fn words_that_ask_for_no_check_open_no_image(rt: HostRuntime) -> Result<(), Fail> {
     let none: [&str; 0] = [];
-    let rows: [(&[&str], u8, &str); 10] = [
+    let rows: [(&[&str], u8, &str); 13] = [
         (&none, 2, USAGE),
         (&["check"], 2, USAGE),
         (&["check", "a.img", "b.img"], 2, USAGE),
         (&["check", "-x"], 2, USAGE),
         (&["other", "a.img"], 2, USAGE),
         (&["", "a.img"], 2, USAGE),
-        (&["repair", "a.img"], 4, "unbuilt job\n"),
-        (&["run"], 4, "unbuilt job\n"),
+        (&["check", "a.img", "--help"], 2, USAGE),
+        (&["repair", "a.img"], 2, USAGE),
+        (&["repair", "a.img", "--redo", "b"], 4, "unbuilt job\n"),
+        (
+            &["run", "a.img", "--redo=b", "--script=c"],
+            4,
+            "unbuilt job\n",
+        ),
         (&["drill", "7"], 4, "unbuilt job\n"),
-        (&["make", "a.img", "-x"], 4, "unbuilt job\n"),
+        (&["make", "a.img"], 4, "unbuilt job\n"),
+        (&["check", "a.img", "--redo", "b"], 4, "unbuilt redo\n"),
     ];
     for (words, status, report) in &rows {
         let image = small_image(rt.alloc())?;

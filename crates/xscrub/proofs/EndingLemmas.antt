@@ -1,15 +1,14 @@
 -- A journal that was told, and the line behind it.
-use Rattle.std.proofs.Common.{◌≡◌, ◌<◌, ◌≤◌, ℕ, List, [], ◌∷◌, ◌++◌, Bool, true, false, cond, IfSome, length, take, drop, Option, Some, None, ◌⊎◌, inl, inr, refl, sym, ◌∙◌, ap, subst, append_assoc, append-nil, arith}
+use Rattle.std.proofs.Common.{◌≡◌, ◌<◌, ◌≤◌, ℕ, List, [], ◌++◌, Bool, true, false, cond, IfSome, length, take, drop, Option, Some, None, ◌⊎◌, inl, inr, refl, sym, ◌∙◌, ap, subst, append_assoc, append-nil, arith}
 use Rattle.std.proofs.lemmas.List.{take-append-drop}
 use Rattle.blk_device.specs.Causes.{Rose}
-use Rattle.blk_device.specs.declared.device.Device.{Ghosts}
 use Rattle.blk_device.specs.Taken.{Takes, TakesFront, IsFront}
 use Rattle.blk_device.proofs.TakenLemmas.{then, whole_front, takes_nothing}
 use Rattle.xscrub.proofs.ShownLemmas.{told_nothing}
 use Rattle.std.specs.List.{list_all}
-use Rattle.xscrub.specs.Ending.{IsShown, IsToldOf, IsFoundBy, Decides, EndsFor, HasOutcomeCause, IsSettled, IsOutcome, IsAsked, IsShort, IsOfImage, IsWorded, IsImageLine, EndsByWords, CameBack, FindsKept, TellsKept}
+use Rattle.xscrub.specs.Ending.{IsShown, IsToldOf, IsFoundBy, Decides, EndsFor, HasOutcomeCause, IsSettled, IsOutcome, IsAsked, IsShort, IsOfImage, IsWorded, IsImageLine, IsToldOrShort, EndsByWords}
 use Rattle.xscrub.specs.Command.{Job, check_of, unbuilt, usage}
-use Rattle.xscrub.specs.Stored.{Stored, Request}
+use Rattle.xscrub.specs.Stored.{Request}
 use Rattle.xscrub.specs.Units.{HasAllUnits, HasFirstUnits, HasUnits}
 use Rattle.xscrub.proofs.UnitLemmas.{no_units, all_are_first, most_are_first}
 use Rattle.xscrub.specs.Outcome.{Outcome, is_calm, is_image_line, judged_status, judged_outcome, filled_outcome, stopped_outcome, ended_outcome, outcome_of}
@@ -21,6 +20,7 @@ use Rattle.xscrub.specs.Shown.{IsLineShown, EndsWith, last_text}
 use Rattle.xscrub.specs.declared.ending.Status.{Status}
 use Rattle.xscrub.specs.declared.ending.Status.TheVariants as statuses
 use Rattle.fs_model.specs.declared.entry.Entry.{Entry}
+use Rattle.xscrub.specs.declared.last_lines.Form.{Form}
 use Rattle.xscrub.specs.declared.last_lines.LastLine.{LastLine}
 use Rattle.xscrub.specs.declared.last_lines.LastLine.TheVariants as lines
 
@@ -232,30 +232,30 @@ found_not_usage (findings.DeviceFailed journal) of e = cc
 found_not_usage findings.HostFailed of e = cc
 found_not_usage (findings.Memory journal) of e = cc
 
-not_unbuilt : (line : LastLine) → is_image_line line ≡ true → Some line ≡ Some lines.UnbuiltJob → ⊥
-not_unbuilt line image e = let same : line ≡ lines.UnbuiltJob = cc in clash (subst (λ (l : LastLine). is_image_line l ≡ true) same image)
+not_unbuilt : (line : LastLine) (form : Form) → is_image_line line ≡ true → Some line ≡ Some (lines.Unbuilt form) → ⊥
+not_unbuilt line form image e = let same : line ≡ lines.Unbuilt form = cc in clash (subst (λ (l : LastLine). is_image_line l ≡ true) same image)
   where
     clash : false ≡ true → ⊥
     clash e = cc
 
-found_not_unbuilt : (finding : Finding) → IsOfImage finding → (outcome_of finding).last ≡ Some lines.UnbuiltJob → ⊥
-found_not_unbuilt (findings.Judged journal) of e = cc
-found_not_unbuilt (findings.Full journal) of e = cc
-found_not_unbuilt (findings.Refused line) of e = not_unbuilt line of e
-found_not_unbuilt findings.Usage of e = of
-found_not_unbuilt (findings.DeviceFailed journal) of e = cc
-found_not_unbuilt findings.HostFailed of e = cc
-found_not_unbuilt (findings.Memory journal) of e = cc
+found_not_unbuilt : (finding : Finding) (form : Form) → IsOfImage finding → (outcome_of finding).last ≡ Some (lines.Unbuilt form) → ⊥
+found_not_unbuilt (findings.Judged journal) form of e = cc
+found_not_unbuilt (findings.Full journal) form of e = cc
+found_not_unbuilt (findings.Refused line) form of e = not_unbuilt line form of e
+found_not_unbuilt findings.Usage form of e = of
+found_not_unbuilt (findings.DeviceFailed journal) form of e = cc
+found_not_unbuilt findings.HostFailed form of e = cc
+found_not_unbuilt (findings.Memory journal) form of e = cc
 
 told_not_usage : (finding : Finding) (told : Outcome) (k k' : ℕ) → IsOfImage finding → IsToldOf (outcome_of finding) k k' told → told.status ≡ statuses.Usage → ⊥
 told_not_usage finding told k k' of (inl whole) e = found_not_usage finding of (ap (λ (q : Outcome). q.status) (sym whole.0) ∙ e)
 told_not_usage finding told k k' of (inr (inl failed)) e = let clash : statuses.Failed ≡ statuses.Usage = ap (λ (q : Outcome). q.status) (sym failed.0) ∙ e in cc
 told_not_usage finding told k k' of (inr (inr memory)) e = let clash : statuses.Memory ≡ statuses.Usage = sym memory.0 ∙ e in cc
 
-told_not_unbuilt : (finding : Finding) (told : Outcome) (k k' : ℕ) → IsOfImage finding → IsToldOf (outcome_of finding) k k' told → told.last ≡ Some lines.UnbuiltJob → ⊥
-told_not_unbuilt finding told k k' of (inl whole) e = found_not_unbuilt finding of (ap (λ (q : Outcome). q.last) (sym whole.0) ∙ e)
-told_not_unbuilt finding told k k' of (inr (inl failed)) e = let clash : Some lines.HostFailed ≡ Some lines.UnbuiltJob = ap (λ (q : Outcome). q.last) (sym failed.0) ∙ e in cc
-told_not_unbuilt finding told k k' of (inr (inr memory)) e = let clash : Some lines.Memory ≡ Some lines.UnbuiltJob = sym memory.1 ∙ e in cc
+told_not_unbuilt : (finding : Finding) (told : Outcome) (k k' : ℕ) (form : Form) → IsOfImage finding → IsToldOf (outcome_of finding) k k' told → told.last ≡ Some (lines.Unbuilt form) → ⊥
+told_not_unbuilt finding told k k' form of (inl whole) e = found_not_unbuilt finding form of (ap (λ (q : Outcome). q.last) (sym whole.0) ∙ e)
+told_not_unbuilt finding told k k' form of (inr (inl failed)) e = let clash : Some lines.HostFailed ≡ Some (lines.Unbuilt form) = ap (λ (q : Outcome). q.last) (sym failed.0) ∙ e in cc
+told_not_unbuilt finding told k k' form of (inr (inr memory)) e = let clash : Some lines.Memory ≡ Some (lines.Unbuilt form) = sym memory.1 ∙ e in cc
 
 judged_not_refused : (journal : List Entry) → judged_status journal ≡ statuses.Refused → ⊥
 judged_not_refused journal e = either (list_all is_calm journal) e
@@ -279,13 +279,30 @@ told_image finding told k k' of (inl whole) e =
 told_image finding told k k' of (inr (inl failed)) e = absurd (failed_not_refused (ap (λ (q : Outcome). q.status) (sym failed.0) ∙ e))
 told_image finding told k k' of (inr (inr memory)) e = absurd (memory_not_refused (sym memory.0 ∙ e))
 
+-- a finding that there was no memory before the first unit
+short_told : (finding : Finding) (told : Outcome) (k k' : ℕ) → IsShort finding → IsToldOf (outcome_of finding) k k' told → told ≡ ended_outcome statuses.Memory lines.Memory
+short_told (findings.Judged journal) told k k' short ends = absurd short
+short_told (findings.Full journal) told k k' short ends = absurd short
+short_told (findings.Refused line) told k k' short ends = absurd short
+short_told findings.Usage told k k' short ends = absurd short
+short_told (findings.DeviceFailed journal) told k k' short ends = absurd short
+short_told findings.HostFailed told k k' short ends = absurd short
+short_told (findings.Memory journal) told k k' short ends =
+    told_fixed told statuses.Memory lines.Memory k k' refl (subst (λ (js : List Entry). IsToldOf (stopped_outcome statuses.Memory js lines.Memory) k k' told) short ends)
+
+-- what the words alone decide, or that there was no memory
+worded_told : (finding wanted : Finding) (s : Status) (line : LastLine) (told : Outcome) (k k' : ℕ) → outcome_of wanted ≡ ended_outcome s line → is_fixed line ≡ true → (finding ≡ wanted) ⊎ IsShort finding → IsToldOf (outcome_of finding) k k' told
+    → IsToldOrShort (ended_outcome s line) told
+worded_told finding wanted s line told k k' is fixed (inl same) ends =
+    inl (told_fixed told s line k k' fixed (subst (λ (o : Outcome). IsToldOf o k k' told) (ap outcome_of same ∙ is) ends))
+worded_told finding wanted s line told k k' is fixed (inr short) ends = inr (short_told finding told k k' short ends)
+
 pub told_by_words : (job : Job) (finding : Finding) (told : Outcome) (k k' : ℕ) → IsWorded job finding → IsToldOf (outcome_of finding) k k' told → EndsByWords job told
-told_by_words usage finding told k k' worded ends =
-    told_fixed told statuses.Usage lines.Usage k k' refl (subst (λ (f : Finding). IsToldOf (outcome_of f) k k' told) worded ends)
-told_by_words unbuilt finding told k k' worded ends =
-    told_fixed told statuses.Refused lines.UnbuiltJob k k' refl (subst (λ (f : Finding). IsToldOf (outcome_of f) k k' told) worded ends)
+told_by_words usage finding told k k' worded ends = worded_told finding findings.Usage statuses.Usage lines.Usage told k k' refl refl worded ends
+told_by_words (unbuilt form) finding told k k' worded ends =
+    worded_told finding (findings.Refused (lines.Unbuilt form)) statuses.Refused (lines.Unbuilt form) told k k' refl refl worded ends
 told_by_words (check_of name) finding told k k' worded ends =
-    (told_not_usage finding told k k' worded ends, told_not_unbuilt finding told k k' worded ends, told_image finding told k k' worded ends)
+    (told_not_usage finding told k k' worded ends, λ form. told_not_unbuilt finding told k k' form worded ends, told_image finding told k k' worded ends)
 
 -- ---- the units of a journal
 
@@ -314,14 +331,38 @@ found_first (findings.DeviceFailed journal) of = of
 found_first findings.HostFailed of = no_units
 found_first (findings.Memory journal) of = of
 
+short_of_image : (finding : Finding) → IsShort finding → IsOfImage finding
+short_of_image (findings.Judged journal) short = absurd short
+short_of_image (findings.Full journal) short = absurd short
+short_of_image (findings.Refused line) short = absurd short
+short_of_image findings.Usage short = absurd short
+short_of_image (findings.DeviceFailed journal) short = absurd short
+short_of_image findings.HostFailed short = absurd short
+short_of_image (findings.Memory journal) short = subst HasFirstUnits (sym short) no_units
+
+-- there was no memory for the words
+pub short_worded : (job : Job) (finding : Finding) → IsShort finding → IsWorded job finding
+short_worded usage finding short = inr short
+short_worded (unbuilt form) finding short = inr short
+short_worded (check_of name) finding short = short_of_image finding short
+
+-- words alone have no units
+no_words_units : (finding wanted : Finding) → HasUnits (outcome_of wanted).status (outcome_of wanted).journal → (finding ≡ wanted) ⊎ IsShort finding → HasUnits (outcome_of finding).status (outcome_of finding).journal
+no_words_units finding wanted none (inl same) = subst (λ (f : Finding). HasUnits (outcome_of f).status (outcome_of f).journal) (sym same) none
+no_words_units finding wanted none (inr short) = found_units finding (short_of_image finding short)
+
+no_words_first : (finding wanted : Finding) → HasFirstUnits (outcome_of wanted).journal → (finding ≡ wanted) ⊎ IsShort finding → HasFirstUnits (outcome_of finding).journal
+no_words_first finding wanted none (inl same) = subst (λ (f : Finding). HasFirstUnits (outcome_of f).journal) (sym same) none
+no_words_first finding wanted none (inr short) = found_first finding (short_of_image finding short)
+
 worded_units : (job : Job) (finding : Finding) → IsWorded job finding → HasUnits (outcome_of finding).status (outcome_of finding).journal
-worded_units usage finding worded = subst (λ (f : Finding). HasUnits (outcome_of f).status (outcome_of f).journal) (sym worded) tt
-worded_units unbuilt finding worded = subst (λ (f : Finding). HasUnits (outcome_of f).status (outcome_of f).journal) (sym worded) tt
+worded_units usage finding worded = no_words_units finding findings.Usage tt worded
+worded_units (unbuilt form) finding worded = no_words_units finding (findings.Refused (lines.Unbuilt form)) tt worded
 worded_units (check_of name) finding worded = found_units finding worded
 
 worded_first : (job : Job) (finding : Finding) → IsWorded job finding → HasFirstUnits (outcome_of finding).journal
-worded_first usage finding worded = subst (λ (f : Finding). HasFirstUnits (outcome_of f).journal) (sym worded) no_units
-worded_first unbuilt finding worded = subst (λ (f : Finding). HasFirstUnits (outcome_of f).journal) (sym worded) no_units
+worded_first usage finding worded = no_words_first finding findings.Usage no_units worded
+worded_first (unbuilt form) finding worded = no_words_first finding (findings.Refused (lines.Unbuilt form)) no_units worded
 worded_first (check_of name) finding worded = found_first finding worded
 
 pub told_units : (job : Job) (finding : Finding) (told : Outcome) (k k' : ℕ) → IsWorded job finding → IsToldOf (outcome_of finding) k k' told → HasUnits told.status told.journal
@@ -329,53 +370,3 @@ told_units job finding told k k' worded (inl whole) = subst (λ (o : Outcome). H
 told_units job finding told k k' worded (inr (inl failed)) = subst (λ (o : Outcome). HasUnits o.status o.journal) (sym failed.0) (worded_first job finding worded)
 told_units job finding told k k' worded (inr (inr memory)) =
     subst (λ (s : Status). HasUnits s told.journal) (sym memory.0) ((outcome_of finding).journal, worded_first job finding worded, memory.2)
-
--- ---- nothing is left out
-
-same_line : {a b : LastLine} → Some a ≡ Some b → a ≡ b
-same_line e = cc
-
-last_is_told : (told : Outcome) (line : LastLine) → told.last ≡ Some line → told.last ≡ Some lines.DeviceFailed → line ≡ lines.DeviceFailed
-last_is_told told line a b = same_line (sym a ∙ b)
-
-not_host : lines.HostFailed ≡ lines.DeviceFailed → ⊥
-not_host e = cc
-
-not_memory : lines.Memory ≡ lines.DeviceFailed → ⊥
-not_memory e = cc
-
-image_line_clash : (line : LastLine) → is_image_line line ≡ true → line ≡ lines.DeviceFailed → ⊥
-image_line_clash line image is = true_not_false (sym image ∙ ap is_image_line is)
-
-found_kept : {D : Type 0} (g : Ghosts D) (file : Option Stored) (finding : Finding) → FindsKept g file finding → IsOfImage finding → (outcome_of finding).last ≡ Some lines.DeviceFailed → CameBack g file (outcome_of finding).journal
-found_kept g file (findings.Judged journal) kept of e = no_line lines.DeviceFailed (sym e)
-found_kept g file (findings.Full journal) kept of e = absurd (full_clash e)
-  where
-    full_clash : Some lines.JournalFull ≡ Some lines.DeviceFailed → ⊥
-    full_clash e = cc
-found_kept g file (findings.Refused line) kept of e = absurd (image_line_clash line of (same_line e))
-found_kept g file findings.Usage kept of e = absurd of
-found_kept g file (findings.DeviceFailed journal) kept of e = kept
-found_kept g file findings.HostFailed kept of e = absurd (not_host (same_line e))
-found_kept g file (findings.Memory journal) kept of e = absurd (not_memory (same_line e))
-
-worded_kept : {D : Type 0} (g : Ghosts D) (file : Option Stored) (job : Job) (finding : Finding) → FindsKept g file finding → IsWorded job finding → (outcome_of finding).last ≡ Some lines.DeviceFailed → CameBack g file (outcome_of finding).journal
-worded_kept g file usage finding kept worded e =
-    let is : Some lines.Usage ≡ Some lines.DeviceFailed = ap (λ (f : Finding). (outcome_of f).last) (sym worded) ∙ e in absurd (usage_clash is)
-  where
-    usage_clash : Some lines.Usage ≡ Some lines.DeviceFailed → ⊥
-    usage_clash e = cc
-worded_kept g file unbuilt finding kept worded e =
-    let is : Some lines.UnbuiltJob ≡ Some lines.DeviceFailed = ap (λ (f : Finding). (outcome_of f).last) (sym worded) ∙ e in absurd (unbuilt_clash is)
-  where
-    unbuilt_clash : Some lines.UnbuiltJob ≡ Some lines.DeviceFailed → ⊥
-    unbuilt_clash e = cc
-worded_kept g file (check_of name) finding kept worded e = found_kept g file finding kept worded e
-
-pub told_kept : {D : Type 0} (g : Ghosts D) (file : Option Stored) (job : Job) (finding : Finding) (told : Outcome) (k k' : ℕ) → FindsKept g file finding → IsWorded job finding → IsToldOf (outcome_of finding) k k' told → TellsKept g file told
-told_kept g file job finding told k k' kept worded (inl whole) = λ e.
-    subst (λ (o : Outcome). CameBack g file o.journal) (sym whole.0) (worded_kept g file job finding kept worded (ap (λ (o : Outcome). o.last) (sym whole.0) ∙ e))
-told_kept g file job finding told k k' kept worded (inr (inl failed)) = λ e.
-    absurd (not_host (last_is_told told lines.HostFailed (ap (λ (o : Outcome). o.last) failed.0) e))
-told_kept g file job finding told k k' kept worded (inr (inr memory)) = λ e.
-    absurd (not_memory (last_is_told told lines.Memory memory.1 e))

@@ -12,17 +12,18 @@ use Rattle.fs_model.specs.declared.entry.Entry.{Entry}
 use Rattle.space_check.specs.Checked.{checked, check_events, look}
 use Rattle.space_check.specs.Events.{Event}
 use Rattle.xscrub.specs.Image.{image_events, image_outcome, superblock_events, superblock_outcome, checked_outcome, refused}
-use Rattle.xscrub.specs.Judged.{HasFrontOf, IsJudged, IsKept, Kept, journal_at, judgement_outcome}
+use Rattle.xscrub.specs.Judged.{HasFrontOf, IsJudged, IsKept, Kept, journal_at, journal_in, judgement_outcome}
 use Rattle.xscrub.specs.Outcome.{Outcome}
 use Rattle.blk_device.specs.declared.device.Region.{Region}
 use Rattle.xscrub.specs.Ending.{stored_outcome}
 use Rattle.xscrub.specs.Stored.{Stored, IsOpened, opened}
 use Rattle.xscrub.specs.Units.{HasFirstUnits}
-use Rattle.xscrub.proofs.SaysLemmas.{kept_behind, kept_none}
+use Rattle.xscrub.proofs.SaysLemmas.{kept_behind, kept_first_block, kept_none, kept_unread}
 use Rattle.xscrub.proofs.UnitLemmas.{no_units}
 use Rattle.xscrub.specs.declared.judging.JudgeFault.{JudgeFault}
 use Rattle.xscrub.specs.declared.judging.Judgement.{Judgement}
 use Rattle.xscrub.specs.declared.judging.Judgement.TheVariants.{Refused}
+use Rattle.xscrub.specs.declared.last_lines.LastLine.{LastLine}
 use Rattle.xscrub.specs.declared.last_lines.LastLine.TheVariants as lines
 
 -- what holds of an answer, from what else holds of it
@@ -90,7 +91,7 @@ front_none None size fault none = tt
 front_none (Some m) size fault none =
     subst (λ (js : List Entry). IsFront js (image_outcome size (m Image)).journal) (sym none) ((image_outcome size (m Image)).journal, refl)
 
-pub kept_first : (told : Option Contents) (size : ℕ) (fault : JudgeFault) (before now : ℕ) → journal_at fault ≡ [] → now ≤ before + 1 → Kept told size before now fault
+pub kept_first : (told : Option Contents) (size : ℕ) (fault : JudgeFault) (before now : ℕ) → journal_at fault ≡ [] → now ≤ before + 1 → Kept told size before now (Err fault)
 unfolding image_events
 kept_first None size fault before now none one = tt
 kept_first (Some m) size fault before now none one =
@@ -98,6 +99,17 @@ kept_first (Some m) size fault before now none one =
   where
     at_block_0 : (image : ℕ → List ℕ) → IsKept (image_events size image) before now []
     at_block_0 image = kept_none (superblock_events (layout_of (image 0)) image (first_fault (image 0) size)) before now one
+
+-- its superblock was refused
+pub kept_bad : (told : Option Contents) (size : ℕ) (line : LastLine) (before now : ℕ) → now ≤ before + 1 → Kept told size before now (Ok (Refused line))
+unfolding image_events
+kept_bad None size line before now one = tt
+kept_bad (Some m) size line before now one = kept_first_block (superblock_events (layout_of (m Image 0)) (m Image) (first_fault (m Image 0) size)) before now one
+
+-- it has no block
+pub kept_short : (told : Option Contents) (size : ℕ) (line : LastLine) (n : ℕ) → Kept told size n n (Ok (Refused line))
+kept_short None size line n = tt
+kept_short (Some m) size line n = kept_unread (image_events size (m Image)) n
 
 -- its groups were checked, and that was stopped
 pub front_groups : (told : Option Contents) (size n : ℕ) (bytes : List ℕ) (at : Layout) (fault : JudgeFault) → n ≡ size → Holds Image 0 bytes told → first_fault bytes n ≡ None → at ≡ layout_of bytes
@@ -107,12 +119,12 @@ front_groups (Some m) size n bytes at fault same holds good is front =
     let whole = sym (good_superblock n (m Image) bytes holds at good is) ∙ ap (λ (k : ℕ). image_outcome k (m Image)) same in
     subst (λ (o : Outcome). IsFront (journal_at fault) o.journal) whole front
 
-pub kept_groups : (told : Option Contents) (size n : ℕ) (bytes : List ℕ) (at : Layout) (fault : JudgeFault) (before mid now : ℕ) → n ≡ size → Holds Image 0 bytes told → first_fault bytes n ≡ None → at ≡ layout_of bytes → mid ≤ before + 1
-    → IfSome told (λ m. IsKept (check_events at (m Image)) mid now (journal_at fault)) → Kept told size before now fault
-kept_groups None size n bytes at fault before mid now same holds good is one kept = tt
-kept_groups (Some m) size n bytes at fault before mid now same holds good is one kept =
+pub kept_groups : (told : Option Contents) (size n : ℕ) (bytes : List ℕ) (at : Layout) (result : Result Judgement JudgeFault) (before mid now : ℕ) → n ≡ size → Holds Image 0 bytes told → first_fault bytes n ≡ None → at ≡ layout_of bytes → mid ≤ before + 1
+    → IfSome told (λ m. IsKept (check_events at (m Image)) mid now (journal_in result)) → Kept told size before now result
+kept_groups None size n bytes at result before mid now same holds good is one kept = tt
+kept_groups (Some m) size n bytes at result before mid now same holds good is one kept =
     let whole = sym (good_events n (m Image) bytes holds at good is) ∙ ap (λ (k : ℕ). image_events k (m Image)) same in
-    subst (λ (es : List Event). IsKept es before now (journal_at fault)) whole (kept_behind (check_events at (m Image)) before mid now (journal_at fault) one kept)
+    subst (λ (es : List Event). IsKept es before now (journal_in result)) whole (kept_behind (check_events at (m Image)) before mid now (journal_in result) one kept)
 
 pub units_none : (fault : JudgeFault) → journal_at fault ≡ [] → HasFirstUnits (journal_at fault)
 units_none fault none = subst HasFirstUnits (sym none) no_units

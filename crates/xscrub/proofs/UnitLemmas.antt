@@ -1,5 +1,5 @@
 -- The first units of a journal.
-use Rattle.std.proofs.Common.{◌≡◌, ℕ, List, [], ◌∷◌, ◌++◌, refl, sym, ◌∙◌, ap, subst, append-nil}
+use Rattle.std.proofs.Common.{◌≡◌, ℕ, List, [], ◌∷◌, refl, sym, ◌∙◌, ap, subst, append-nil}
 use Rattle.fs_model.specs.declared.entry.Entry.{Entry}
 use Rattle.space_check.specs.Events.{Event, Moment}
 use Rattle.space_check.specs.Session.{AreOfGroups, StopsInGroups}

@@ -1,35 +1,34 @@
--- What the words of a command line ask for.
-use Rattle.std.specs.Prelude.{◌≡◌, ℕ, List, [], ◌∷◌, Bool, false, ◌||◌, ◌&&◌, not, ◌==◌, codes, if◌then◌else◌}
-use Rattle.std.specs.Str.{bytes_eq}
+-- What the words of a command line ask for, as far as it is built.
+use Rattle.std.specs.Prelude.{◌≡◌, ℕ, List, Option, Some, None}
+use Rattle.command_line.specs.Requests.{Asked, Text, asked_by}
+use Rattle.command_line.specs.declared.request.Job.{Job as Named}
+use Rattle.command_line.specs.declared.request.Job.TheVariants as names
 use Rattle.xscrub.specs.declared.command.Command.{Command}
 use Rattle.xscrub.specs.declared.command.Command.TheVariants.{Check, Unbuilt, Usage}
+use Rattle.xscrub.specs.declared.last_lines.Form.{Form}
+use Rattle.xscrub.specs.declared.last_lines.Form.TheVariants as forms
 
--- the job that is asked for, with the name as bytes
+-- the job that is asked for, with the name as bytes; a form that isn't built yet; or no job
 pub data Job : Type 0 where
   check_of : List ℕ → Job
-  unbuilt : Job
+  unbuilt : Form → Job
   usage : Job
 
-abbrev pub begins_with_dash : List ℕ → Bool
-begins_with_dash [] = false
-begins_with_dash (b ∷ bs) = b == 45
+-- a check without a redo file is built
+abbrev pub job_for : Named → (target : Text) → (redo : Option Text) → Job
+job_for names.Check target None = check_of target
+job_for names.Check target (Some redo) = unbuilt forms.Redo
+job_for other target redo = unbuilt forms.Job
 
--- a job of the program that can't be run yet
-unfoldable pub is_unbuilt : List ℕ → Bool
-is_unbuilt job = bytes_eq job (codes "repair") || bytes_eq job (codes "run") || bytes_eq job (codes "drill") || bytes_eq job (codes "make")
+abbrev pub job_in : Option Asked → Job
+job_in None = usage
+job_in (Some asked) = job_for asked.job asked.target asked.redo
 
--- what a job asks for with the words behind it: `check` takes one, which doesn't begin with a dash
-unfoldable pub command_after : List ℕ → List (List ℕ) → Job
-command_after job [] = if is_unbuilt job then unbuilt else usage
-command_after job (name ∷ []) = if is_unbuilt job then unbuilt else (if bytes_eq job (codes "check") && not (begins_with_dash name) then check_of name else usage)
-command_after job (name ∷ other ∷ words) = if is_unbuilt job then unbuilt else usage
-
-unfoldable pub command_of : List (List ℕ) → Job
-command_of [] = usage
-command_of (job ∷ rest) = command_after job rest
+unfoldable pub command_of : List Text → Job
+command_of words = job_in (asked_by words)
 
 -- the command is what is asked for
 abbrev pub SaysCommand : Command → Job → Type 0
 SaysCommand (Check name) asked = check_of name.now ≡ asked
-SaysCommand Unbuilt asked = unbuilt ≡ asked
+SaysCommand (Unbuilt form) asked = unbuilt form ≡ asked
 SaysCommand Usage asked = usage ≡ asked

@@ -2,17 +2,18 @@
 use Rattle.std.specs.Prelude.{◌≡◌, ◌≤◌, ◌⊎◌, ℕ, true, false, List, [], ◌∷◌, ◌++◌, length, Option, Some, None, IfSome, ⊤}
 use Rattle.std.specs.List.{list_all}
 use Rattle.blk_device.specs.Causes.{Rose}
+use Rattle.blk_device.specs.Reading.{EachBlock, Keeps}
 use Rattle.blk_device.specs.Taken.{Takes, IsFront}
 use Rattle.xscrub.specs.Command.{Job, check_of, unbuilt, usage}
 use Rattle.blk_device.specs.declared.device.Device.{Ghosts}
 use Rattle.blk_device.specs.declared.device.Region.TheVariants.{Image}
 use Rattle.xscrub.specs.Image.{image_events, image_outcome}
-use Rattle.xscrub.specs.Outcome.{Outcome, code_of, is_calm, is_image_line, judged_outcome, filled_outcome, stopped_outcome, ended_outcome}
+use Rattle.xscrub.specs.Outcome.{Outcome, outcome_of, code_of, is_calm, is_image_line, judged_outcome, filled_outcome, stopped_outcome, ended_outcome}
 use Rattle.run_text.specs.Report.{report_of}
 use Rattle.xscrub.specs.LastLines.{is_fixed}
 use Rattle.xscrub.specs.Shown.{TakesFronts, last_text}
 use Rattle.xscrub.specs.Judged.{IsKept}
-use Rattle.xscrub.specs.Stored.{Stored, Request, IsOpened}
+use Rattle.xscrub.specs.Stored.{Stored, Request, Loan, Out, Back, Lends, IsOpened}
 use Rattle.xscrub.specs.Units.{HasAllUnits, HasItsMost, HasFirstUnits, HasUnits}
 use Rattle.xscrub.specs.declared.ending.Finding.{Finding}
 use Rattle.xscrub.specs.declared.ending.Finding.TheVariants as findings
@@ -21,6 +22,7 @@ use Rattle.xscrub.specs.declared.ending.Status.TheVariants as statuses
 use Rattle.xscrub.specs.declared.ending.Told.{Told}
 use Rattle.fs_model.specs.declared.entry.Entry.{Entry}
 use Rattle.xscrub.specs.declared.host.Purpose.TheVariants.{Check as ForCheck}
+use Rattle.xscrub.specs.declared.last_lines.Form.{Form}
 use Rattle.xscrub.specs.declared.last_lines.LastLine.{LastLine}
 use Rattle.xscrub.specs.declared.last_lines.LastLine.TheVariants as lines
 use Rattle.xscrub.specs.declared.top.RunEnd.{RunEnd}
@@ -34,13 +36,13 @@ stored_outcome (Some file) = Some (image_outcome file.size file.at)
 -- how a run ends that nothing stops: None where the host doesn't tell the image that is named
 abbrev pub decided_by : Job → (List ℕ → Option Stored) → Option Outcome
 decided_by usage stored = Some (ended_outcome statuses.Usage lines.Usage)
-decided_by unbuilt stored = Some (ended_outcome statuses.Refused lines.UnbuiltJob)
+decided_by (unbuilt form) stored = Some (ended_outcome statuses.Refused (lines.Unbuilt form))
 decided_by (check_of name) stored = stored_outcome (stored name)
 
 -- what the host is asked for
 abbrev pub requests_of : Job → List Request
 requests_of usage = []
-requests_of unbuilt = []
+requests_of (unbuilt form) = []
 requests_of (check_of name) = record { image = name; redo = None; purpose = ForCheck } ∷ []
 
 -- ---- what a check of an image finds, before it is told
@@ -75,7 +77,7 @@ IsOfImage (findings.DeviceFailed journal) = HasFirstUnits journal.items
 IsOfImage findings.HostFailed = ⊤
 IsOfImage (findings.Memory journal) = HasFirstUnits journal.items
 
--- there was no memory to open the image
+-- there was no memory for the words, or to open the image
 abbrev pub IsShort : Finding → Type 0
 IsShort (findings.Judged journal) = ⊥
 IsShort (findings.Full journal) = ⊥
@@ -85,34 +87,38 @@ IsShort (findings.DeviceFailed journal) = ⊥
 IsShort findings.HostFailed = ⊥
 IsShort (findings.Memory journal) = journal.items ≡ []
 
--- A device was handed out with this image and came back, and the journal has all that was judged by
--- what was read of it.
-pub record CameBack {D : Type 0} (g : Ghosts D) (file : Option Stored) (journal : List Entry) : Type 0 where
+-- A device with this image was handed out, and came back. It was only read, and the journal has all
+-- that was judged by what was read of it.
+pub record CameBack {D : Type 0} (g : Ghosts D) (file : Option Stored) (loans loans' : Option (List (Loan D))) (journal : List Entry) : Type 0 where
   pub dev : D
   pub back : D
+  pub lent : Lends (Out dev ∷ Back back ∷ []) loans loans'
   pub opened : IsOpened file (g.content dev) (g.blocks dev)
+  pub same : g.content back ≡ g.content dev
+  pub crash : Keeps g EachBlock dev back
   pub kept : IfSome (g.content dev) (λ m. IsKept (image_events (g.blocks dev Image) (m Image)) (g.reads dev) (g.reads back) journal)
 
--- where the device failed, nothing that was judged is left out
-abbrev pub FindsKept : {D : Type 0} → Ghosts D → Option Stored → Finding → Type 0
-FindsKept g file (findings.Judged journal) = ⊤
-FindsKept g file (findings.Full journal) = ⊤
-FindsKept g file (findings.Refused line) = ⊤
-FindsKept g file findings.Usage = ⊤
-FindsKept g file (findings.DeviceFailed journal) = CameBack g file journal.items
-FindsKept g file findings.HostFailed = ⊤
-FindsKept g file (findings.Memory journal) = ⊤
+-- no device was handed out
+abbrev pub IsUnopened : Finding → Type 0
+IsUnopened (findings.Judged journal) = ⊥
+IsUnopened (findings.Full journal) = ⊥
+IsUnopened (findings.Refused line) = ⊥
+IsUnopened findings.Usage = ⊥
+IsUnopened (findings.DeviceFailed journal) = ⊥
+IsUnopened findings.HostFailed = ⊤
+IsUnopened (findings.Memory journal) = journal.items ≡ []
 
--- the image that is named, where the words ask for a check
-abbrev pub file_for : Job → (List ℕ → Option Stored) → Option Stored
-file_for usage stored = None
-file_for unbuilt stored = None
-file_for (check_of name) stored = stored name
+-- what is found for these words, with the device that was handed out for them
+abbrev pub FindsBy : {D : Type 0} → Ghosts D → Job → (List ℕ → Option Stored) → (loans loans' : Option (List (Loan D))) → Finding → Type 0
+FindsBy g usage stored loans loans' finding = loans' ≡ loans
+FindsBy g (unbuilt form) stored loans loans' finding = loans' ≡ loans
+FindsBy g (check_of name) stored loans loans' finding =
+    (IsUnopened finding × (loans' ≡ loans)) ⊎ CameBack g (stored name) loans loans' (outcome_of finding).journal
 
 -- what the words alone say of a finding
 abbrev pub IsWorded : Job → Finding → Type 0
-IsWorded usage finding = finding ≡ findings.Usage
-IsWorded unbuilt finding = finding ≡ findings.Refused lines.UnbuiltJob
+IsWorded usage finding = (finding ≡ findings.Usage) ⊎ IsShort finding
+IsWorded (unbuilt form) finding = (finding ≡ findings.Refused (lines.Unbuilt form)) ⊎ IsShort finding
 IsWorded (check_of name) finding = IsOfImage finding
 
 pub record IsFound (decided : Option Outcome) (host host' devices devices' : ℕ) (finding : Finding) : Type 0 where
@@ -181,16 +187,28 @@ IsAsked command short asked asked' = (short × (asked' ≡ asked)) ⊎ (asked' �
 abbrev pub IsImageLine : Option LastLine → Type 0
 IsImageLine last = (line : LastLine) × (last ≡ Some line) × (is_image_line line ≡ true)
 
+-- this is told; or that there was no memory, and nothing else
+abbrev pub IsToldOrShort : (wanted told : Outcome) → Type 0
+IsToldOrShort wanted told = (told ≡ wanted) ⊎ (told ≡ ended_outcome statuses.Memory lines.Memory)
+
 -- Words that ask for no check end the run at once, and always so; only they do. A check that is
 -- refused tells of the image.
 abbrev pub EndsByWords : Job → Outcome → Type 0
-EndsByWords usage told = told ≡ ended_outcome statuses.Usage lines.Usage
-EndsByWords unbuilt told = told ≡ ended_outcome statuses.Refused lines.UnbuiltJob
-EndsByWords (check_of name) told = (told.status ≡ statuses.Usage → ⊥) × (told.last ≡ Some lines.UnbuiltJob → ⊥) × (told.status ≡ statuses.Refused → IsImageLine told.last)
+EndsByWords usage told = IsToldOrShort (ended_outcome statuses.Usage lines.Usage) told
+EndsByWords (unbuilt form) told = IsToldOrShort (ended_outcome statuses.Refused (lines.Unbuilt form)) told
+EndsByWords (check_of name) told =
+    (told.status ≡ statuses.Usage → ⊥) × ((form : Form) → told.last ≡ Some (lines.Unbuilt form) → ⊥)
+    × (told.status ≡ statuses.Refused → IsImageLine told.last)
 
--- nor is it where that is told
-abbrev pub TellsKept : {D : Type 0} → Ghosts D → Option Stored → Outcome → Type 0
-TellsKept g file told = told.last ≡ Some lines.DeviceFailed → CameBack g file told.journal
+-- Words that ask for no check have no device. A check has one, and tells all that was judged by what
+-- was read of it, or where memory was short a front of that; or the host handed none out.
+abbrev pub TellsBy : {D : Type 0} → Ghosts D → Job → (List ℕ → Option Stored) → (loans loans' : Option (List (Loan D))) → Outcome → Type 0
+TellsBy g usage stored loans loans' told = loans' ≡ loans
+TellsBy g (unbuilt form) stored loans loans' told = loans' ≡ loans
+TellsBy g (check_of name) stored loans loans' told =
+    ((loans' ≡ loans) × (told.journal ≡ []) × (IsSettled told.status → ⊥))
+    ⊎ ((found : List Entry) × CameBack g (stored name) loans loans' found × IsFront told.journal found
+    × ((told.status ≡ statuses.Memory → ⊥) → told.journal ≡ found))
 
 -- What a run owes: how it ended is what words and bytes decide, or has a cause in a count that
 -- rose; its journal has each unit of each group, or the first of them where it was stopped; and this

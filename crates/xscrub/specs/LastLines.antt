@@ -8,8 +8,9 @@ use Rattle.fs_model.specs.declared.unit.Head.TheVariants.{Agf, Agi, Agfl}
 use Rattle.geom.specs.declared.fault.ImageFault.{ImageFault}
 use Rattle.geom.specs.declared.fault.ImageFault.TheVariants as images
 use Rattle.run_text.specs.Lines.{line_from, spaced}
+use Rattle.xscrub.specs.declared.last_lines.Form.TheVariants as forms
 use Rattle.xscrub.specs.declared.last_lines.LastLine.{LastLine}
-use Rattle.xscrub.specs.declared.last_lines.LastLine.TheVariants.{Usage, UnbuiltJob, Image, Head, DeviceFailed, HostFailed, JournalFull, Memory}
+use Rattle.xscrub.specs.declared.last_lines.LastLine.TheVariants.{Usage, Unbuilt, Image, Head, DeviceFailed, HostFailed, JournalFull, Memory}
 
 abbrev pub head_name : GroupHead → List ℕ
 head_name Agf = codes "agf"
@@ -39,7 +40,8 @@ image_fault_words images.DeviceShort = codes "deviceshort" ∷ []
 
 abbrev pub last_words : LastLine → List (List ℕ)
 last_words Usage = codes "usage: xscrub JOB TARGET [--redo FILE] [--script FILE] [--rebuild] [--turns N]" ∷ []
-last_words UnbuiltJob = codes "unbuilt job" ∷ []
+last_words (Unbuilt forms.Job) = codes "unbuilt job" ∷ []
+last_words (Unbuilt forms.Redo) = codes "unbuilt redo" ∷ []
 last_words (Image fault) = codes "image" ∷ image_fault_words fault
 last_words (Head group head fault) = codes "group" ∷ decimal group ∷ head_name head ∷ head_fault_text fault ∷ []
 last_words DeviceFailed = codes "device failed" ∷ []

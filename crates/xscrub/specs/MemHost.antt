@@ -1,9 +1,10 @@
 -- What a host in memory stands for.
-use Rattle.std.specs.Prelude.{◌≡◌, ℕ, List, map, Option, IsSome}
+use Rattle.std.specs.Prelude.{◌≡◌, ℕ, List, map, Option, None, IsSome}
 use Rattle.std.specs.BTreeMap.{get_by_text}
 use Rattle.xscrub.specs.Asked.{request_of}
 use Rattle.xscrub.specs.MemFiles.{file_named, failing_named}
-use Rattle.xscrub.specs.Stored.{Stored, Request}
+use Rattle.blk_device.specs.declared.memory.MemDevice.{MemDevice}
+use Rattle.xscrub.specs.Stored.{Stored, Request, Loan}
 use Rattle.xscrub.specs.declared.mem_host.MemHost.{MemHost}
 
 abbrev pub stored_by : MemHost → List ℕ → Option Stored
@@ -19,6 +20,12 @@ Awaits host name = IsSome (get_by_text host.images name)
 abbrev pub asked_of : MemHost → List Request
 asked_of host = map request_of host.asked.items
 
+-- it doesn't tell its loans
+abbrev pub loans_of : MemHost → Option (List (Loan MemDevice))
+loans_of host = None
+
 -- the report changes nothing else that a clause speaks of
 abbrev pub Keeps : MemHost → MemHost → Type 0
-Keeps a b = (b.host_faults ≡ a.host_faults) × (b.dev_faults ≡ a.dev_faults) × (asked_of b ≡ asked_of a) × ((n : List ℕ) → stored_by b n ≡ stored_by a n)
+Keeps a b =
+    (b.host_faults ≡ a.host_faults) × (b.dev_faults ≡ a.dev_faults) × (asked_of b ≡ asked_of a)
+    × ((n : List ℕ) → stored_by b n ≡ stored_by a n) × (loans_of b ≡ loans_of a)

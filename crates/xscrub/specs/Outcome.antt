@@ -64,7 +64,7 @@ abbrev pub is_image_line : LastLine → Bool
 is_image_line (lines.Image fault) = true
 is_image_line (lines.Head group head fault) = true
 is_image_line lines.Usage = false
-is_image_line lines.UnbuiltJob = false
+is_image_line (lines.Unbuilt form) = false
 is_image_line lines.DeviceFailed = false
 is_image_line lines.HostFailed = false
 is_image_line lines.JournalFull = false

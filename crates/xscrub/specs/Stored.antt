@@ -1,5 +1,5 @@
 -- What a host keeps under a name, and what it is asked.
-use Rattle.std.specs.Prelude.{◌≡◌, ℕ, List, Option, Some, None}
+use Rattle.std.specs.Prelude.{◌≡◌, ⊤, ℕ, List, ◌++◌, Option, Some, None}
 use Rattle.byte_fields.specs.Zeros.{zeros}
 use Rattle.blk_device.specs.Contents.{Contents}
 use Rattle.blk_device.specs.declared.device.Region.{Region}
@@ -16,6 +16,18 @@ pub record Request : Type 0 where
   pub image : List ℕ
   pub redo : Option (List ℕ)
   pub purpose : Purpose
+
+-- a device that was handed out, or one that came back, as it was then
+pub data Loan (D : Type 0) : Type 0 where
+  Out : (dev : D) → Loan D
+  Back : (dev : D) → Loan D
+
+-- these loans were added at the end, where the host tells its loans
+abbrev pub Lends : {D : Type 0} → List (Loan D) → (old new : Option (List (Loan D))) → Type 0
+Lends loans None None = ⊤
+Lends loans None (Some new) = ⊥
+Lends loans (Some old) None = ⊥
+Lends loans (Some old) (Some new) = new ≡ old ++ loans
 
 -- an image that was opened without a redo file: its redo region is zeros
 abbrev pub opened : Stored → Contents

@@ -1,57 +1,49 @@
-ghost use Rattle.std.specs.Prelude.{◌≡◌, map, string_bytes};
-ghost use Rattle.xscrub.specs.Command.{begins_with_dash as begins_with_dash_of, is_unbuilt as is_unbuilt_of, command_of as command_of_words, command_after as command_after_job, SaysCommand};
+ghost use Rattle.std.specs.Prelude.{◌≡◌, IfOk, Some, map, option_map, string_bytes};
+ghost use Rattle.command_line.specs.Requests.{told};
+ghost use Rattle.xscrub.specs.Command.{command_of as command_of_words, job_in, SaysCommand};
 
-/// What the words of a command line ask for: the check of the named image, a job that isn't
+use crate::last_lines::Form;
+use command_line::{Job, Request, parse};
+use std::alloc::{AllocError, Global};
+
+/// What the words of a command line ask for: the check of the named image, a form that isn't
 /// built yet, or nothing that is understood.
 #[derive(Clone, Copy, Debug, PartialEq, Eq)]
 pub enum Command<'a> {
     Check(&'a str),
-    Unbuilt,
+    Unbuilt(Form),
     Usage,
 }
 
-fn begins_with_dash(word: &str) -> bool
-    ensures { result ≡ begins_with_dash_of word.now }
+// What a request asks for.
+fn command_in<'a>(request: &Request<'a>) -> Command<'a>
+    ensures { SaysCommand result (job_in (Some (told request.now))) }
 {
-    match word.as_bytes() {
-        [] => false,
-        [first, ..] => *first == b'-',
+    match request.job {
+        Job::Check => match request.redo {
+            None => Command::Check(request.target),
+            Some(_) => Command::Unbuilt(Form::Redo),
+        },
+        Job::Repair | Job::Run | Job::Drill | Job::Make => Command::Unbuilt(Form::Job),
     }
 }
 
-#[tactic(auto, unfolding(crate::specs::Command::is_unbuilt))]
-fn is_unbuilt(job: &str) -> bool
-    ensures { result ≡ is_unbuilt_of job.now }
+// What the request asks for, if there is one.
+fn command_by<'a>(found: Option<Request<'a>>) -> Command<'a>
+    ensures { SaysCommand result (job_in (option_map told found.entry)) }
 {
-    job == "repair" || job == "run" || job == "drill" || job == "make"
+    match found {
+        Some(request) => command_in(&request),
+        None => Command::Usage,
+    }
 }
 
-/// Reads the words, without the program's name. Exactly `check` and one word that doesn't begin
-/// with `-` ask for a check. A job that isn't built yet is that whatever stands behind it.
+/// Reads the words, without the program's name. What is asked for is that whatever the host is; want
+/// of memory is the one refusal.
 #[tactic(auto, unfolding(crate::specs::Command::command_of))]
-pub fn command_of<'a>(words: &'a [String]) -> Command<'a>
-    ensures { SaysCommand result (command_of_words (map string_bytes words.now)) }
+pub fn command_of<'a>(alloc: Global, words: &'a [String]) -> Result<Command<'a>, AllocError>
+    ensures { IfOk result (λ command. SaysCommand command (command_of_words (map string_bytes words.now))) }
 {
-    match words {
-        [] => Command::Usage,
-        [job, rest @ ..] => command_after(job.as_str(), rest),
-    }
-}
-
-#[tactic(auto, unfolding(crate::specs::Command::command_after))]
-fn command_after<'a>(job: &str, rest: &'a [String]) -> Command<'a>
-    ensures { SaysCommand result (command_after_job job.now (map string_bytes rest.now)) }
-{
-    if is_unbuilt(job) {
-        return Command::Unbuilt;
-    }
-    match rest {
-        [name] => {
-            if job != "check" || begins_with_dash(name.as_str()) {
-                return Command::Usage;
-            }
-            Command::Check(name.as_str())
-        }
-        _ => Command::Usage,
-    }
+    let found = parse(alloc, words)?;
+    Ok(command_by(found))
 }

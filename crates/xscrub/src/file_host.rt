@@ -1,12 +1,14 @@
 //! The host of the program: images are files, and the report goes to standard output.
 ghost use Rattle.std.specs.Prelude.{◌≡◌, ◌/◌, [], None, IsNone, IfOk};
 
+use crate::advice::{NamedFile, explain, tell_failure};
 use crate::asked::{DeviceAsked, count_failed, count_fault, keep_request};
 use crate::host::{Host, OpenFault, Purpose};
 use blk_device::{Device, FileDevice, Region, Sink, SinkFailed};
 use std::alloc::Global;
 use std::fs::{OpenFile, OpenOptions};
-use std::io::{Seek, SeekFrom, Write};
+use std::io::{ErrorKind, Seek, SeekFrom, Write};
+use std::os::unix::fs::FileTypeExt;
 use std::rt::Files;
 use std::{fs, io};
 
@@ -15,10 +17,10 @@ const BLOCK_BYTES: u64 = 4096;
 // The blocks of a redo region, in a file or not.
 const REDO_BLOCKS: u64 = 162;
 
-/// Opens files for devices and prints the report. It tells nothing of what a file holds, nor of
-/// what standard output took.
+/// Opens files for devices and prints the report; beside it, on standard error, it says what failed
+/// and what a refusal means. It tells nothing of what a file holds, nor of what standard output took.
 #[derive(Drop)]
-pub struct FileHost<'a, R: Files + Print> {
+pub struct FileHost<'a, R: Files + Print + Eprint> {
     rt: &'a R,
     asked: Vec<DeviceAsked>,
     sink_faults: u64,
@@ -26,7 +28,7 @@ pub struct FileHost<'a, R: Files + Print> {
     dev_faults: u64,
 }
 
-impl<'a, R: Files + Print> FileHost<'a, R> {
+impl<'a, R: Files + Print + Eprint> FileHost<'a, R> {
     /// A host that was asked nothing yet.
     pub fn new(alloc: Global, rt: &'a R) -> Self
         ensures asked { result.asked.items ≡ [] }
@@ -57,9 +59,17 @@ fn blocks_of<F: Seek>(file: &mut F) -> io::Result<u64> {
     Ok(whole_blocks(file.seek(SeekFrom::End(0))?))
 }
 
+// Opens a file to be read. A pipe would wait for a writer, and has no blocks: it is refused.
+fn open_to_read<R: Files>(rt: &R, name: &str) -> io::Result<R::File> {
+    if fs::metadata(rt, name)?.file_type().is_fifo() {
+        return Err(io::Error::new(ErrorKind::Unsupported, "a pipe is no image"));
+    }
+    fs::open(rt, name)
+}
+
 fn open_image<R: Files>(rt: &R, name: &str, purpose: Purpose) -> io::Result<R::File> {
     match purpose {
-        Purpose::Check => fs::open(rt, name),
+        Purpose::Check => open_to_read(rt, name),
         Purpose::Change => OpenOptions::new().read(true).write(true).open(rt, name),
         Purpose::Make(blocks) => {
             let file = OpenOptions::new()
@@ -87,29 +97,45 @@ fn open_redo<R: Files>(rt: &R, name: &str) -> io::Result<R::File> {
     Ok(file)
 }
 
-fn open_device<R: Files>(
+// A file that was opened, with its name for what is told of it; or what failed is told.
+fn named<'a, R: Files + Eprint>(
     alloc: Global,
-    rt: &R,
+    rt: &'a R,
+    name: &str,
+    opened: io::Result<R::File>,
+) -> io::Result<NamedFile<'a, R>> {
+    match opened {
+        Ok(file) => Ok(NamedFile::new(rt, String::from_str(alloc, name)?, file)),
+        Err(fault) => {
+            tell_failure(rt, name, &fault);
+            Err(fault)
+        }
+    }
+}
+
+fn open_device<'a, R: Files + Eprint>(
+    alloc: Global,
+    rt: &'a R,
     image: &str,
     redo: Option<&str>,
     purpose: Purpose,
-) -> io::Result<FileDevice<R::File>>
+) -> io::Result<FileDevice<NamedFile<'a, R>>>
     ensures redo_blocks { IsNone redo.entry →
-        IfOk result (λ d. ⟦<FileDevice<R::File> as Device>⟧.blocks d Region.Redo ≡ 162) }
-    ensures fresh { IfOk result (λ d. ⟦<FileDevice<R::File> as Device>⟧.faults d ≡ 0) }
-    ensures untold { IfOk result (λ d. ⟦<FileDevice<R::File> as Device>⟧.content d ≡ None) }
+        IfOk result (λ d. ⟦<FileDevice<NamedFile<'a, R>> as Device>⟧.blocks d Region.Redo ≡ 162) }
+    ensures fresh { IfOk result (λ d. ⟦<FileDevice<NamedFile<'a, R>> as Device>⟧.faults d ≡ 0) }
+    ensures untold { IfOk result (λ d. ⟦<FileDevice<NamedFile<'a, R>> as Device>⟧.content d ≡ None) }
 {
-    let mut image = open_image(rt, image, purpose)?;
+    let mut image = named(alloc, rt, image, open_image(rt, image, purpose))?;
     let image_blocks = blocks_of(&mut image)?;
     let Some(name) = redo else {
         return Ok(FileDevice::new(alloc, image, None, image_blocks, REDO_BLOCKS));
     };
-    let mut redo = open_redo(rt, name)?;
+    let mut redo = named(alloc, rt, name, open_redo(rt, name))?;
     let redo_blocks = blocks_of(&mut redo)?;
     Ok(FileDevice::new(alloc, image, Some(redo), image_blocks, redo_blocks))
 }
 
-impl<R: Files + Print> Sink for FileHost<'_, R> {
+impl<R: Files + Print + Eprint> Sink for FileHost<'_, R> {
     ghost use Rattle.std.specs.Prelude.{map};
     ghost use Rattle.std.proofs.Common.{rules};
     ghost use Rattle.xscrub.specs.Asked.{request_of};
@@ -127,20 +153,23 @@ impl<R: Files + Print> Sink for FileHost<'_, R> {
 
     fn put(&mut self, piece: &[u8]) -> Result<usize, SinkFailed> {
         match io::writer(self.rt).write(piece) {
-            Ok(taken) if taken > 0 || piece.is_empty() => Ok(taken),
-            _ => {
-                count_fault(&mut self.sink_faults);
-                Err(SinkFailed)
+            Ok(taken) if taken > 0 || piece.is_empty() => {
+                explain(self.rt, piece);
+                return Ok(taken);
             }
+            Ok(_) => {}
+            Err(fault) => tell_failure(self.rt, "standard output", &fault),
         }
+        count_fault(&mut self.sink_faults);
+        Err(SinkFailed)
     }
 }
 
-impl<R: Files + Print> Host for FileHost<'_, R>
+impl<'a, R: Files + Print + Eprint + Sync> Host for FileHost<'a, R>
 where
     R::File: Send,
 {
-    type Dev = FileDevice<R::File>;
+    type Dev = FileDevice<NamedFile<'a, R>>;
 
     ghost use Rattle.std.specs.Prelude.{map};
     ghost use Rattle.std.proofs.Common.{rules};
@@ -151,6 +180,8 @@ where
     ghost awaits = { λ h n. Unit {0} };
 
     ghost asked = { λ h. map request_of h.asked.items };
+
+    ghost loans = { λ h. None };
 
     ghost host_faults = { λ h. h.host_faults };
 
@@ -163,13 +194,14 @@ where
         image: &str,
         redo: Option<&str>,
         purpose: Purpose,
-    ) -> Result<FileDevice<R::File>, OpenFault> {
+    ) -> Result<FileDevice<NamedFile<'a, R>>, OpenFault> {
         let alloc = *self.asked.allocator();
         if keep_request(alloc, &mut self.asked, image, redo, purpose).is_err() {
             return Err(OpenFault::Memory);
         }
         match open_device(alloc, self.rt, image, redo, purpose) {
             Ok(dev) => Ok(dev),
+            Err(fault) if fault.kind() == ErrorKind::OutOfMemory => Err(OpenFault::Memory),
             Err(_) => {
                 count_fault(&mut self.host_faults);
                 Err(OpenFault::Failed)
@@ -177,7 +209,7 @@ where
         }
     }
 
-    fn put_back(&mut self, _image: &str, dev: FileDevice<R::File>) {
+    fn put_back(&mut self, _image: &str, dev: FileDevice<NamedFile<'a, R>>) {
         count_failed(&mut self.dev_faults, dev.fault_count());
     }
 }

@@ -2,7 +2,7 @@ ghost use Rattle.std.specs.Prelude.{◌≡◌, ◌≤◌, ◌==◌, ◌+◌, ℕ
 ghost use Rattle.std.specs.Option.{option_map};
 ghost use Rattle.std.specs.Str.{bytes_eq};
 ghost use Rattle.blk_device.specs.Causes.{Rose, one_more};
-ghost use Rattle.xscrub.specs.Stored.{Stored, Request, IsOpened, stored_image};
+ghost use Rattle.xscrub.specs.Stored.{Stored, Request, Loan, Out, Back, Lends, IsOpened, stored_image};
 
 use blk_device::{Device, Region, Sink};
 use thiserror::Error;
@@ -41,6 +41,10 @@ pub trait Host: Sink {
     /// What was asked of it so far, in order.
     ghost asked: { Self → List Request };
 
+    /// The devices that it handed out and those that came back, in order, each as it was then, where
+    /// the host tells them.
+    ghost loans: { Self → Option (List (Loan Self.Dev)) };
+
     /// How often the host itself has failed. At 2^64 - 1 the count stays there.
     ghost host_faults: { Self → ℕ };
 
@@ -59,6 +63,8 @@ pub trait Host: Sink {
             IfOk result (λ dev. IsOpened (stored self.old image.now) (Self.Dev.content dev) (Self.Dev.blocks dev)) }
         ensures redo_blocks { IsNone redo.entry → IfOk result (λ dev. Self.Dev.blocks dev Region.Redo ≡ 162) }
         ensures fresh { IfOk result (λ dev. Self.Dev.faults dev ≡ 0) }
+        ensures lent { IfOk result (λ dev. Lends (Out dev ∷ []) (loans self.old) (loans self.new)) }
+        ensures unlent { OnErr result (loans self.new ≡ loans self.old) }
         ensures place { OnOk result (awaits self.new image.now) }
         ensures others { (n : List ℕ) → bytes_eq n image.now ≡ false
             → stored self.new n ≡ stored self.old n }
@@ -78,6 +84,7 @@ pub trait Host: Sink {
     /// failed rises exactly where this one did.
     fn put_back(&mut self, image: &str, dev: Self::Dev)
         requires { awaits self.old image.now }
+        ensures lent { Lends (Back dev ∷ []) (loans self.old) (loans self.new) }
         ensures image { (n : List ℕ) → stored self.new n ≡ (if bytes_eq n image.now
             then stored_image (Self.Dev.content dev) (Self.Dev.blocks dev)
             else stored self.old n) }
@@ -89,7 +96,9 @@ pub trait Host: Sink {
         ensures report { Self.taken self.new ≡ Self.taken self.old }
         ensures sink { Self.sink_faults self.new ≡ Self.sink_faults self.old };
 
-    /// The report changes no image, no count of the host and nothing of what it was asked.
+    /// The report changes no image, no count of the host, and nothing of what it was asked and of its
+    /// loans.
     ghost report_keeps: { (a b : Self) → Self.kept a b
-        → (host_faults b ≡ host_faults a) × (dev_faults b ≡ dev_faults a) × (asked b ≡ asked a) × ((n : List ℕ) → stored b n ≡ stored a n) };
+        → (host_faults b ≡ host_faults a) × (dev_faults b ≡ dev_faults a) × (asked b ≡ asked a)
+        × ((n : List ℕ) → stored b n ≡ stored a n) × (loans b ≡ loans a) };
 }

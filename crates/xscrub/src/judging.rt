@@ -5,7 +5,7 @@ ghost use Rattle.blk_device.specs.Taken.{IsFront};
 ghost use Rattle.geom.specs.Places.{layout};
 ghost use Rattle.space_check.specs.Checked.{check_events, checked as checked_image};
 ghost use Rattle.xscrub.specs.Image.{checked_outcome};
-ghost use Rattle.xscrub.specs.Judged.{HasFrontOf, IsJudged, IsKept, JudgeCause, Kept, Says, SaysStop, TellsOfImage, journal_at, judgement_outcome};
+ghost use Rattle.xscrub.specs.Judged.{HasFrontOf, IsJudged, IsKept, JudgeCause, Kept, Says, SaysStop, TellsOfImage, journal_at, journal_in, judgement_outcome};
 ghost use Rattle.xscrub.specs.Units.{HasFirstUnits};
 
 use crate::last_lines::LastLine;
@@ -80,8 +80,8 @@ fn judge_counted<D: Device, L: Ledger>(
     ensures line { IfOk result TellsOfImage }
     ensures front { IfErr result (λ fault. IfSome (D.content dev.old)
         (λ m. IsFront (journal_at fault) (checked_outcome (checked_image (layout geo.now) (m Region.Image))).journal)) }
-    ensures kept { IfErr result (λ fault. IfSome (D.content dev.old)
-        (λ m. IsKept (check_events (layout geo.now) (m Region.Image)) (D.reads dev.old) (D.reads dev.new) (journal_at fault))) }
+    ensures kept { IfSome (D.content dev.old)
+        (λ m. IsKept (check_events (layout geo.now) (m Region.Image)) (D.reads dev.old) (D.reads dev.new) (journal_in result)) }
     ensures units { IfErr result (λ fault. HasFirstUnits (journal_at fault)) }
     ensures same { D.content dev.new ≡ D.content dev.old }
     ensures sizes { D.blocks dev.new ≡ D.blocks dev.old }
@@ -105,8 +105,8 @@ fn judge_groups<D: Device>(
     ensures line { IfOk result TellsOfImage }
     ensures front { IfErr result (λ fault. IfSome (D.content dev.old)
         (λ m. IsFront (journal_at fault) (checked_outcome (checked_image (layout geo.now) (m Region.Image))).journal)) }
-    ensures kept { IfErr result (λ fault. IfSome (D.content dev.old)
-        (λ m. IsKept (check_events (layout geo.now) (m Region.Image)) (D.reads dev.old) (D.reads dev.new) (journal_at fault))) }
+    ensures kept { IfSome (D.content dev.old)
+        (λ m. IsKept (check_events (layout geo.now) (m Region.Image)) (D.reads dev.old) (D.reads dev.new) (journal_in result)) }
     ensures units { IfErr result (λ fault. HasFirstUnits (journal_at fault)) }
     ensures same { D.content dev.new ≡ D.content dev.old }
     ensures sizes { D.blocks dev.new ≡ D.blocks dev.old }
@@ -144,7 +144,7 @@ pub fn judge<D: Device>(alloc: Global, dev: &mut D) -> Result<Judgement, JudgeFa
     ensures told { IfOk result (λ found. IsJudged (D.content dev.old) (D.blocks dev.old Region.Image) found) }
     ensures line { IfOk result TellsOfImage }
     ensures front { IfErr result (HasFrontOf (D.content dev.old) (D.blocks dev.old Region.Image)) }
-    ensures kept { IfErr result (Kept (D.content dev.old) (D.blocks dev.old Region.Image) (D.reads dev.old) (D.reads dev.new)) }
+    ensures kept { Kept (D.content dev.old) (D.blocks dev.old Region.Image) (D.reads dev.old) (D.reads dev.new) result }
     ensures units { IfErr result (λ fault. HasFirstUnits (journal_at fault)) }
     ensures same { D.content dev.new ≡ D.content dev.old }
     ensures sizes { D.blocks dev.new ≡ D.blocks dev.old }

@@ -6,13 +6,20 @@ use fs_model::Head;
 use geom::ImageFault;
 use std::alloc::{AllocError, Global};
 
-/// What a run says last where it ended before its last verdict: the words are wrong or ask for a
-/// job that isn't built yet, the image is refused, the journal was full, or device, host or memory
+/// What isn't built yet: the job, or a check with a redo file.
+#[derive(Clone, Copy, Debug, PartialEq, Eq)]
+pub enum Form {
+    Job,
+    Redo,
+}
+
+/// What a run says last where it ended before its last verdict: the words are wrong or ask for
+/// what isn't built yet, the image is refused, the journal was full, or device, host or memory
 /// failed.
 #[derive(Clone, Copy, Debug, PartialEq, Eq)]
 pub enum LastLine {
     Usage,
-    UnbuiltJob,
+    Unbuilt(Form),
     Image(ImageFault),
     Head {
         group: u32,
@@ -60,13 +67,23 @@ pub fn fixed_line(line: &LastLine) -> Option<&'static str>
         LastLine::Usage => Some(
             "usage: xscrub JOB TARGET [--redo FILE] [--script FILE] [--rebuild] [--turns N]\n",
         ),
-        LastLine::UnbuiltJob => Some("unbuilt job\n"),
+        LastLine::Unbuilt(form) => Some(unbuilt_line(form)),
         LastLine::Image(fault) => fixed_image_line(fault),
         LastLine::Head { .. } => None,
         LastLine::DeviceFailed => Some("device failed\n"),
         LastLine::HostFailed => Some("host failed\n"),
         LastLine::JournalFull => Some("journal full\n"),
         LastLine::Memory => Some("memory\n"),
+    }
+}
+
+#[tactic(auto, unfolding(crate::specs::LastLines::last_line_of))]
+fn unbuilt_line(form: Form) -> &'static str
+    ensures { result.now ≡ last_line_of (LastLine.Unbuilt form) }
+{
+    match form {
+        Form::Job => "unbuilt job\n",
+        Form::Redo => "unbuilt redo\n",
     }
 }
 

@@ -2,6 +2,7 @@
 //! reference counts of each group against its reverse mapping btree, and reports what was found.
 #![tactic(auto)]
 
+mod advice;
 mod asked;
 mod command;
 mod ending;
@@ -13,13 +14,14 @@ mod mem_host;
 mod telling;
 mod top;
 
+pub use crate::advice::{NamedFile, explain, tell_failure, tell_unlooked};
 pub use crate::asked::DeviceAsked;
 pub use crate::command::{Command, command_of};
 pub use crate::ending::{Finding, Status, Told};
 pub use crate::file_host::FileHost;
 pub use crate::host::{Host, OpenFault, Purpose};
 pub use crate::judging::{JudgeFault, Judgement, judge};
-pub use crate::last_lines::{LastLine, fixed_line, last_line};
+pub use crate::last_lines::{Form, LastLine, fixed_line, last_line};
 pub use crate::mem_host::{MemHost, MemImage};
 pub use crate::telling::tell;
 pub use crate::top::{RunEnd, fsck_main};

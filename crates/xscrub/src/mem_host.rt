@@ -157,14 +157,16 @@ impl Host for MemHost {
     ghost use Rattle.std.specs.Prelude.{◌≤◌, ◌==◌, ◌++◌, ◌∷◌, ◌⊎◌, IsNone, IsErrOf, OnOk, OnErr, IfSome, false};
     ghost use Rattle.std.specs.Option.{option_map};
     ghost use Rattle.blk_device.specs.Causes.{Rose, one_more};
-    ghost use Rattle.xscrub.specs.MemHost.{stored_by, Awaits, asked_of, failing_by};
-    ghost use Rattle.xscrub.specs.Stored.{stored_image};
+    ghost use Rattle.xscrub.specs.MemHost.{stored_by, Awaits, asked_of, failing_by, loans_of};
+    ghost use Rattle.xscrub.specs.Stored.{stored_image, Out, Back, Lends};
 
     ghost stored = { stored_by };
 
     ghost awaits = { Awaits };
 
     ghost asked = { asked_of };
+
+    ghost loans = { loans_of };
 
     ghost host_faults = { λ h. h.host_faults };
 
@@ -184,6 +186,8 @@ impl Host for MemHost {
             IfOk result (λ dev. IsOpened (stored_by self.old image.now) (⟦<MemDevice as Device>⟧.content dev) (⟦<MemDevice as Device>⟧.blocks dev)) }
         ensures redo_blocks { IsNone redo.entry → IfOk result (λ dev. ⟦<MemDevice as Device>⟧.blocks dev Region.Redo ≡ 162) }
         ensures fresh { IfOk result (λ dev. ⟦<MemDevice as Device>⟧.faults dev ≡ 0) }
+        ensures lent { IfOk result (λ dev. Lends (Out dev ∷ []) (loans_of self.old) (loans_of self.new)) }
+        ensures unlent { OnErr result (loans_of self.new ≡ loans_of self.old) }
         ensures place { OnOk result (Awaits self.new image.now) }
         ensures others { (n : List ℕ) → bytes_eq n image.now ≡ false
             → stored_by self.new n ≡ stored_by self.old n }
@@ -220,6 +224,7 @@ impl Host for MemHost {
     /// Keeps the device's image under this name, and with it which calls are to fail.
     fn put_back(&mut self, image: &str, dev: MemDevice)
         requires { Awaits self.old image.now }
+        ensures lent { Lends (Back dev ∷ []) (loans_of self.old) (loans_of self.new) }
         ensures image { (n : List ℕ) → stored_by self.new n ≡ (if bytes_eq n image.now
             then stored_image (⟦<MemDevice as Device>⟧.content dev) (⟦<MemDevice as Device>⟧.blocks dev)
             else stored_by self.old n) }

@@ -1,5 +1,5 @@
 ghost use Rattle.std.specs.Prelude.{◌≡◌, ◌++◌, ◌⊎◌, [], ◌∷◌, ℕ, List, length, map, string_bytes};
-ghost use Rattle.xscrub.specs.Ending.{IsFound, IsOfImage, IsWorded, IsRun, IsAsked, IsShort, FindsKept, TellsKept, file_for, stored_outcome, decided_by};
+ghost use Rattle.xscrub.specs.Ending.{IsFound, IsOfImage, IsWorded, IsRun, IsAsked, IsShort, FindsBy, TellsBy, stored_outcome, decided_by};
 ghost use Rattle.xscrub.specs.Command.{command_of as command_of_words, check_of};
 ghost use Rattle.xscrub.specs.Outcome.{Outcome};
 ghost use Rattle.xscrub.specs.Stored.{Stored};
@@ -28,7 +28,7 @@ fn check<H: Host>(alloc: Global, host: &mut H, image: &str) -> Finding
         (H.host_faults host.old) (H.host_faults host.new)
         (H.dev_faults host.old) (H.dev_faults host.new) result }
     ensures image { IsOfImage result }
-    ensures kept { FindsKept H.Dev.Device (H.stored host.old image.now) result }
+    ensures device { FindsBy H.Dev.Device (check_of image.now) (H.stored host.old) (H.loans host.old) (H.loans host.new) result }
     ensures stored { (n : List ℕ) → H.stored host.new n ≡ H.stored host.old n }
     ensures asked { IsAsked (check_of image.now) (IsShort result)
         (H.asked host.old) (H.asked host.new) }
@@ -57,16 +57,20 @@ fn find<H: Host>(alloc: Global, host: &mut H, words: &[String]) -> Finding
         (H.host_faults host.old) (H.host_faults host.new)
         (H.dev_faults host.old) (H.dev_faults host.new) result }
     ensures words { IsWorded (command_of_words (map string_bytes words.now)) result }
-    ensures kept { FindsKept H.Dev.Device (file_for (command_of_words (map string_bytes words.now)) (H.stored host.old)) result }
+    ensures device { FindsBy H.Dev.Device (command_of_words (map string_bytes words.now)) (H.stored host.old)
+        (H.loans host.old) (H.loans host.new) result }
     ensures stored { (n : List ℕ) → H.stored host.new n ≡ H.stored host.old n }
     ensures asked { IsAsked (command_of_words (map string_bytes words.now)) (IsShort result)
         (H.asked host.old) (H.asked host.new) }
     ensures report { H.taken host.new ≡ H.taken host.old }
     ensures sink { H.sink_faults host.new ≡ H.sink_faults host.old }
 {
-    match command_of(words) {
+    let Ok(command) = command_of(alloc, words) else {
+        return Finding::Memory(Vec::new(alloc));
+    };
+    match command {
         Command::Check(image) => check(alloc, host, image),
-        Command::Unbuilt => Finding::Refused(LastLine::UnbuiltJob),
+        Command::Unbuilt(form) => Finding::Refused(LastLine::Unbuilt(form)),
         Command::Usage => Finding::Usage,
     }
 }
@@ -76,7 +80,8 @@ fn find<H: Host>(alloc: Global, host: &mut H, words: &[String]) -> Finding
 /// A check changes no image; each device that the host hands out is given back.
 pub fn fsck_main<H: Host>(alloc: Global, host: &mut H, words: &[String]) -> RunEnd
     ensures run { (told : Outcome)
-        × TellsKept H.Dev.Device (file_for (command_of_words (map string_bytes words.now)) (H.stored host.old)) told
+        × TellsBy H.Dev.Device (command_of_words (map string_bytes words.now)) (H.stored host.old)
+        (H.loans host.old) (H.loans host.new) told
         × IsRun (command_of_words (map string_bytes words.now)) told (H.stored host.old)
         (H.host_faults host.old) (H.host_faults host.new)
         (H.dev_faults host.old) (H.dev_faults host.new)

@@ -1,5 +1,5 @@
 use Rattle.geom.specs.Places.{layout}
-use Rattle.xscrub.proofs.SaysLemmas.{says_cause, told_if_ok, line_if_ok, front_if_err, kept_if_err, units_if_err}
+use Rattle.xscrub.proofs.SaysLemmas.{says_cause, told_if_ok, line_if_ok, front_if_err, kept_if_told, units_if_err}
 use Rattle.xscrub.proofs.judging.judge_counted.Goals as goal
 
 pub returns-clause-told : goal.returns-clause-told
@@ -13,8 +13,8 @@ returns-clause-front g c = front_if_err (g.D.Device.content c.args.dev.now) (lay
 
 pub returns-clause-kept : goal.returns-clause-kept
 returns-clause-kept g c =
-    kept_if_err (g.D.Device.content c.args.dev.now) (layout c.args.geo.now) c.new-steps.result.reads c.check_space-checked.new.steps.reads (g.D.Device.reads c.args.dev.now) (g.D.Device.reads c.check_space-checked.new.dev) c.check_space-checked.result c.judgement_of.result
-    c.check_space-checked.ensures.reading.counted c.judgement_of.ensures c.check_space-checked.ensures.events
+    kept_if_told (g.D.Device.content c.args.dev.now) (layout c.args.geo.now) c.args.geo.now.agcount c.new-steps.result.reads c.check_space-checked.new.steps.reads (g.D.Device.reads c.args.dev.now) (g.D.Device.reads c.check_space-checked.new.dev) c.check_space-checked.result c.judgement_of.result
+    c.check_space-checked.ensures.reading.counted c.judgement_of.ensures c.check_space-checked.ensures.session c.check_space-checked.ensures.events
 
 pub returns-clause-units : goal.returns-clause-units
 returns-clause-units g c = units_if_err c.args.geo.now.agcount c.check_space-checked.result c.judgement_of.result c.judgement_of.ensures c.check_space-checked.ensures.session

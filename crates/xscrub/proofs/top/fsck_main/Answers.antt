@@ -1,7 +1,8 @@
 use Rattle.std.proofs.Common.{ℕ, List, ◌∷◌, [], ◌≡◌, length, refl, ap, arith}
 use Rattle.xscrub.specs.Ending.{told_outcome}
 use Rattle.fs_model.specs.declared.entry.Entry.{Entry}
-use Rattle.xscrub.proofs.EndingLemmas.{told_cause, told_kept, told_decided, told_by_words, told_units, asked_so}
+use Rattle.xscrub.proofs.EndingLemmas.{told_cause, told_decided, told_by_words, told_units, asked_so}
+use Rattle.xscrub.proofs.LoanLemmas.{told_by}
 use Rattle.xscrub.proofs.top.fsck_main.Goals as goal
 
 pub returns-clause-run : goal.returns-clause-run
@@ -9,7 +10,7 @@ returns-clause-run g c =
     let kept = g.met.H.Host.report_keeps c.find-finding.new.host c.tell-told.new.sink c.tell-told.ensures.rest in
     let ends = rw c.find-finding.ensures.sink at c.tell-told.ensures.told in (
       told_outcome c.tell-told.result,
-      told_kept _ _ _ c.find-finding.result _ _ _ c.find-finding.ensures.kept c.find-finding.ensures.words ends,
+      told_by _ _ _ _ _ _ c.find-finding.result _ _ _ c.find-finding.ensures.device kept.4 ends,
       record {
         status = c.code.ensures;
         journal = refl {A = List Entry};
