@@ -1,0 +1,11 @@
+//! One pass over the inodes of a group: the cores of the units that its btrees list.
+#![tactic(auto)]
+
+mod look;
+mod stop;
+mod unit;
+mod units;
+
+pub use stop::PassStop;
+pub use unit::UnitSeen;
+pub use units::see_units;
