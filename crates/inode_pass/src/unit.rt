@@ -1,5 +1,5 @@
 ghost use Rattle.std.specs.Prelude.{◌≡◌, ◌+◌, ◌*◌, ◌<◌, ◌≤◌, ◌^◌, ◌++◌, Some, IfOk, OnOk, length, map};
-ghost use Rattle.blk_device.specs.Causes.{HasCauseBy};
+ghost use Rattle.blk_device.specs.Causes.{HasCause};
 ghost use Rattle.blk_device.specs.Contents.{Contents};
 ghost use Rattle.blk_device.specs.Reading.{OnlyRead};
 ghost use Rattle.blk_device.specs.declared.device.Region.TheVariants.{Image};
@@ -39,7 +39,7 @@ fn load<D: Device, L: Ledger>(dev: &mut D, at: u64, steps: &mut Steps<L>) -> Res
     requires { at < D.blocks dev.old Image }
     ensures told { IfOk result (λ block. (c : Contents) → D.content dev.old ≡ Some c → block.bytes ≡ c Image at) }
     ensures reading { OnlyRead D.Device dev.old dev.new steps.old steps.new }
-    ensures cause { HasCauseBy is_failed (D.faults dev.old) (D.faults dev.new) result }
+    ensures cause { HasCause is_failed (D.faults dev.old) (D.faults dev.new) result }
     ensures one { steps.new.reads ≡ steps.old.reads + 1 }
 {
     let mut block = Block::zeroed();
@@ -65,7 +65,7 @@ fn look_read<D: Device, L: Ledger>(
     ensures exact { OnOk result ((c : Contents) → D.content dev.old ≡ Some c → looks.new.items ≡ looks.old.items ++ block_looks (layout geo.now) (c Image (device_block_of (layout geo.now) g b)) g b) }
     ensures eight { OnOk result (length looks.new.items ≡ length looks.old.items + 8) }
     ensures reading { OnlyRead D.Device dev.old dev.new steps.old steps.new }
-    ensures cause { HasCauseBy is_failed (D.faults dev.old) (D.faults dev.new) result }
+    ensures cause { HasCause is_failed (D.faults dev.old) (D.faults dev.new) result }
     ensures one { steps.new.reads ≡ steps.old.reads + 1 }
 {
     let at = geo.device_block(g, b);
@@ -89,7 +89,7 @@ fn look_unit<D: Device, L: Ledger>(
     ensures exact { IfOk result (λ looks. (c : Contents) → D.content dev.old ≡ Some c → looks.items ≡ blocks_looks (layout geo.now) (c Image) g (8 * unit) 8) }
     ensures all { IfOk result (λ looks. length looks.items ≡ 64) }
     ensures reading { OnlyRead D.Device dev.old dev.new steps.old steps.new }
-    ensures cause { HasCauseBy is_failed (D.faults dev.old) (D.faults dev.new) result }
+    ensures cause { HasCause is_failed (D.faults dev.old) (D.faults dev.new) result }
     ensures few { steps.new.reads ≤ steps.old.reads + 8 }
 {
     let mut looks = Vec::new(alloc);
@@ -145,7 +145,7 @@ pub fn see_unit<D: Device, L: Ledger>(
     ensures exact { IfOk result (λ seen. (c : Contents) → D.content dev.old ≡ Some c → IsSeen (layout geo.now) (c Image) g seen) }
     ensures unit { IfOk result (λ seen. seen.cores.unit ≡ unit) }
     ensures reading { OnlyRead D.Device dev.old dev.new steps.old steps.new }
-    ensures cause { HasCauseBy is_failed (D.faults dev.old) (D.faults dev.new) result }
+    ensures cause { HasCause is_failed (D.faults dev.old) (D.faults dev.new) result }
     ensures few { steps.new.reads ≤ steps.old.reads + 8 }
 {
     let looks = look_unit(alloc, dev, geo, g, unit, steps)?;

@@ -1,5 +1,5 @@
 ghost use Rattle.std.specs.Prelude.{◌≡◌, ◌+◌, ◌*◌, ◌/◌, ◌<◌, ◌≤◌, ◌++◌, Some, IfOk, OnOk};
-ghost use Rattle.blk_device.specs.Causes.{HasCauseBy};
+ghost use Rattle.blk_device.specs.Causes.{HasCause};
 ghost use Rattle.blk_device.specs.Contents.{Contents};
 ghost use Rattle.blk_device.specs.Reading.{OnlyRead};
 ghost use Rattle.blk_device.specs.declared.device.Region.TheVariants.{Image};
@@ -34,7 +34,7 @@ fn see_one<D: Device, L: Ledger>(
     ensures exact { OnOk result ((c : Contents) → D.content dev.old ≡ Some c → AreSeen (layout geo.now) (c Image) g seen.old.items → AreSeen (layout geo.now) (c Image) g seen.new.items) }
     ensures units { OnOk result (unit_numbers seen.new.items ≡ unit_numbers seen.old.items ++ numbers unit 1) }
     ensures reading { OnlyRead D.Device dev.old dev.new steps.old steps.new }
-    ensures cause { HasCauseBy is_failed (D.faults dev.old) (D.faults dev.new) result }
+    ensures cause { HasCause is_failed (D.faults dev.old) (D.faults dev.new) result }
     ensures few { steps.new.reads ≤ steps.old.reads + 8 }
 {
     let found = see_unit(alloc, dev, geo, g, unit, steps)?;
@@ -58,7 +58,7 @@ fn see_run<D: Device, L: Ledger>(
     ensures exact { OnOk result ((c : Contents) → D.content dev.old ≡ Some c → AreSeen (layout geo.now) (c Image) g seen.old.items → AreSeen (layout geo.now) (c Image) g seen.new.items) }
     ensures units { OnOk result (unit_numbers seen.new.items ≡ unit_numbers seen.old.items ++ numbers run.now.start run.now.count) }
     ensures reading { OnlyRead D.Device dev.old dev.new steps.old steps.new }
-    ensures cause { HasCauseBy is_failed (D.faults dev.old) (D.faults dev.new) result }
+    ensures cause { HasCause is_failed (D.faults dev.old) (D.faults dev.new) result }
     ensures few { steps.new.reads ≤ steps.old.reads + 8 * run.now.count }
 {
     for i in 0..run.count {
@@ -85,7 +85,7 @@ pub fn see_units<D: Device, L: Ledger>(
     ensures exact { IfOk result (λ seen. (c : Contents) → D.content dev.old ≡ Some c → AreSeen (layout geo.now) (c Image) g seen.items) }
     ensures units { IfOk result (λ seen. unit_numbers seen.items ≡ units_in units.now) }
     ensures reading { OnlyRead D.Device dev.old dev.new steps.old steps.new }
-    ensures cause { HasCauseBy is_failed (D.faults dev.old) (D.faults dev.new) result }
+    ensures cause { HasCause is_failed (D.faults dev.old) (D.faults dev.new) result }
     ensures few { steps.new.reads ≤ steps.old.reads + 8 * unit_count units.now }
 {
     let mut seen = Vec::new(alloc);
