@@ -15,9 +15,10 @@ use Rattle.fs_state.specs.State.{CoreState, Broken, Whole}
 use Rattle.geom.specs.Apart.{Splits}
 use Rattle.geom.specs.Layout.{Layout, device_block_of, fs_block_of, group_len_of, inode_at, split_of}
 use Rattle.index_derive.specs.Inodes.{AreModes, mask_in, mode_of}
+use Rattle.run_sets.specs.Runs.{EndWithin}
 use Rattle.run_sets.specs.declared.run.Run.{Run}
 use Rattle.inode_pass.specs.Cores.{block_looks, blocks_looks, broken_from, look_in, mode_seen}
-use Rattle.inode_pass.specs.Units.{AreSeen, IsSeen, opened_state, unit_count, unit_numbers, units_in, EndWithin}
+use Rattle.inode_pass.specs.Units.{AreSeen, IsSeen, opened_state, unit_count, unit_numbers, units_in}
 use Rattle.inode_pass.specs.declared.unit.UnitSeen.{UnitSeen}
 use Rattle.inode_pass.proofs.CoreLemmas.{first_looked, map_twice, mode_is, numbers_more, row_at, row_length}
 

@@ -1,5 +1,5 @@
 -- What a pass over the cores of a group's units finds, by the state that the image stands for right after it was opened.
-use Rattle.std.specs.Prelude.{◌≡◌, ℕ, ◌+◌, ◌≤◌, List, [], ◌∷◌, ◌++◌, map}
+use Rattle.std.specs.Prelude.{◌≡◌, ℕ, ◌+◌, List, [], ◌∷◌, ◌++◌, map}
 use Rattle.fs_derive.specs.Contradiction.{bad_in_unit}
 use Rattle.fs_derive.specs.Lists.{numbers}
 use Rattle.fs_state.specs.Kinds.{Image}
@@ -31,11 +31,6 @@ unit_numbers seen = map (λ s. s.cores.unit) seen
 abbrev pub units_in : List Run → List ℕ
 units_in [] = []
 units_in (r ∷ rs) = numbers r.start r.count ++ units_in rs
-
--- each run ends with unit n at most
-abbrev pub EndWithin : ℕ → List Run → Type 0
-EndWithin n [] = Unit {0}
-EndWithin n (r ∷ rs) = (r.start + r.count ≤ n) × EndWithin n rs
 
 -- how many units the runs have
 abbrev pub unit_count : List Run → ℕ

@@ -7,7 +7,8 @@ ghost use Rattle.geom.specs.Layout.{group_len_of};
 ghost use Rattle.geom.specs.Places.{layout};
 ghost use Rattle.fs_derive.specs.Lists.{numbers};
 ghost use Rattle.inode_pass.specs.Stops.{is_failed};
-ghost use Rattle.inode_pass.specs.Units.{AreSeen, EndWithin, unit_count, unit_numbers, units_in};
+ghost use Rattle.inode_pass.specs.Units.{AreSeen, unit_count, unit_numbers, units_in};
+ghost use Rattle.run_sets.specs.Runs.{EndWithin};
 
 use crate::stop::PassStop;
 use crate::unit::{UnitSeen, see_unit};
