@@ -9,10 +9,11 @@ ghost use Rattle.inode_pass.specs.Cores.{block_looks, blocks_looks, broken_from,
 ghost use Rattle.inode_pass.specs.Stops.{is_failed};
 ghost use Rattle.inode_pass.specs.Units.{IsSeen};
 
+use crate::load::load_block;
 use crate::look::look_block;
 use crate::stop::PassStop;
-use blk_device::{Device, Region};
-use byte_fields::{Block, Steps};
+use blk_device::Device;
+use byte_fields::Steps;
 use dinode_core::CoreFault;
 use fs_model::Evidence;
 use geom::Geometry;
@@ -34,22 +35,6 @@ pub struct UnitSeen {
     pub broken: Option<Evidence>,
 }
 
-// Reads a block of the image from the device itself.
-fn load<D: Device, L: Ledger>(dev: &mut D, at: u64, steps: &mut Steps<L>) -> Result<Block, PassStop>
-    requires { at < D.blocks dev.old Image }
-    ensures told { IfOk result (λ block. (c : Contents) → D.content dev.old ≡ Some c → block.bytes ≡ c Image at) }
-    ensures reading { OnlyRead D.Device dev.old dev.new steps.old steps.new }
-    ensures cause { HasCause is_failed (D.faults dev.old) (D.faults dev.new) result }
-    ensures one { steps.new.reads ≡ steps.old.reads + 1 }
-{
-    let mut block = Block::zeroed();
-    steps.block_read();
-    match dev.read(Region::Image, at, &mut block) {
-        Ok(()) => Ok(block),
-        Err(_) => Err(PassStop::Failed),
-    }
-}
-
 // Puts down what the cores of one block of a group say.
 fn look_read<D: Device, L: Ledger>(
     dev: &mut D,
@@ -69,7 +54,7 @@ fn look_read<D: Device, L: Ledger>(
     ensures one { steps.new.reads ≡ steps.old.reads + 1 }
 {
     let at = geo.device_block(g, b);
-    let block = load(dev, at, steps)?;
+    let block = load_block(dev, at, steps)?;
     look_block(&block, geo, g, b, looks)?;
     Ok(())
 }

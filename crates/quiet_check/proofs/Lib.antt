@@ -1,6 +1,8 @@
 pub mod ChunkLemmas
 pub mod ClaimLemmas
+pub mod EntryLemmas
 pub mod FaultLemmas
+pub mod HeadLemmas
 pub mod JudgeLemmas
 pub mod MetadataLemmas
 pub mod ReadLemmas

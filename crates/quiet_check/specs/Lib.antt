@@ -1,4 +1,5 @@
 pub mod Chunks
+pub mod Entries
 pub mod Faults
 pub mod Group
 pub mod Heads
