@@ -1,0 +1,13 @@
+//! One pass over the inodes of a group: the cores of the units that its btrees list.
+#![tactic(auto)]
+
+mod load;
+mod look;
+mod stop;
+mod unit;
+mod units;
+
+pub use load::load_block;
+pub use stop::PassStop;
+pub use unit::UnitSeen;
+pub use units::see_units;

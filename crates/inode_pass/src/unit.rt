@@ -1,0 +1,145 @@
+ghost use Rattle.std.specs.Prelude.{◌≡◌, ◌+◌, ◌*◌, ◌<◌, ◌≤◌, ◌^◌, ◌++◌, Some, IfOk, OnOk, length, map};
+ghost use Rattle.blk_device.specs.Causes.{HasCause};
+ghost use Rattle.blk_device.specs.Contents.{Contents};
+ghost use Rattle.blk_device.specs.Reading.{OnlyRead};
+ghost use Rattle.blk_device.specs.declared.device.Region.TheVariants.{Image};
+ghost use Rattle.geom.specs.Layout.{device_block_of, group_len_of};
+ghost use Rattle.geom.specs.Places.{layout};
+ghost use Rattle.inode_pass.specs.Cores.{block_looks, blocks_looks, broken_from, mode_seen};
+ghost use Rattle.inode_pass.specs.Stops.{is_failed};
+ghost use Rattle.inode_pass.specs.Units.{IsSeen};
+
+use crate::load::load_block;
+use crate::look::look_block;
+use crate::stop::PassStop;
+use blk_device::Device;
+use byte_fields::Steps;
+use dinode_core::CoreFault;
+use fs_model::Evidence;
+use geom::Geometry;
+use index_derive::{UnitCores, free_mask};
+use std::alloc::{AllocError, Global};
+use std::sync::ledger::Ledger;
+
+// The blocks of a unit, and the inodes of a block.
+const UNIT_BLOCKS: u32 = 8;
+
+const BLOCK_INODES: u32 = 8;
+
+/// What the 64 cores of a unit say together: which of its inodes are free, where all verify, and
+/// the first that doesn't, as evidence that names its block
+/// (XFS Algorithms and Data Structures, "Inode B+trees").
+#[derive(Clone, Copy, Debug, PartialEq, Eq)]
+pub struct UnitSeen {
+    pub cores: UnitCores,
+    pub broken: Option<Evidence>,
+}
+
+// Puts down what the cores of one block of a group say.
+fn look_read<D: Device, L: Ledger>(
+    dev: &mut D,
+    geo: &Geometry,
+    g: u32,
+    b: u32,
+    looks: &mut Vec<Result<u16, CoreFault>>,
+    steps: &mut Steps<L>,
+) -> Result<(), PassStop>
+    requires group { g < geo.now.agcount }
+    requires block { b < group_len_of (layout geo.now) g }
+    requires room { geo.now.dblocks ≤ D.blocks dev.old Image }
+    ensures exact { OnOk result ((c : Contents) → D.content dev.old ≡ Some c → looks.new.items ≡ looks.old.items ++ block_looks (layout geo.now) (c Image (device_block_of (layout geo.now) g b)) g b) }
+    ensures eight { OnOk result (length looks.new.items ≡ length looks.old.items + 8) }
+    ensures reading { OnlyRead D.Device dev.old dev.new steps.old steps.new }
+    ensures cause { HasCause is_failed (D.faults dev.old) (D.faults dev.new) result }
+    ensures one { steps.new.reads ≡ steps.old.reads + 1 }
+{
+    let at = geo.device_block(g, b);
+    let block = load_block(dev, at, steps)?;
+    look_block(&block, geo, g, b, looks)?;
+    Ok(())
+}
+
+// What the cores of a unit say, one after the other.
+fn look_unit<D: Device, L: Ledger>(
+    alloc: Global,
+    dev: &mut D,
+    geo: &Geometry,
+    g: u32,
+    unit: u32,
+    steps: &mut Steps<L>,
+) -> Result<Vec<Result<u16, CoreFault>>, PassStop>
+    requires group { g < geo.now.agcount }
+    requires inside { 8 * unit + 7 < group_len_of (layout geo.now) g }
+    requires room { geo.now.dblocks ≤ D.blocks dev.old Image }
+    ensures exact { IfOk result (λ looks. (c : Contents) → D.content dev.old ≡ Some c → looks.items ≡ blocks_looks (layout geo.now) (c Image) g (8 * unit) 8) }
+    ensures all { IfOk result (λ looks. length looks.items ≡ 64) }
+    ensures reading { OnlyRead D.Device dev.old dev.new steps.old steps.new }
+    ensures cause { HasCause is_failed (D.faults dev.old) (D.faults dev.new) result }
+    ensures few { steps.new.reads ≤ steps.old.reads + 8 }
+{
+    let mut looks = Vec::new(alloc);
+    for j in 0..UNIT_BLOCKS {
+        look_read(dev, geo, g, UNIT_BLOCKS * unit + j, &mut looks, steps)?;
+    }
+    Ok(looks)
+}
+
+// The modes of cores that verify.
+fn modes_of(alloc: Global, looks: &[Result<u16, CoreFault>]) -> Result<Vec<Option<u16>>, AllocError>
+    ensures { IfOk result (λ modes. modes.items ≡ map mode_seen looks.now) }
+{
+    looks
+        .iter()
+        .map(|look| match look {
+            Ok(mode) => Some(*mode),
+            Err(_) => None,
+        })
+        .collect(alloc)
+}
+
+// The first core of a unit that doesn't verify, as evidence.
+fn first_broken(unit: u32, looks: &[Result<u16, CoreFault>]) -> Option<Evidence>
+    requires unit { unit < 2 ^ 26 }
+    requires all { length looks.now ≡ 64 }
+    ensures { result ≡ broken_from unit 0 looks.now }
+{
+    for i in 0..64u32 {
+        if let Err(fault) = looks[i as usize] {
+            return Some(Evidence::BadChunk {
+                block: UNIT_BLOCKS * unit + i / BLOCK_INODES,
+                fault,
+            });
+        }
+    }
+    None
+}
+
+/// Reads the 64 cores of a unit, each of its blocks once
+/// (XFS Algorithms and Data Structures, "Inode B+trees").
+pub fn see_unit<D: Device, L: Ledger>(
+    alloc: Global,
+    dev: &mut D,
+    geo: &Geometry,
+    g: u32,
+    unit: u32,
+    steps: &mut Steps<L>,
+) -> Result<UnitSeen, PassStop>
+    requires group { g < geo.now.agcount }
+    requires inside { 8 * unit + 7 < group_len_of (layout geo.now) g }
+    requires room { geo.now.dblocks ≤ D.blocks dev.old Image }
+    ensures exact { IfOk result (λ seen. (c : Contents) → D.content dev.old ≡ Some c → IsSeen (layout geo.now) (c Image) g seen) }
+    ensures unit { IfOk result (λ seen. seen.cores.unit ≡ unit) }
+    ensures reading { OnlyRead D.Device dev.old dev.new steps.old steps.new }
+    ensures cause { HasCause is_failed (D.faults dev.old) (D.faults dev.new) result }
+    ensures few { steps.new.reads ≤ steps.old.reads + 8 }
+{
+    let looks = look_unit(alloc, dev, geo, g, unit, steps)?;
+    let modes = modes_of(alloc, looks.as_slice())?;
+    Ok(UnitSeen {
+        cores: UnitCores {
+            unit,
+            free: free_mask(modes.as_slice()),
+        },
+        broken: first_broken(unit, looks.as_slice()),
+    })
+}

@@ -1,0 +1,32 @@
+-- What was found of a unit, as entries, is what the state decides.
+use Rattle.std.proofs.Common.{◌≡◌, ℕ, List, Option, Some, None, refl, ap, sym, ◌∙◌}
+use Rattle.fs_derive.specs.Contradiction.{evidence}
+use Rattle.fs_derive.specs.Faults.{faults}
+use Rattle.fs_derive.specs.Session.{first_unready, needed}
+use Rattle.fs_model.specs.declared.claim.Evidence.{Evidence}
+use Rattle.fs_model.specs.declared.entry.Entry.{Entry}
+use Rattle.fs_model.specs.declared.fault.Fault.{Fault}
+use Rattle.fs_model.specs.declared.unit.Unit.{Unit as ScrubUnit}
+use Rattle.fs_model.specs.declared.unit.Unit.TheVariants as units
+use Rattle.fs_state.specs.State.{State}
+use Rattle.quiet_check.specs.Entries.{entries_by, entries_of, fault_entries, judged_entries, unit_entries}
+use Rattle.quiet_check.specs.Judged.{Decided, IsJudged}
+use Rattle.quiet_check.specs.declared.judge.Judged.{Judged}
+use Rattle.quiet_check.specs.declared.judge.Judged.TheVariants as judged
+
+decided_entries : (g : ℕ) (unit : ScrubUnit) (found : Option Evidence) (wanted : List Fault) (j : Judged) → Decided found wanted j → entries_of g unit j ≡ entries_by g unit found wanted
+decided_entries g unit found wanted (judged.Faults fs) is = ap (fault_entries g unit) is.1 ∙ ap (λ o. entries_by g unit o wanted) (sym is.0)
+decided_entries g unit found wanted (judged.GaveUp e) is = ap (λ o. entries_by g unit o wanted) (sym is)
+
+pub entries_said : (a : State) (g : ℕ) (unit : ScrubUnit) (j : Judged) → IsJudged a g unit j → entries_of g unit j ≡ judged_entries a g unit
+unfolding judged_entries
+entries_said a g unit j is = decided_entries g unit (evidence a g unit) (faults a g unit) j is
+
+-- the inodes of a group need no other unit
+inodes_first : (a : State) (past : List Entry) (g : ℕ) → judged_entries a g units.Inode ≡ unit_entries a past g units.Inode
+unfolding unit_entries first_unready needed
+inodes_first a past g = refl
+
+pub inodes_said : (a : State) (past : List Entry) (g : ℕ) (unit : ScrubUnit) → unit ≡ units.Inode → judged_entries a g unit ≡ unit_entries a past g unit
+inodes_said a past g unit is =
+    ap (λ u. judged_entries a g u) is ∙ inodes_first a past g ∙ ap (λ u. unit_entries a past g u) (sym is)

@@ -1,0 +1,25 @@
+use Rattle.std.proofs.Common.{◌≡◌, ◌∙◌, sym, Some, None}
+use Rattle.std.proofs.lemmas.Result.{IfOk-weaker}
+use Rattle.fs_derive.specs.Faults.{faults}
+use Rattle.fs_model.specs.declared.unit.Unit.TheVariants as units
+use Rattle.fs_state.specs.Kinds.{Image}
+use Rattle.geom.specs.Places.{layout}
+use Rattle.inode_pass.specs.Units.{opened_state}
+use Rattle.quiet_check.specs.Judged.{Decided, Gathered, overlap_of}
+use Rattle.quiet_check.proofs.JudgeLemmas.{bad_decides, bad_judged, left_decides}
+use Rattle.quiet_check.proofs.judge.judge_gathered.Goals as goal
+
+pub returns-in-Some-clause-exact : goal.returns-in-Some-clause-exact
+returns-in-Some-clause-exact c =
+    let at = layout c.args.geo.now in
+    bad_decides at c.args.g c.args.heads.now c.args.trees.now c.args.seen.now c.in-Some.found
+    (bad_judged at c.args.g c.args.heads.now c.args.trees.now c.args.seen.now c.args.listed.now c.as_slice-by_inodes.result.now c.as_slice-by_owners.result.now (Some c.in-Some.found) c.requires.group c.requires.units c.requires.listed c.as_slice-by_inodes.ensures.value c.as_slice-by_owners.ensures.value (sym c.in-Some.is ∙ c.first_bad_chunk.ensures))
+
+pub returns-in-None-clause-exact : goal.returns-in-None-clause-exact
+returns-in-None-clause-exact c =
+    let at = layout c.args.geo.now in
+    IfOk-weaker c.judge_chunks.result (λ judged. (image : Image) → Gathered at image c.args.g c.args.heads.now c.args.trees.now c.args.seen.now → Decided (overlap_of (opened_state at image) c.args.g) (faults (opened_state at image) c.args.g units.Inode) judged) _
+    (λ judged left. left_decides at c.args.g c.args.heads.now c.args.trees.now c.args.seen.now judged
+    (bad_judged at c.args.g c.args.heads.now c.args.trees.now c.args.seen.now c.args.listed.now c.as_slice-by_inodes.result.now c.as_slice-by_owners.result.now None c.requires.group c.requires.units c.requires.listed c.as_slice-by_inodes.ensures.value c.as_slice-by_owners.ensures.value (sym c.in-None.is ∙ c.first_bad_chunk.ensures))
+    left)
+    c.judge_chunks.ensures.exact

@@ -1,0 +1,24 @@
+use Rattle.std.proofs.Common.{◌≡◌, ◌∙◌, Some}
+use Rattle.std.proofs.lemmas.Result.{IfOk-weaker}
+use Rattle.blk_device.specs.Contents.{Contents}
+use Rattle.blk_device.specs.ReadingLaws.{read_on}
+use Rattle.blk_device.specs.declared.device.Region.TheVariants.{Image}
+use Rattle.fs_model.specs.declared.unit.Unit.TheVariants as units
+use Rattle.fs_state.specs.Kinds.{heads_of}
+use Rattle.geom.specs.Places.{layout}
+use Rattle.inode_pass.specs.Units.{opened_state}
+use Rattle.quiet_check.specs.Group.{AreTrees}
+use Rattle.quiet_check.specs.Heads.{heads_seen}
+use Rattle.quiet_check.specs.Judged.{IsJudged}
+use Rattle.quiet_check.proofs.judge.judge_inodes.Goals as goal
+
+pub returns-clause-exact : goal.returns-clause-exact
+returns-clause-exact g c =
+    let at = layout c.args.geo.now in
+    IfOk-weaker c.judge_trees.result (λ judged. (m : Contents) → g.D.Device.content c.read_trees.new.dev ≡ Some m → heads_seen c.args.heads.now ≡ heads_of at (m Image) c.args.g → AreTrees at (m Image) c.args.g c.in_ok-trees.trees → IsJudged (opened_state at (m Image)) c.args.g units.Inode judged) _
+    (λ judged is m e. is m (c.in_ok-trees.ensures.reading.same ∙ e) (c.requires.heads m e) (c.in_ok-trees.ensures.exact m e))
+    c.judge_trees.ensures.exact
+
+pub returns-clause-reading : goal.returns-clause-reading
+returns-clause-reading g c =
+    read_on g.D.Device g.met.D.Device.only_now g.met.D.Device.counts_now c.args.dev.now c.read_trees.new.dev c.judge_trees.new.dev c.args.steps.now c.read_trees.new.steps c.judge_trees.new.steps c.in_ok-trees.ensures.reading c.judge_trees.ensures.reading

@@ -1,0 +1,20 @@
+use Rattle.std.proofs.Common.{ℕ, ◌∙◌, ◌<◌, ◌^◌, All, sym, subst}
+use Rattle.geom.specs.Layout.{group_len_of}
+use Rattle.geom.specs.Places.{layout}
+use Rattle.tree_walk.specs.Trails.{LieInside}
+use Rattle.quiet_check.specs.Group.{AreInside}
+use Rattle.quiet_check.proofs.JudgeLemmas.{chunk_inside, chunk_small, overlap_judged}
+use Rattle.quiet_check.proofs.judge.overlap_in.Goals as goal
+
+pub metadata_overlap-requires-clause-list : goal.metadata_overlap-requires-clause-list
+metadata_overlap-requires-clause-list c = subst (LieInside (group_len_of (layout c.args.geo.now) c.args.g)) (sym c.as_slice-list.ensures.value) c.requires.list
+
+pub metadata_overlap-requires-clause-chunks : goal.metadata_overlap-requires-clause-chunks
+metadata_overlap-requires-clause-chunks c = subst (AreInside (group_len_of (layout c.args.geo.now) c.args.g)) (sym (c.as_slice.ensures.value ∙ c.in_ok-chunks.ensures)) (chunk_inside (layout c.args.geo.now) c.args.g c.args.trees.now c.args.seen.now c.requires.units)
+
+pub metadata_overlap-requires-clause-small : goal.metadata_overlap-requires-clause-small
+metadata_overlap-requires-clause-small c = subst (All (λ (u : ℕ). u < 2 ^ 26)) (sym (c.as_slice.ensures.value ∙ c.in_ok-chunks.ensures)) (chunk_small (layout c.args.geo.now) c.args.g c.args.trees.now c.args.seen.now c.args.geo.now.fitting c.requires.units)
+
+pub returns-in-Ok-clause-exact : goal.returns-in-Ok-clause-exact
+returns-in-Ok-clause-exact c =
+    overlap_judged (layout c.args.geo.now) c.args.g c.args.heads.now c.args.trees.now c.args.seen.now c.as_slice-list.result.now c.as_slice.result.now c.in-Ok.found c.requires.group c.requires.units c.as_slice-list.ensures.value (c.as_slice.ensures.value ∙ c.in_ok-chunks.ensures) c.in-Ok.ensures

@@ -1,0 +1,33 @@
+-- The heads of a group, as the code has them, and why they are refused.
+use Rattle.std.specs.Prelude.{◌≡◌, ℕ, ⊤, Bool, true, false, List, Some, None}
+use Rattle.ag_headers.specs.Agf.{agf_fault}
+use Rattle.ag_headers.specs.Agfl.{agfl_fault}
+use Rattle.ag_headers.specs.Agi.{agi_fault}
+use Rattle.fs_model.specs.declared.unit.Head.TheVariants as heads
+use Rattle.fs_state.specs.Kinds.{Heads}
+use Rattle.geom.specs.Layout.{Layout}
+use Rattle.quiet_check.specs.declared.accept.HeadsStop.{HeadsStop}
+use Rattle.quiet_check.specs.declared.accept.HeadsStop.TheVariants.{Refused, Failed, Memory}
+use Rattle.quiet_check.specs.declared.heads.GroupHeads.{GroupHeads}
+
+abbrev pub heads_seen : GroupHeads → Heads
+heads_seen heads = record { agf = heads.agf; agi = heads.agi; list = heads.list.items }
+
+abbrev pub is_failed : HeadsStop → Bool
+is_failed (Refused head fault) = false
+is_failed Failed = true
+is_failed Memory = false
+
+-- it is the first head in a group's block 0 that is refused, in the order AGF, AGI, AGFL
+abbrev pub IsRefusal : Layout → ℕ → List ℕ → HeadsStop → Type 0
+IsRefusal at g block (Refused heads.Agf fault) = agf_fault at g block ≡ Some fault
+IsRefusal at g block (Refused heads.Agi fault) = (agf_fault at g block ≡ None) × (agi_fault at g block ≡ Some fault)
+IsRefusal at g block (Refused heads.Agfl fault) = (agf_fault at g block ≡ None) × (agi_fault at g block ≡ None) × (agfl_fault at g block ≡ Some fault)
+IsRefusal at g block Failed = ⊤
+IsRefusal at g block Memory = ⊤
+
+-- no head is refused
+abbrev pub IsOutside : HeadsStop → Type 0
+IsOutside (Refused head fault) = ⊥
+IsOutside Failed = ⊤
+IsOutside Memory = ⊤

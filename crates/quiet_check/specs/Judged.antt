@@ -1,0 +1,57 @@
+-- What the check of a unit is: its faults, or the first evidence for which it can't be judged.
+use Rattle.std.specs.Prelude.{◌≡◌, ℕ, ◌/◌, List, [], ◌∷◌, map, Option, Some, None}
+use Rattle.fs_derive.specs.Claims.{metadata_claims}
+use Rattle.fs_derive.specs.Contradiction.{bad_chunk, evidence, first_overlap}
+use Rattle.fs_derive.specs.Faults.{faults}
+use Rattle.fs_derive.specs.Lists.{first_of_all}
+use Rattle.fs_model.specs.declared.claim.Evidence.{Evidence}
+use Rattle.fs_model.specs.declared.fault.Fault.{Fault}
+use Rattle.fs_model.specs.declared.unit.Unit.{Unit as ScrubUnit}
+use Rattle.fs_state.specs.Kinds.{Image, heads_of}
+use Rattle.fs_state.specs.State.{State, recs_of}
+use Rattle.geom.specs.Layout.{Layout, group_len_of}
+use Rattle.index_derive.specs.Units.{is_listed_by}
+use Rattle.index_derive.specs.declared.inodes.UnitCores.{UnitCores}
+use Rattle.inode_pass.specs.Units.{AreSeen, unit_numbers, units_in}
+use Rattle.inode_pass.specs.declared.unit.UnitSeen.{UnitSeen}
+use Rattle.quiet_check.specs.Group.{AreTrees}
+use Rattle.quiet_check.specs.Heads.{heads_seen}
+use Rattle.quiet_check.specs.Trees.{reading_of}
+use Rattle.quiet_check.specs.declared.group.GroupTrees.{GroupTrees}
+use Rattle.quiet_check.specs.declared.heads.GroupHeads.{GroupHeads}
+use Rattle.run_sets.specs.Runs.{runs_below}
+use Rattle.quiet_check.specs.declared.judge.Judged.{Judged}
+use Rattle.quiet_check.specs.declared.judge.Judged.TheVariants.{Faults, GaveUp}
+
+-- by this evidence, where there is some, or else by these faults
+abbrev pub Decided : Option Evidence → List Fault → Judged → Type 0
+Decided found wanted (Faults faults) = (found ≡ None) × (faults.items ≡ wanted)
+Decided found wanted (GaveUp evidence) = found ≡ Some evidence
+
+-- a unit of a group is judged as the state decides
+abbrev pub IsJudged : State → ℕ → ScrubUnit → Judged → Type 0
+IsJudged a g unit judged = Decided (evidence a g unit) (faults a g unit) judged
+
+-- ---- steps of the check of inodes
+
+-- heads, trees and cores are those of the image
+pub record Gathered (at : Layout) (image : Image) (g : ℕ) (heads : GroupHeads) (trees : GroupTrees) (seen : List UnitSeen) : Type 0 where
+  pub named : heads_seen heads ≡ heads_of at image g
+  pub trees_are : AreTrees at image g trees
+  pub cores_are : AreSeen at image g seen
+
+-- the units that were seen are those that the trees list
+abbrev pub AreUnitsOf : Layout → ℕ → GroupTrees → List UnitSeen → Type 0
+AreUnitsOf at g trees seen =
+    unit_numbers seen ≡ units_in (runs_below (is_listed_by (recs_of (reading_of trees.ino)) (recs_of (reading_of trees.rmap))) (group_len_of at g / 8))
+
+abbrev pub cores_in : List UnitSeen → List UnitCores
+cores_in seen = map (λ s. s.cores) seen
+
+-- two claims of metadata overlap
+abbrev pub overlap_of : State → ℕ → Option Evidence
+overlap_of a g = first_overlap a g (metadata_claims a g)
+
+-- a core of a chunk doesn't verify, or two claims overlap
+abbrev pub later_evidence : State → ℕ → Option Evidence
+later_evidence a g = first_of_all (bad_chunk a g ∷ overlap_of a g ∷ [])

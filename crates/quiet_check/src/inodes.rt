@@ -1,0 +1,101 @@
+ghost use Rattle.std.specs.Prelude.{◌≡◌, ◌<◌, ◌≤◌, List, Some, IfOk, IfErr};
+ghost use Rattle.blk_device.specs.Causes.{HasCause};
+ghost use Rattle.blk_device.specs.Contents.{Contents};
+ghost use Rattle.blk_device.specs.Reading.{OnlyRead};
+ghost use Rattle.blk_device.specs.declared.device.Region.TheVariants.{Image};
+ghost use Rattle.fs_model.specs.declared.entry.Entry.{Entry as EntryOf};
+ghost use Rattle.fs_model.specs.declared.unit.Unit.TheVariants as units;
+ghost use Rattle.fs_state.specs.Kinds.{heads_of};
+ghost use Rattle.geom.specs.Layout.{device_block_of, group_len_of};
+ghost use Rattle.geom.specs.Places.{layout};
+ghost use Rattle.inode_pass.specs.Stops.{is_failed as is_failed_pass};
+ghost use Rattle.inode_pass.specs.Units.{opened_state};
+ghost use Rattle.quiet_check.specs.Entries.{unit_entries};
+ghost use Rattle.quiet_check.specs.Heads.{IsOutside, IsRefusal, heads_seen, is_failed};
+ghost use Rattle.quiet_check.specs.Judged.{IsJudged};
+ghost use Rattle.tree_walk.specs.Trails.{LieInside};
+
+use crate::accept::{HeadsStop, read_heads};
+use crate::entries::entries_of;
+use crate::heads::GroupHeads;
+use crate::judge::{Judged, judge_inodes};
+use blk_cache::BlkCache;
+use blk_device::Device;
+use byte_fields::Steps;
+use fs_model::{Entry, Unit};
+use geom::Geometry;
+use inode_pass::PassStop;
+use std::alloc::Global;
+use std::sync::ledger::Ledger;
+
+// Why a unit isn't judged, where no head is refused.
+fn stopped(stop: PassStop) -> HeadsStop
+    ensures failed { is_failed result ≡ is_failed_pass stop }
+    ensures outside { IsOutside result }
+{
+    match stop {
+        PassStop::Failed => HeadsStop::Failed,
+        PassStop::Memory => HeadsStop::Memory,
+    }
+}
+
+// Judges the inodes of a group by its heads, without a cache: each block is read once.
+fn judge_by<D: Device, L: Ledger>(
+    alloc: Global,
+    dev: &mut D,
+    geo: &Geometry,
+    g: u32,
+    heads: &GroupHeads,
+    steps: &mut Steps<L>,
+) -> Result<Judged, HeadsStop>
+    requires group { g < geo.now.agcount }
+    requires room { geo.now.dblocks ≤ D.blocks dev.old Image }
+    requires list { LieInside (group_len_of (layout geo.now) g) heads.now.list.items }
+    requires heads { (c : Contents) → D.content dev.old ≡ Some c → heads_seen heads.now ≡ heads_of (layout geo.now) (c Image) g }
+    ensures exact { IfOk result (λ judged. (c : Contents) → D.content dev.old ≡ Some c → IsJudged (opened_state (layout geo.now) (c Image)) g units.Inode judged) }
+    ensures outside { IfErr result IsOutside }
+    ensures reading { OnlyRead D.Device dev.old dev.new steps.old steps.new }
+    ensures cause { HasCause is_failed (D.faults dev.old) (D.faults dev.new) result }
+{
+    let mut cache = match BlkCache::new(alloc, 0) {
+        Ok(cache) => cache,
+        Err(_) => return Err(HeadsStop::Memory),
+    };
+    match judge_inodes(alloc, dev, &mut cache, geo, g, heads, steps) {
+        Ok(judged) => Ok(judged),
+        Err(stop) => Err(stopped(stop)),
+    }
+}
+
+/// Checks the inodes of group `g`: what the check adds to the journal, whatever that has so far,
+/// which is the faults of the two inode btrees and of their counters with the verdict, or the first
+/// evidence for which they can't be judged. A head of the group that is refused ends it, and so do a
+/// device that fails and want of memory. Nothing is written
+/// (XFS Online Fsck Design, "Metadata Scrubbing").
+pub fn check_inodes<D: Device, L: Ledger>(
+    alloc: Global,
+    dev: &mut D,
+    geo: &Geometry,
+    g: u32,
+    steps: &mut Steps<L>,
+) -> Result<Vec<Entry>, HeadsStop>
+    requires group { g < geo.now.agcount }
+    requires room { geo.now.dblocks ≤ D.blocks dev.old Image }
+    ensures exact { IfOk result (λ entries. (c : Contents) → D.content dev.old ≡ Some c → (past : List EntryOf) → entries.items ≡ unit_entries (opened_state (layout geo.now) (c Image)) past g units.Inode) }
+    ensures refused { IfErr result (λ stop. (c : Contents) → D.content dev.old ≡ Some c → IsRefusal (layout geo.now) g (c Image (device_block_of (layout geo.now) g 0)) stop) }
+    ensures reading { OnlyRead D.Device dev.old dev.new steps.old steps.new }
+    ensures cause { HasCause is_failed (D.faults dev.old) (D.faults dev.new) result }
+{
+    let heads = match read_heads(alloc, dev, geo, g, steps) {
+        Ok(heads) => heads,
+        Err(stop) => return Err(stop),
+    };
+    let judged = match judge_by(alloc, dev, geo, g, &heads, steps) {
+        Ok(judged) => judged,
+        Err(stop) => return Err(stop),
+    };
+    match entries_of(alloc, g, Unit::Inode, &judged) {
+        Ok(entries) => Ok(entries),
+        Err(_) => Err(HeadsStop::Memory),
+    }
+}

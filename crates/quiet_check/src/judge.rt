@@ -1,0 +1,224 @@
+ghost use Rattle.std.specs.Prelude.{◌≡◌, ◌<◌, ◌≤◌, Some, None, IfOk, IfErr};
+ghost use Rattle.blk_cache.specs.Cache.{AgreesTold};
+ghost use Rattle.blk_device.specs.Causes.{HasCause};
+ghost use Rattle.blk_device.specs.Contents.{Contents};
+ghost use Rattle.blk_device.specs.Reading.{OnlyRead};
+ghost use Rattle.blk_device.specs.declared.device.Region.TheVariants.{Image};
+ghost use Rattle.fs_derive.specs.Faults.{faults as faults_of};
+ghost use Rattle.fs_model.specs.declared.unit.Unit.TheVariants as units;
+ghost use Rattle.fs_state.specs.Kinds.{Image as ImageOf, heads_of};
+ghost use Rattle.geom.specs.Layout.{group_len_of};
+ghost use Rattle.geom.specs.Places.{layout};
+ghost use Rattle.inode_pass.specs.Stops.{is_failed};
+ghost use Rattle.inode_pass.specs.Units.{opened_state};
+ghost use Rattle.quiet_check.specs.Group.{AreSoundTrees, AreTrees};
+ghost use Rattle.quiet_check.specs.Heads.{heads_seen};
+ghost use Rattle.quiet_check.specs.Judged.{AreUnitsOf, Decided, Gathered, IsJudged, cores_in, later_evidence, overlap_of};
+ghost use Rattle.quiet_check.specs.Units.{AreListed};
+ghost use Rattle.tree_walk.specs.Trails.{LieInside};
+
+use crate::chunks::{chunks_of, first_bad_chunk};
+use crate::evidence::tree_evidence;
+use crate::faults::inode_faults;
+use crate::group::{GroupTrees, read_trees};
+use crate::heads::GroupHeads;
+use crate::overlap::metadata_overlap;
+use crate::units::{Listed, list_units};
+use blk_cache::BlkCache;
+use blk_device::Device;
+use byte_fields::Steps;
+use fs_model::{Evidence, Fault};
+use geom::Geometry;
+use index_derive::{UnitCores, inode_records};
+use inode_pass::{PassStop, UnitSeen, see_units};
+use std::alloc::{AllocError, Global};
+use std::sync::ledger::Ledger;
+
+/// What the check of a unit found: its faults, in the order of a report, or the first evidence for
+/// which it can't be judged (XFS Online Fsck Design, "Metadata Scrubbing").
+#[derive(Drop)]
+pub enum Judged {
+    Faults(Vec<Fault>),
+    GaveUp(Evidence),
+}
+
+// What the cores of the units say.
+fn cores_of(alloc: Global, seen: &[UnitSeen]) -> Result<Vec<UnitCores>, AllocError>
+    ensures { IfOk result (λ cores. cores.items ≡ cores_in seen.now) }
+{
+    let mut cores = Vec::new(alloc);
+    for unit in seen {
+        cores.push(unit.cores)?;
+    }
+    Ok(cores)
+}
+
+// The faults of the inode btrees, where nothing stands in the way.
+fn judge_records(
+    alloc: Global,
+    geo: &Geometry,
+    g: u32,
+    heads: &GroupHeads,
+    trees: &GroupTrees,
+    seen: &[UnitSeen],
+) -> Result<Judged, PassStop>
+    requires group { g < geo.now.agcount }
+    requires trees { AreSoundTrees (layout geo.now) g trees.now }
+    requires units { AreUnitsOf (layout geo.now) g trees.now seen.now }
+    ensures exact { IfOk result (λ judged. (image : ImageOf) → Gathered (layout geo.now) image g heads.now trees.now seen.now → Decided None (faults_of (opened_state (layout geo.now) image) g units.Inode) judged) }
+    ensures own { IfErr result (λ stop. stop ≡ PassStop.Memory) }
+{
+    let cores = cores_of(alloc, seen)?;
+    let recs = inode_records(alloc, cores.as_slice())?;
+    let faults = inode_faults(alloc, geo.inobtcount, &heads.agi, recs.as_slice(), trees)?;
+    Ok(Judged::Faults(faults))
+}
+
+// The first overlap of the group's own metadata, with the chunks whose cores all verify.
+fn overlap_in(
+    alloc: Global,
+    geo: &Geometry,
+    g: u32,
+    heads: &GroupHeads,
+    trees: &GroupTrees,
+    seen: &[UnitSeen],
+) -> Result<Option<Evidence>, PassStop>
+    requires group { g < geo.now.agcount }
+    requires list { LieInside (group_len_of (layout geo.now) g) heads.now.list.items }
+    requires trees { AreSoundTrees (layout geo.now) g trees.now }
+    requires units { AreUnitsOf (layout geo.now) g trees.now seen.now }
+    ensures exact { IfOk result (λ found. (image : ImageOf) → Gathered (layout geo.now) image g heads.now trees.now seen.now → found ≡ overlap_of (opened_state (layout geo.now) image) g) }
+    ensures own { IfErr result (λ stop. stop ≡ PassStop.Memory) }
+{
+    let chunks = chunks_of(alloc, seen)?;
+    let list = heads.list.as_slice();
+    match metadata_overlap(alloc, geo, g, list, trees, chunks.as_slice()) {
+        Ok(found) => Ok(found),
+        Err(_) => Err(PassStop::Memory),
+    }
+}
+
+// What decides once the cores of all chunks verify: an overlap of the group's own metadata, or the
+// faults.
+fn judge_chunks(
+    alloc: Global,
+    geo: &Geometry,
+    g: u32,
+    heads: &GroupHeads,
+    trees: &GroupTrees,
+    seen: &[UnitSeen],
+) -> Result<Judged, PassStop>
+    requires group { g < geo.now.agcount }
+    requires list { LieInside (group_len_of (layout geo.now) g) heads.now.list.items }
+    requires trees { AreSoundTrees (layout geo.now) g trees.now }
+    requires units { AreUnitsOf (layout geo.now) g trees.now seen.now }
+    ensures exact { IfOk result (λ judged. (image : ImageOf) → Gathered (layout geo.now) image g heads.now trees.now seen.now → Decided (overlap_of (opened_state (layout geo.now) image) g) (faults_of (opened_state (layout geo.now) image) g units.Inode) judged) }
+    ensures own { IfErr result (λ stop. stop ≡ PassStop.Memory) }
+{
+    let found = overlap_in(alloc, geo, g, heads, trees, seen)?;
+    match found {
+        Some(found) => Ok(Judged::GaveUp(found)),
+        None => judge_records(alloc, geo, g, heads, trees, seen),
+    }
+}
+
+// What decides once the cores were read: a core of a chunk that doesn't verify, or what is left.
+fn judge_gathered(
+    alloc: Global,
+    geo: &Geometry,
+    g: u32,
+    heads: &GroupHeads,
+    trees: &GroupTrees,
+    listed: &Listed,
+    seen: &[UnitSeen],
+) -> Result<Judged, PassStop>
+    requires group { g < geo.now.agcount }
+    requires list { LieInside (group_len_of (layout geo.now) g) heads.now.list.items }
+    requires trees { AreSoundTrees (layout geo.now) g trees.now }
+    requires listed { AreListed (group_len_of (layout geo.now) g) trees.now listed.now }
+    requires units { AreUnitsOf (layout geo.now) g trees.now seen.now }
+    ensures exact { IfOk result (λ judged. (image : ImageOf) → Gathered (layout geo.now) image g heads.now trees.now seen.now → Decided (later_evidence (opened_state (layout geo.now) image) g) (faults_of (opened_state (layout geo.now) image) g units.Inode) judged) }
+    ensures own { IfErr result (λ stop. stop ≡ PassStop.Memory) }
+{
+    let by_inodes = listed.by_inodes.as_slice();
+    let by_owners = listed.by_owners.as_slice();
+    match first_bad_chunk(by_inodes, by_owners, seen) {
+        Some(found) => Ok(Judged::GaveUp(found)),
+        None => judge_chunks(alloc, geo, g, heads, trees, seen),
+    }
+}
+
+// Reads the cores of the units that the trees list, and judges by them.
+fn judge_cores<D: Device, L: Ledger>(
+    alloc: Global,
+    dev: &mut D,
+    geo: &Geometry,
+    g: u32,
+    heads: &GroupHeads,
+    trees: &GroupTrees,
+    steps: &mut Steps<L>,
+) -> Result<Judged, PassStop>
+    requires group { g < geo.now.agcount }
+    requires room { geo.now.dblocks ≤ D.blocks dev.old Image }
+    requires list { LieInside (group_len_of (layout geo.now) g) heads.now.list.items }
+    requires trees { AreSoundTrees (layout geo.now) g trees.now }
+    ensures exact { IfOk result (λ judged. (c : Contents) → D.content dev.old ≡ Some c → heads_seen heads.now ≡ heads_of (layout geo.now) (c Image) g → AreTrees (layout geo.now) (c Image) g trees.now → Decided (later_evidence (opened_state (layout geo.now) (c Image)) g) (faults_of (opened_state (layout geo.now) (c Image)) g units.Inode) judged) }
+    ensures reading { OnlyRead D.Device dev.old dev.new steps.old steps.new }
+    ensures cause { HasCause is_failed (D.faults dev.old) (D.faults dev.new) result }
+{
+    let listed = list_units(alloc, geo.group_len(g), trees)?;
+    let seen = see_units(alloc, dev, geo, g, listed.either.as_slice(), steps)?;
+    judge_gathered(alloc, geo, g, heads, trees, &listed, seen.as_slice())
+}
+
+// Judges the inodes of a group by its trees.
+fn judge_trees<D: Device, L: Ledger>(
+    alloc: Global,
+    dev: &mut D,
+    geo: &Geometry,
+    g: u32,
+    heads: &GroupHeads,
+    trees: &GroupTrees,
+    steps: &mut Steps<L>,
+) -> Result<Judged, PassStop>
+    requires group { g < geo.now.agcount }
+    requires room { geo.now.dblocks ≤ D.blocks dev.old Image }
+    requires list { LieInside (group_len_of (layout geo.now) g) heads.now.list.items }
+    requires trees { AreSoundTrees (layout geo.now) g trees.now }
+    ensures exact { IfOk result (λ judged. (c : Contents) → D.content dev.old ≡ Some c → heads_seen heads.now ≡ heads_of (layout geo.now) (c Image) g → AreTrees (layout geo.now) (c Image) g trees.now → IsJudged (opened_state (layout geo.now) (c Image)) g units.Inode judged) }
+    ensures reading { OnlyRead D.Device dev.old dev.new steps.old steps.new }
+    ensures cause { HasCause is_failed (D.faults dev.old) (D.faults dev.new) result }
+{
+    match tree_evidence(trees) {
+        Some(found) => Ok(Judged::GaveUp(found)),
+        None => judge_cores(alloc, dev, geo, g, heads, trees, steps),
+    }
+}
+
+/// Judges the inodes of group `g`, whose heads were accepted: the first evidence that contradicts
+/// their derivation, or else the faults of the two inode btrees and of their counters. The six
+/// btrees of the group are read, and the cores of each unit that one of the two lists, once. A
+/// device that failed and want of memory are the refusals, and nothing is written
+/// (XFS Online Fsck Design, "Metadata Scrubbing").
+pub fn judge_inodes<D: Device, L: Ledger>(
+    alloc: Global,
+    dev: &mut D,
+    cache: &mut BlkCache,
+    geo: &Geometry,
+    g: u32,
+    heads: &GroupHeads,
+    steps: &mut Steps<L>,
+) -> Result<Judged, PassStop>
+    requires group { g < geo.now.agcount }
+    requires room { geo.now.dblocks ≤ D.blocks dev.old Image }
+    requires agreed { AgreesTold cache.old (D.content dev.old) }
+    requires list { LieInside (group_len_of (layout geo.now) g) heads.now.list.items }
+    requires heads { (c : Contents) → D.content dev.old ≡ Some c → heads_seen heads.now ≡ heads_of (layout geo.now) (c Image) g }
+    ensures exact { IfOk result (λ judged. (c : Contents) → D.content dev.old ≡ Some c → IsJudged (opened_state (layout geo.now) (c Image)) g units.Inode judged) }
+    ensures reading { OnlyRead D.Device dev.old dev.new steps.old steps.new }
+    ensures cause { HasCause is_failed (D.faults dev.old) (D.faults dev.new) result }
+    ensures agrees { AgreesTold cache.new (D.content dev.new) }
+{
+    let trees = read_trees(alloc, dev, cache, geo, g, heads, steps)?;
+    judge_trees(alloc, dev, geo, g, heads, &trees, steps)
+}
