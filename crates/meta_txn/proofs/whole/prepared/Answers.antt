@@ -22,8 +22,7 @@ pub returns-in-Err-clause-cause : goal.returns-in-Err-clause-cause
 returns-in-Err-clause-cause g c =
     let d = g.D.Device in
     let before = d.faults c.args.dev.now in
-    let now = d.faults c.prepare.new.dev in
-    (
+    let now = d.faults c.prepare.new.dev in (
       c.prepare.ensures.later,
       only_failed c.in-Err.field-0 (Rose before now) (λ n is. absurd (omega (arith, c.requires.few, ((c.in-Err.ensures.too_many n).0 is).1))) (λ is. c.in-Err.ensures.failed is),
     )
