@@ -1,0 +1,5 @@
+//! Tests of the full check, over public calls alone: images on devices in memory, and what is found.
+#![tactic(auto)]
+
+#[cfg(test)]
+mod inodes;
