@@ -47,7 +47,8 @@ pub enum ListGoal {
 /// What a refill does with a list of `len` blocks: below 12 it takes what is wanted up to 16, above
 /// 64 it gives all but 16 (XFS Algorithms and Data Structures, "AG Free List").
 pub fn list_goal(len: u32) -> ListGoal
-    ensures { result ≡ (if nat_lt len LEAST_LISTED then Take (WANTED_LISTED - len) else if nat_lt MOST_LISTED len then Give (len - WANTED_LISTED) else Nothing) }
+    ensures { result ≡ (if nat_lt len LEAST_LISTED then Take (WANTED_LISTED - len)
+        else if nat_lt MOST_LISTED len then Give (len - WANTED_LISTED) else Nothing) }
 {
     if len < LEAST_LISTED {
         return ListGoal::Take(WANTED_LISTED - len);

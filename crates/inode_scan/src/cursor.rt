@@ -123,14 +123,16 @@ impl Cursor {
         requires agreed { AgreesTold cache.old (D.content dev.old) }
         ensures exact { IfSome (D.content dev.old) (λ m. Meets (next_in_trees (layout geo.now) (m Image) self.now.at trees.now) result) }
         // Where all groups' btrees are readable it is the least allocated inode above the cursor.
-        ensures right { IfSome (D.content dev.old) (λ m. (chunks : ℕ → List GhostRec) → AreAllGroups geo.now.agcount trees.now → AreReadable (layout geo.now) (m Image) chunks trees.now
+        ensures right { IfSome (D.content dev.old) (λ m. (chunks : ℕ → List GhostRec)
+            → AreAllGroups geo.now.agcount trees.now → AreReadable (layout geo.now) (m Image) chunks trees.now
             → GivesNext (layout geo.now) chunks self.now.at result) }
         ensures above { IfOk result (λ found. IfSome found (λ ino. self.now.at < ino)) }
         ensures no_memory { IfErr result IsNoMemory }
         ensures reading { OnlyRead D.Device dev.old dev.new steps.old steps.new }
         ensures cause { HasCause is_failed (D.faults dev.old) (D.faults dev.new) result }
         ensures agrees { AgreesTold cache.new (D.content dev.new) }
-        ensures counted { IfSome (D.content dev.old) (λ m. OnOk result (steps.new.reads ≡ steps.old.reads + reads_in_trees (layout geo.now) (m Image) self.now.at trees.now)) }
+        ensures counted { IfSome (D.content dev.old) (λ m. OnOk result
+            (steps.new.reads ≡ steps.old.reads + reads_in_trees (layout geo.now) (m Image) self.now.at trees.now)) }
     {
         let at = self.at;
         let mut rest = trees;

@@ -42,13 +42,15 @@ pub fn next_in_group<D: Device, L: Ledger>(
     requires room { geo.now.dblocks ≤ D.blocks dev.old Image }
     requires agreed { AgreesTold cache.old (D.content dev.old) }
     ensures exact { OfTree (layout geo.now) tree.now (D.content dev.old) (λ s m r n. Meets (search_in s m from end r n) result) }
-    ensures right { OfTree (layout geo.now) tree.now (D.content dev.old) (λ s m r n. WhereHolds ino_form s m r n (λ recs. Meets (Ok (first_in from end recs)) result)) }
+    ensures right { OfTree (layout geo.now) tree.now (D.content dev.old)
+        (λ s m r n. WhereHolds ino_form s m r n (λ recs. Meets (Ok (first_in from end recs)) result)) }
     ensures range { IfOk result (λ found. IfSome found (λ n. (from ≤ n) × (n < end))) }
     ensures no_memory { IfErr result IsNoMemory }
     ensures reading { OnlyRead D.Device dev.old dev.new steps.old steps.new }
     ensures cause { HasCause is_failed (D.faults dev.old) (D.faults dev.new) result }
     ensures agrees { AgreesTold cache.new (D.content dev.new) }
-    ensures counted { OfTree (layout geo.now) tree.now (D.content dev.old) (λ s m r n. OnOk result (steps.new.reads ≡ steps.old.reads + reads_in s m from end r n)) }
+    ensures counted { OfTree (layout geo.now) tree.now (D.content dev.old)
+        (λ s m r n. OnOk result (steps.new.reads ≡ steps.old.reads + reads_in s m from end r n)) }
 {
     let site = Site::of_group(geo, tree.group);
     let mut blocks = Cached {

@@ -81,7 +81,8 @@ pub fn read_heads<D: Device, L: Ledger>(
     requires room { geo.now.dblocks ≤ D.blocks dev.old Image }
     ensures exact { IfOk result (λ heads. (c : Contents) → D.content dev.old ≡ Some c → heads_seen heads ≡ heads_of (layout geo.now) (c Image) g) }
     ensures list { IfOk result (λ heads. LieInside (group_len_of (layout geo.now) g) heads.list.items) }
-    ensures refused { IfErr result (λ stop. (c : Contents) → D.content dev.old ≡ Some c → IsRefusal (layout geo.now) g (c Image (device_block_of (layout geo.now) g 0)) stop) }
+    ensures refused { IfErr result (λ stop. (c : Contents) → D.content dev.old ≡ Some c
+        → IsRefusal (layout geo.now) g (c Image (device_block_of (layout geo.now) g 0)) stop) }
     ensures reading { OnlyRead D.Device dev.old dev.new steps.old steps.new }
     ensures cause { HasCause is_failed (D.faults dev.old) (D.faults dev.new) result }
     ensures one { steps.new.reads ≡ steps.old.reads + 1 }

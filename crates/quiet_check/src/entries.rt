@@ -101,7 +101,8 @@ pub fn entries_of(
     judged: &Judged,
 ) -> Result<Vec<Entry>, AllocError>
     ensures exact { (a : State) → IsJudged a group unit judged.now → IfOk result (λ entries. entries.items ≡ judged_entries a group unit) }
-    ensures inodes { (a : State) (past : List EntryOf) → unit ≡ units.Inode → IsJudged a group unit judged.now → IfOk result (λ entries. entries.items ≡ unit_entries a past group unit) }
+    ensures inodes { (a : State) (past : List EntryOf) → unit ≡ units.Inode → IsJudged a group unit judged.now
+        → IfOk result (λ entries. entries.items ≡ unit_entries a past group unit) }
 {
     entries_in(alloc, group, unit, judged)
 }

@@ -57,7 +57,8 @@ fn bad_tree(ino: &TreeSeen<InoRec>, rmap: &TreeSeen<RmapRec>) -> Option<Evidence
 /// inode btrees has a form that isn't supported yet, or neither of the trees that list chunks can be
 /// read (XFS Online Fsck Design, "Cross-Referencing Space Metadata").
 pub fn tree_evidence(trees: &GroupTrees) -> Option<Evidence>
-    ensures { result ≡ first_of_all (later_of Kind.Ino (reading_of trees.now.ino) ∷ later_of Kind.Fino (reading_of trees.now.fino) ∷ (if is_readable (reading_of trees.now.ino) then None else bad_block (reading_of trees.now.rmap)) ∷ []) }
+    ensures { result ≡ first_of_all (later_of Kind.Ino (reading_of trees.now.ino) ∷ later_of Kind.Fino (reading_of trees.now.fino)
+        ∷ (if is_readable (reading_of trees.now.ino) then None else bad_block (reading_of trees.now.rmap)) ∷ []) }
 {
     if let Some(found) = later_in(Kind::Ino, &trees.ino) {
         return Some(found);

@@ -81,8 +81,10 @@ pub fn check_inodes<D: Device, L: Ledger>(
 ) -> Result<Vec<Entry>, HeadsStop>
     requires group { g < geo.now.agcount }
     requires room { geo.now.dblocks ≤ D.blocks dev.old Image }
-    ensures exact { IfOk result (λ entries. (c : Contents) → D.content dev.old ≡ Some c → (past : List EntryOf) → entries.items ≡ unit_entries (opened_state (layout geo.now) (c Image)) past g units.Inode) }
-    ensures refused { IfErr result (λ stop. (c : Contents) → D.content dev.old ≡ Some c → IsRefusal (layout geo.now) g (c Image (device_block_of (layout geo.now) g 0)) stop) }
+    ensures exact { IfOk result (λ entries. (c : Contents) → D.content dev.old ≡ Some c → (past : List EntryOf)
+        → entries.items ≡ unit_entries (opened_state (layout geo.now) (c Image)) past g units.Inode) }
+    ensures refused { IfErr result (λ stop. (c : Contents) → D.content dev.old ≡ Some c
+        → IsRefusal (layout geo.now) g (c Image (device_block_of (layout geo.now) g 0)) stop) }
     ensures reading { OnlyRead D.Device dev.old dev.new steps.old steps.new }
     ensures cause { HasCause is_failed (D.faults dev.old) (D.faults dev.new) result }
 {

@@ -214,7 +214,8 @@ pub fn judge_inodes<D: Device, L: Ledger>(
     requires agreed { AgreesTold cache.old (D.content dev.old) }
     requires list { LieInside (group_len_of (layout geo.now) g) heads.now.list.items }
     requires heads { (c : Contents) → D.content dev.old ≡ Some c → heads_seen heads.now ≡ heads_of (layout geo.now) (c Image) g }
-    ensures exact { IfOk result (λ judged. (c : Contents) → D.content dev.old ≡ Some c → IsJudged (opened_state (layout geo.now) (c Image)) g units.Inode judged) }
+    ensures exact { IfOk result (λ judged. (c : Contents) → D.content dev.old ≡ Some c
+        → IsJudged (opened_state (layout geo.now) (c Image)) g units.Inode judged) }
     ensures reading { OnlyRead D.Device dev.old dev.new steps.old steps.new }
     ensures cause { HasCause is_failed (D.faults dev.old) (D.faults dev.new) result }
     ensures agrees { AgreesTold cache.new (D.content dev.new) }

@@ -31,7 +31,8 @@ pub fn metadata_overlap(
     requires trees { AreSoundTrees (layout geo.now) g trees.now }
     requires chunks { AreInside (group_len_of (layout geo.now) g) chunks.now }
     requires small { All (λ u. u < 2 ^ 26) chunks.now }
-    ensures { IfOk result (λ found. (image : Image) → AreTrees (layout geo.now) image g trees.now → list.now ≡ (heads_of (layout geo.now) image g).list → chunks.now ≡ chunks_in (opened_state (layout geo.now) image) g
+    ensures { IfOk result (λ found. (image : Image) → AreTrees (layout geo.now) image g trees.now
+        → list.now ≡ (heads_of (layout geo.now) image g).list → chunks.now ≡ chunks_in (opened_state (layout geo.now) image) g
         → found ≡ first_overlap (opened_state (layout geo.now) image) g (metadata_claims (opened_state (layout geo.now) image) g)) }
 {
     let mut set = ClaimSet::new(alloc);

@@ -142,7 +142,8 @@ pub fn read_tree<K: RecKind, D: Device, L: Ledger>(
     requires group { tree.now.group < geo.now.agcount }
     requires room { geo.now.dblocks ≤ D.blocks dev.old Image }
     requires agreed { AgreesTold cache.old (D.content dev.old) }
-    ensures exact { IfOk result (λ seen. (c : Contents) → D.content dev.old ≡ Some c → reading_of seen ≡ tree_in K.form (layout geo.now) (c Image) tree.now.group tree.now.root tree.now.levels) }
+    ensures exact { IfOk result (λ seen. (c : Contents) → D.content dev.old ≡ Some c
+        → reading_of seen ≡ tree_in K.form (layout geo.now) (c Image) tree.now.group tree.now.root tree.now.levels) }
     ensures sound { IfOk result (IsSound K.form (bounds_of (layout geo.now) tree.now.group)) }
     ensures inside { IfOk result (λ seen. LieInside (group_len_of (layout geo.now) tree.now.group) (blocks_of (reading_of seen))) }
     ensures few { IfOk result (λ seen. (c : Contents) → D.content dev.old ≡ Some c → FewBlocks (reading_of seen)) }

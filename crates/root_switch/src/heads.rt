@@ -165,8 +165,10 @@ pub fn put_heads(heads: &Heads, block: &mut Block)
     ensures agf { agf_of block.new.bytes ≡ heads.now.agf }
     ensures agi { agi_of block.new.bytes ≡ heads.now.agi }
     ensures elsewhere { (k : ℕ) → k ≢ 1 → k ≢ 2 → sector k block.new.bytes ≡ sector k block.old.bytes }
-    ensures agf_accepted { (at : Layout) (g : ℕ) → IsOfGroup at g heads.now.agf.seqno heads.now.agf.length heads.now.agf.uuid → agf_fault at g block.new.bytes ≡ None }
-    ensures agi_accepted { (at : Layout) (g : ℕ) → IsOfGroup at g heads.now.agi.seqno heads.now.agi.length heads.now.agi.uuid → agi_fault at g block.new.bytes ≡ None }
+    ensures agf_accepted { (at : Layout) (g : ℕ) → IsOfGroup at g heads.now.agf.seqno heads.now.agf.length heads.now.agf.uuid
+        → agf_fault at g block.new.bytes ≡ None }
+    ensures agi_accepted { (at : Layout) (g : ℕ) → IsOfGroup at g heads.now.agi.seqno heads.now.agi.length heads.now.agi.uuid
+        → agi_fault at g block.new.bytes ≡ None }
 {
     heads.agf.encode(block);
     heads.agi.encode(block);

@@ -4,7 +4,6 @@ use Rattle.std.specs.Prelude.{◌≡◌, ◌<◌, ◌≤◌, ⊤, ℕ, ◌+◌, 
 use Rattle.fs_model.specs.declared.entry.Entry.{Entry}
 use Rattle.space_check.specs.declared.halt.Halt.{Halt}
 use Rattle.space_check.specs.declared.halt.Halt.TheVariants as halts
-use Rattle.space_check.specs.declared.journal.TheConstants.{MAX_ENTRIES}
 
 -- An event: how many blocks it reads, and what it adds.
 pub record Event : Type 0 where
@@ -21,7 +20,7 @@ entries_of (e ∷ es) = e.entries ++ entries_of es
 
 -- no event begins where the journal has so many entries, or more
 unfoldable pub most_entries : ℕ
-most_entries = MAX_ENTRIES
+most_entries = 1048576
 
 -- how far a check has come: its journal, and how many blocks were counted as read
 pub record Moment : Type 0 where

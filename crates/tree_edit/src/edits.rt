@@ -51,8 +51,10 @@ pub fn insert<K: RecKind, D: Device, L: Ledger>(
     requires inside { K.form.is_in_range (site_of (layout geo.now) tree.old.group).bounds rec ≡ true }
     requires supported { K.form.is_supported rec ≡ true }
     requires agreed { AgreesTold cache.old (D.content dev.old) }
-    ensures edited { OnOk result (IsEdited K.form (site_of (layout geo.now) tree.old.group) Edit.Insert rec (D.content dev.old) (held tree.old txn.old list.old limbo.old.items) (held tree.new txn.new list.new limbo.new.items)) }
-    ensures refused { IfErr result (RefusesEdit K.form (site_of (layout geo.now) tree.old.group) Edit.Insert rec (D.content dev.old) (held tree.old txn.old list.old limbo.old.items)) }
+    ensures edited { OnOk result (IsEdited K.form (site_of (layout geo.now) tree.old.group) Edit.Insert rec (D.content dev.old)
+        (held tree.old txn.old list.old limbo.old.items) (held tree.new txn.new list.new limbo.new.items)) }
+    ensures refused { IfErr result (RefusesEdit K.form (site_of (layout geo.now) tree.old.group) Edit.Insert rec (D.content dev.old)
+        (held tree.old txn.old list.old limbo.old.items)) }
     ensures below { AreBelow (D.blocks dev.old Image) txn.old.blocks → OnOk result (AreBelow (D.blocks dev.old Image) txn.new.blocks) }
     ensures marked { txn.new.marked ≡ txn.old.marked }
     ensures tree { IsSameTree tree.old tree.new }
@@ -94,8 +96,10 @@ pub fn remove<K: RecKind, D: Device, L: Ledger>(
     requires group { tree.old.group < geo.now.agcount }
     requires room { geo.now.dblocks ≤ D.blocks dev.old Image }
     requires agreed { AgreesTold cache.old (D.content dev.old) }
-    ensures edited { OnOk result (IsEdited K.form (site_of (layout geo.now) tree.old.group) Edit.Remove rec (D.content dev.old) (held tree.old txn.old list.old limbo.old.items) (held tree.new txn.new list.new limbo.new.items)) }
-    ensures refused { IfErr result (RefusesEdit K.form (site_of (layout geo.now) tree.old.group) Edit.Remove rec (D.content dev.old) (held tree.old txn.old list.old limbo.old.items)) }
+    ensures edited { OnOk result (IsEdited K.form (site_of (layout geo.now) tree.old.group) Edit.Remove rec (D.content dev.old)
+        (held tree.old txn.old list.old limbo.old.items) (held tree.new txn.new list.new limbo.new.items)) }
+    ensures refused { IfErr result (RefusesEdit K.form (site_of (layout geo.now) tree.old.group) Edit.Remove rec (D.content dev.old)
+        (held tree.old txn.old list.old limbo.old.items)) }
     ensures below { AreBelow (D.blocks dev.old Image) txn.old.blocks → OnOk result (AreBelow (D.blocks dev.old Image) txn.new.blocks) }
     ensures marked { txn.new.marked ≡ txn.old.marked }
     ensures tree { IsSameTree tree.old tree.new }
@@ -140,8 +144,10 @@ pub fn change<K: RecKind, D: Device, L: Ledger>(
     requires inside { K.form.is_in_range (site_of (layout geo.now) tree.old.group).bounds rec ≡ true }
     requires supported { K.form.is_supported rec ≡ true }
     requires agreed { AgreesTold cache.old (D.content dev.old) }
-    ensures edited { OnOk result (IsEdited K.form (site_of (layout geo.now) tree.old.group) Edit.Change rec (D.content dev.old) (held tree.old txn.old list.old limbo.old.items) (held tree.new txn.new list.new limbo.new.items)) }
-    ensures refused { IfErr result (RefusesEdit K.form (site_of (layout geo.now) tree.old.group) Edit.Change rec (D.content dev.old) (held tree.old txn.old list.old limbo.old.items)) }
+    ensures edited { OnOk result (IsEdited K.form (site_of (layout geo.now) tree.old.group) Edit.Change rec (D.content dev.old)
+        (held tree.old txn.old list.old limbo.old.items) (held tree.new txn.new list.new limbo.new.items)) }
+    ensures refused { IfErr result (RefusesEdit K.form (site_of (layout geo.now) tree.old.group) Edit.Change rec (D.content dev.old)
+        (held tree.old txn.old list.old limbo.old.items)) }
     ensures below { AreBelow (D.blocks dev.old Image) txn.old.blocks → OnOk result (AreBelow (D.blocks dev.old Image) txn.new.blocks) }
     ensures marked { txn.new.marked ≡ txn.old.marked }
     ensures tree { IsSameTree tree.old tree.new }

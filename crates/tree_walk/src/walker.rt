@@ -168,10 +168,12 @@ pub fn walk_site<K: RecKind, B: Blocks>(
     tree: &TreeAt,
 ) -> Result<TreeRead<K::Rec>, WalkFault>
     requires here { B.place blocks.old ≡ site.now }
-    ensures exact { (m : ℕ → List ℕ) → B.told blocks.old ≡ Some m → MeetsTree (read_tree K.form site.now m tree.now.root tree.now.levels) result }
+    ensures exact { (m : ℕ → List ℕ) → B.told blocks.old ≡ Some m
+        → MeetsTree (read_tree K.form site.now m tree.now.root tree.now.levels) result }
     ensures sound { IfOk result (λ read. AreSound K.form site.now.bounds read.recs.items) }
     ensures lie { IfOk result (λ read. LieInside site.now.bounds.length read.blocks.items) }
-    ensures counted { (m : ℕ → List ℕ) → B.told blocks.old ≡ Some m → HasRead (B.count blocks.old) (walked K.form site.now m tree.now.root tree.now.levels) (B.count blocks.new) result }
+    ensures counted { (m : ℕ → List ℕ) → B.told blocks.old ≡ Some m
+        → HasRead (B.count blocks.old) (walked K.form site.now m tree.now.root tree.now.levels) (B.count blocks.new) result }
     ensures reading { Reads B.Blocks blocks.old blocks.new }
     ensures cause { HasCause is_failed (B.faults blocks.old) (B.faults blocks.new) result }
     ensures each { IfOk result (λ read. B.count blocks.new ≡ B.count blocks.old + length read.blocks.items) }
