@@ -318,20 +318,20 @@ filtered j test (k ∷ ks) h = elim (test k) as (λ b. is_among j (cond b (k ∷
   | false ↦ filtered j test ks (in_rest j k ks h)
 ]
 
-moved_tree : (left ks : List Kind) (p q : Group) (j : Kind) → MovesBlocks left ks p q → is_among j ks ≡ false → Not j Rmap → q.tree j ≡ p.tree j
-moved_tree left ks p q j m h r =
+moved_tree : (kept : Bool) (left ks : List Kind) (p q : Group) (j : Kind) → MovesBlocks kept left ks p q → is_among j ks ≡ false → Not j Rmap → q.tree j ≡ p.tree j
+moved_tree kept left ks p q j m h r =
     ap (λ (s : Group). s.tree j) m.is
     ∙ followed left p (record (in_trees m.blocks ks p) { free_list = drop m.used p.free_list ++ m.freed; limbo = m.limbo }) j r
     ∙ in_place j m.blocks ks p h
 
-inside_tree : (left ks : List Kind) (p q : Group) (j : Kind) → Inside left ks p q → is_among j ks ≡ false → Not j Rmap → q.tree j ≡ p.tree j
-inside_tree left [] p q j i h r = ap (λ (s : Group). s.tree j) i
-inside_tree left (k ∷ ks) p q j i h r = moved_tree left (k ∷ ks) p q j i h r
+inside_tree : (kept : Bool) (left ks : List Kind) (p q : Group) (j : Kind) → Inside kept left ks p q → is_among j ks ≡ false → Not j Rmap → q.tree j ≡ p.tree j
+inside_tree kept left [] p q j i h r = ap (λ (s : Group). s.tree j) i
+inside_tree kept left (k ∷ ks) p q j i h r = moved_tree kept left (k ∷ ks) p q j i h r
 
 -- an entry that edits trees says so of reverse mappings too
-open_tree : (left : List Kind) (test : Kind → Bool) (ks : List Kind) (p q : Group) (j : Kind) → Inside left (filter test ks) p q → is_among j (with_owners ks) ≡ false → q.tree j ≡ p.tree j
-open_tree left test [] p q j i h = ap (λ (s : Group). s.tree j) i
-open_tree left test (k ∷ ks) p q j i h = inside_tree left (filter test (k ∷ ks)) p q j i (filtered j test (k ∷ ks) (in_rest j Rmap (k ∷ ks) h)) (is_first j Rmap (k ∷ ks) h)
+open_tree : (kept : Bool) (left : List Kind) (test : Kind → Bool) (ks : List Kind) (p q : Group) (j : Kind) → Inside kept left (filter test ks) p q → is_among j (with_owners ks) ≡ false → q.tree j ≡ p.tree j
+open_tree kept left test [] p q j i h = ap (λ (s : Group). s.tree j) i
+open_tree kept left test (k ∷ ks) p q j i h = inside_tree kept left (filter test (k ∷ ks)) p q j i (filtered j test (k ∷ ks) (in_rest j Rmap (k ∷ ks) h)) (is_first j Rmap (k ∷ ks) h)
 
 edits_only : (a : State) (e : Entry) (j : Kind) → is_among j (changed_kinds a e) ≡ false → is_among j (with_owners (edited_kinds a e)) ≡ false
 edits_only a (entries.Marked g k cause) j h = refl
@@ -347,5 +347,5 @@ edits_only a e j h = h
 pub keeps_other_trees : KeepsOtherTrees
 keeps_other_trees a b left e s j h =
     let g : ℕ = group_of_entry a e in
-    open_tree left (is_edited left (a.group g)) (edited_kinds a e) (s.decided.group g) (b.group g) j s.loosely.inside (edits_only a e j h)
+    open_tree a.geometry.inobtcount left (is_edited left (a.group g)) (edited_kinds a e) (s.decided.group g) (b.group g) j s.loosely.inside (edits_only a e j h)
     ∙ decided a s.decided left e s.row j h
