@@ -1,6 +1,6 @@
 -- Why an index is marked: what an edit of it met, in an entry that stands in the journal or in one that wasn't made; or
 -- what a choice met (Online Fsck Design, "Eventual Consistency").
-use Rattle.std.specs.Prelude.{◌≡◌, ◌⊎◌, ℕ, ◌*◌, ◌/◌, ◌<◌, ◌&&◌, nat_lt, Bool, true, false, List, [], ◌∷◌, ◌++◌, map, find, length, Some, if◌then◌else◌}
+use Rattle.std.specs.Prelude.{◌≡◌, ◌⊎◌, ℕ, ◌*◌, ◌/◌, ◌<◌, ◌&&◌, ◌||◌, nat_lt, Bool, true, false, List, [], ◌∷◌, ◌++◌, map, find, length, Some, if◌then◌else◌}
 use Rattle.std.specs.List.{list_any, list_all}
 use Rattle.fs_model.specs.declared.entry.Entry.{Entry}
 use Rattle.fs_model.specs.declared.entry.Entry.TheVariants as entries
@@ -29,7 +29,7 @@ use Rattle.fs_change.specs.Step.{MayMap, MayGive, MayRefill, MayTrim, MayReserve
 -- that can be read no block fails.
 abbrev pub Explains : State → ℕ → Kind → Met → Cause → Type 0
 Explains a g k m causes.Missing = m.lacks ≡ true
-Explains a g k m causes.Overlap = m.meets ≡ true
+Explains a g k m causes.Overlap = (m.meets || m.far) ≡ true
 Explains a g k m (causes.Short have need) = have < need
 Explains a g k m (causes.Large n) = (160 < n) × (list_any (λ j. nat_lt 24 (length (tree_blocks (a.group g) j))) all_kinds ≡ true)
 Explains a g k m (causes.Block block fault) = is_readable ((a.group g).tree k).reading ≡ false
