@@ -140,8 +140,8 @@ same_fork : (r : Result ForkList ForkFault) → SameFork r r
 same_fork (Ok list) = refl
 same_fork (Err fault) = refl
 
-inodes_stay : (g : ℕ) (a x : State) → InodesStay g a x x
-inodes_stay g a x = record {
+inodes_stay : (g : ℕ) (ks : List Kind) (a x : State) → InodesStay g ks a x x
+inodes_stay g ks a x = record {
   untouched = λ ino out. refl;
   chunks = λ h u. refl;
   cores = λ ino is. refl;
@@ -149,7 +149,7 @@ inodes_stay g a x = record {
 }
 
 pub stays : (g : ℕ) (left ks : List Kind) (a x : State) → AreWords (x.group g) → Loosely g left ks a x x
-stays g left ks a x h = record { geometry = refl; chains = refl; others = λ k out. refl; inside = inside a.geometry.inobtcount left ks (x.group g) h; inodes = inodes_stay g a x }
+stays g left ks a x h = record { geometry = refl; chains = refl; others = λ k out. refl; inside = inside a.geometry.inobtcount left ks (x.group g) h; inodes = inodes_stay g ks a x }
 
 pub decided_stands : DecidedStands
 decided_stands a x left e row leaves met h = record { decided = x; row = row; leaves = leaves; met = met; loosely = stays (group_of_entry a e) left (edited_in a left e) a x h }

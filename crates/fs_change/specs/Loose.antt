@@ -86,14 +86,14 @@ abbrev pub place_in : ℕ → Option (ℕ × ℕ) → (ℕ → Bool) → Bool
 place_in g None test = false
 place_in g (Some p) test = (p.0 == g) && test p.1
 
--- a tree had the block or has it, or it left the reserve
-abbrev pub is_touched : Group → Group → ℕ → Bool
-is_touched p q b = list_any (λ k. is_in b (tree_blocks p k) || is_in b (tree_blocks q k)) all_kinds || (is_in b (blocks_in p.reserve) && not (is_in b (blocks_in q.reserve)))
+-- a tree had the block or has it; or one edit had it from the list of x, and another gave it back; or it left the reserve
+abbrev pub is_touched : List Kind → Group → Group → Group → ℕ → Bool
+is_touched ks p x q b = list_any (λ k. is_in b (tree_blocks p k) || is_in b (tree_blocks q k)) all_kinds || list_any (λ k. is_in b x.free_list) ks || (is_in b (blocks_in p.reserve) && not (is_in b (blocks_in q.reserve)))
 
 -- What stays of inodes? All of other blocks, which chunks there are, and all of inodes in chunks; a fork that can't be
 -- read still can't.
-pub record InodesStay (g : ℕ) (a x b : State) : Type 0 where
-  pub untouched : (ino : ℕ) → place_in g (split_of a.geometry (ino / 8)) (is_touched (a.group g) (b.group g)) ≡ false → b.core ino ≡ x.core ino
+pub record InodesStay (g : ℕ) (ks : List Kind) (a x b : State) : Type 0 where
+  pub untouched : (ino : ℕ) → place_in g (split_of a.geometry (ino / 8)) (is_touched ks (a.group g) (x.group g) (b.group g)) ≡ false → b.core ino ≡ x.core ino
   pub chunks : (h u : ℕ) → is_chunk b h u ≡ is_chunk x h u
   pub cores : (ino : ℕ) → is_inode x ino ≡ true → b.core ino ≡ x.core ino
   pub forks : (ino : ℕ) (f : Fork) → is_inode x ino ≡ true → SameFork (x.fork ino f) (b.fork ino f)
@@ -105,4 +105,4 @@ pub record Loosely (g : ℕ) (left ks : List Kind) (a x b : State) : Type 0 wher
   pub chains : b.chains ≡ x.chains
   pub others : (h : ℕ) → (h ≡ g → ⊥) → b.group h ≡ x.group h
   pub inside : Inside a.geometry.inobtcount left ks (x.group g) (b.group g)
-  pub inodes : InodesStay g a x b
+  pub inodes : InodesStay g ks a x b
