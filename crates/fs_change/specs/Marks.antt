@@ -121,12 +121,12 @@ pub record LacksFirst (a : State) (g : ℕ) : Type 0 where
   pub chosen : free_inode a gates ≡ Some (g, inode)
   pub other : HasSame (records_in (a.group g) Ino) (records_in (a.group g) Fino) → ⊥
 
--- an event that makes no entry met it
+-- an event that makes no entry met it; a bad block is told of a tree that wasn't known to be bad
 abbrev pub IsLone : State → ℕ → Kind → Cause → Type 0
 IsLone a g Bno causes.Owner = IsOthers a g
 IsLone a g Ino causes.Owner = IsNotFree a g
 IsLone a g k causes.Owner = ⊥
-IsLone a g k (causes.Block block fault) = is_readable ((a.group g).tree k).reading ≡ false
+IsLone a g k (causes.Block block fault) = (sick_in (a.group g) k ≡ false) × (is_readable ((a.group g).tree k).reading ≡ false)
 IsLone a g Ino causes.Missing = LacksFirst a g ⊎ IsStopped a g Ino causes.Missing
 IsLone a g Rmap cause = IsStopped a g Rmap cause ⊎ IsStuck a g cause
 IsLone a g k cause = IsStopped a g k cause
