@@ -1,5 +1,5 @@
 -- An entry leaves the trees that it neither edits nor judges.
-use Rattle.std.proofs.Common.{◌≡◌, ℕ, ◌==◌, ◌||◌, Bool, true, false, not, cond, List, [], ◌∷◌, ◌++◌, filter, sym, ap, subst, refl, ◌∙◌, Option, Some, None, eq-eqb, drop}
+use Rattle.std.proofs.Common.{◌≡◌, ℕ, ◌==◌, ◌&&◌, ◌||◌, Bool, true, false, not, cond, List, [], ◌∷◌, ◌++◌, filter, sym, ap, subst, refl, ◌∙◌, Option, Some, None, eq-eqb, drop}
 use Rattle.std.proofs.lemmas.Bool.{true≢false}
 use Rattle.std.specs.Prelude.{if◌then◌else◌}
 use Rattle.fs_model.specs.declared.entry.Entry.{Entry}
@@ -30,7 +30,7 @@ use Rattle.fs_change.specs.Changes.{mapped, unmapped, converted, shared, rmap_do
 use Rattle.fs_change.specs.Laws.{KeepsOtherTrees, changed_kinds, with_owners}
 use Rattle.fs_change.specs.Loose.{Inside, MovesBlocks, owners_follow, owners_in, lost_to}
 use Rattle.fs_change.specs.Met.{give_each, take_each}
-use Rattle.fs_change.specs.Parts.{in_group, tree_only, change_tree, in_blocks, in_trees, with_recs, set_trust, set_trusts, edit, is_edited, records_in}
+use Rattle.fs_change.specs.Parts.{in_group, tree_only, change_tree, in_blocks, in_trees, with_recs, set_trust, set_trusts, edit, is_edited, sick_in, records_in}
 use Rattle.fs_change.specs.Records.{is_unwritten_at, set_count, span, by_start, take_span, give_span, give_mapping, take_mapping, put_chunk, turn_inode, follow_inode}
 use Rattle.fs_change.specs.Step.{Row, edits_count, edits_reserve, edits_reaped, edited_kinds, group_of_entry, group_of_inode}
 use Rattle.span_recs.specs.declared.refcount.RefcRec.{RefcRec}
@@ -154,16 +154,21 @@ unfolding rmap_done
 by_rmap left c g i rest a j at h = subst (λ (k : ℕ). Keeps a (in_group i.group (edit left Rmap (do_mapping i.kind i)) a) k j) at (own i.group (edit left Rmap (do_mapping i.kind i)) a j (λ p. edited left Rmap j (do_mapping i.kind i) p h))
 
 -- a change that is made or not, with the trees that it edits then
-changed_if : (c : Bool) (ks : List Kind) (p q : Group) (j : Kind) → is_among j (with_owners (if c then ks else [])) ≡ false → (is_among j (with_owners ks) ≡ false → q.tree j ≡ p.tree j) → (if c then q else p).tree j ≡ p.tree j
-changed_if true ks p q j h changes = changes h
-changed_if false ks p q j h changes = refl
+changed_if : (c sick : Bool) (ks : List Kind) (p q : Group) (j : Kind) → is_among j (with_owners (if c && not sick then ks else [])) ≡ false → (sick ≡ true → q.tree j ≡ p.tree j) → (is_among j (with_owners ks) ≡ false → q.tree j ≡ p.tree j) → (if c then q else p).tree j ≡ p.tree j
+changed_if true true ks p q j h stays changes = stays refl
+changed_if true false ks p q j h stays changes = changes h
+changed_if false sick ks p q j h stays changes = refl
+
+-- a sick tree isn't changed
+sick_stays : (left : List Kind) (f : List RefcRec → List RefcRec) (p : Group) (j : Kind) → sick_in p Refc ≡ true → (edit left Refc f p).tree j ≡ p.tree j
+sick_stays left f p j sick = ap (λ b. (cond (cond b false (cond (is_among Refc left) false true)) (change_tree Refc (λ i. record i { reading = with_recs (f (recs_of i.reading)) i.reading }) p) p).tree j) sick
 
 by_ref : (left : List Kind) (c g b n : ℕ) (more : Bool) (i : Intent) (rest : List Intent) (a : State) (j : Kind) → is_among j (with_owners (edits_count (a.group g) b more)) ≡ false → Keeps a (ref_done left c more (record { group = g; block = b; count = n }) i rest a) g j
 unfolding ref_done
 by_ref left c g b n more i rest a j h =
     let f : List RefcRec → List RefcRec = λ recs. set_count b n (new_count more recs b) recs in
     own_here g (change_count left more (record { group = g; block = b; count = n })) a j
-    (changed_if (changes_count more (records_in (a.group g) Refc) b) (Refc ∷ Rmap ∷ []) (a.group g) (edit left Refc f (a.group g)) j h (λ k. edited left Refc j f (a.group g) (is_first j Refc (Rmap ∷ []) (in_rest j Rmap (Refc ∷ Rmap ∷ []) k))))
+    (changed_if (changes_count more (records_in (a.group g) Refc) b) (sick_in (a.group g) Refc) (Refc ∷ Rmap ∷ []) (a.group g) (edit left Refc f (a.group g)) j h (sick_stays left f (a.group g) j) (λ k. edited left Refc j f (a.group g) (is_first j Refc (Rmap ∷ []) (in_rest j Rmap (Refc ∷ Rmap ∷ []) k))))
 
 by_freed : (left : List Kind) (c g b n : ℕ) (rest : List Intent) (a : State) (j : Kind) → Not j Bno → Not j Cnt → Keeps a (freed left c false (record { group = g; block = b; count = n }) rest a) g j
 unfolding freed

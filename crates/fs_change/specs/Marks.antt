@@ -19,7 +19,7 @@ use Rattle.fs_derive.specs.Kinds.{all_kinds}
 use Rattle.fs_derive.specs.Lists.{numbers}
 use Rattle.fs_change.specs.Choice.{extent, chosen_of, is_free_unit, free_inode, inode_of}
 use Rattle.fs_change.specs.Edited.{group_of_inode, group_of_entry, edited_in, met_by}
-use Rattle.fs_change.specs.Loose.{tree_blocks, pool_of, met_by_moves}
+use Rattle.fs_change.specs.Loose.{tree_blocks, owners_in, lost_to, pool_of, met_by_moves}
 use Rattle.fs_change.specs.Met.{Met, and_then, met_moving}
 use Rattle.fs_change.specs.Parts.{sick_in, records_in}
 use Rattle.fs_change.specs.Step.{MayMap, MayGive, MayRefill, MayTrim, MayReserve, IsTaken, HasSame, is_owned}
@@ -37,9 +37,10 @@ Explains a g k m causes.Owner = ⊥
 
 -- ---- marks behind an entry
 
--- why a mark is due: the tree was left, or an owner was found
+-- why a mark is due: the tree was left, or an owner was found. A tree that no edit asked for isn't marked.
 pub data Why : Type 0 where
   EditMet : (met : Met) → Why
+  NoEdit : Why
   FoundOwner : Why
 
 -- a mark that has to stand next, and the state before its entry
@@ -51,6 +52,7 @@ pub record Due : Type 0 where
 
 abbrev pub IsReason : State → ℕ → Kind → Why → Cause → Type 0
 IsReason a g k (EditMet m) cause = Explains a g k m cause
+IsReason a g k NoEdit cause = ⊥
 IsReason a g k FoundOwner causes.Owner = Unit {0}
 IsReason a g k FoundOwner cause = ⊥
 
@@ -63,6 +65,11 @@ abbrev pub met_in : State → State → State → Entry → Kind → Met
 met_in a x b e Rmap = and_then (met_by a e Rmap) (met_by_moves (x.group (group_of_entry a e)) (b.group (group_of_entry a e)))
 met_in a x b e k = met_by a e k
 
+-- where a step of reference counts moves no block to another owner, it doesn't edit reverse mappings
+abbrev pub why_left : State → State → State → Entry → Kind → Why
+why_left a x y (entries.RefDone c g b n more) Rmap = if nat_lt 0 (length (lost_to (owners_in (x.group g)) (owners_in (y.group g)))) then EditMet (met_in a x y (entries.RefDone c g b n more) Rmap) else NoEdit
+why_left a x y e k = EditMet (met_in a x y e k)
+
 -- a run is kept because it has an owner: reference counts are wrong. And an owner of a run that was to be taken shows that
 -- both indexes of free space are.
 abbrev pub owners_due : State → Entry → List Due
@@ -71,7 +78,7 @@ owners_due a (entries.Marked g Bno causes.Owner) = record { before = a; group = 
 owners_due a e = []
 
 abbrev pub dues : State → List Kind → Entry → State → State → List Due
-dues a left e x b = map (λ k. record { before = a; group = group_of_entry a e; kind = k; why = EditMet (met_in a x b e k) }) left ++ owners_due a e
+dues a left e x b = map (λ k. record { before = a; group = group_of_entry a e; kind = k; why = why_left a x b e k }) left ++ owners_due a e
 
 -- ---- marks by themselves
 
