@@ -1,6 +1,6 @@
 -- Why an index is marked: what an edit of it met, in an entry that stands in the journal or in one that wasn't made; or
 -- what a choice met (Online Fsck Design, "Eventual Consistency").
-use Rattle.std.specs.Prelude.{◌≡◌, ◌⊎◌, ℕ, ◌*◌, ◌/◌, ◌<◌, ◌&&◌, ◌||◌, nat_lt, Bool, true, false, List, [], ◌∷◌, ◌++◌, map, find, length, Some, if◌then◌else◌}
+use Rattle.std.specs.Prelude.{◌≡◌, ◌⊎◌, ℕ, ◌*◌, ◌/◌, ◌<◌, ◌==◌, ◌&&◌, ◌||◌, nat_lt, Bool, true, false, List, [], ◌∷◌, ◌++◌, map, find, length, Some, None, if◌then◌else◌}
 use Rattle.std.specs.List.{list_any, list_all}
 use Rattle.fs_model.specs.declared.entry.Entry.{Entry}
 use Rattle.fs_model.specs.declared.entry.Entry.TheVariants as entries
@@ -8,21 +8,24 @@ use Rattle.fs_model.specs.declared.entry.Extent.{Extent}
 use Rattle.fs_model.specs.declared.fault.Cause.{Cause}
 use Rattle.fs_model.specs.declared.fault.Cause.TheVariants as causes
 use Rattle.geom.specs.Layout.{group_len_of}
+use Rattle.rmap_recs.specs.Owners.{number_of}
+use Rattle.rmap_recs.specs.declared.owner.Owner.TheVariants.{Ag, Inobt}
 use Rattle.sblock.specs.declared.kind.Kind.{Kind}
 use Rattle.sblock.specs.declared.kind.Kind.TheVariants.{Bno, Cnt, Rmap, Refc, Ino, Fino}
-use Rattle.tree_defs.specs.Lists.{is_in}
+use Rattle.tree_defs.specs.Lists.{AllDiffer, is_in}
 use Rattle.fs_state.specs.Apart.{unit_verifies}
 use Rattle.fs_state.specs.Group.{is_among}
-use Rattle.fs_state.specs.State.{State, Owned, is_readable}
+use Rattle.fs_state.specs.State.{State, Owned, blocks_in, is_readable}
 use Rattle.fs_derive.specs.Derive.{is_free}
 use Rattle.fs_derive.specs.Kinds.{all_kinds}
 use Rattle.fs_derive.specs.Lists.{numbers}
 use Rattle.fs_change.specs.Choice.{extent, chosen_of, is_free_unit, free_inode, inode_of}
 use Rattle.fs_change.specs.Edited.{group_of_inode, group_of_entry, edited_in, met_by}
-use Rattle.fs_change.specs.Loose.{tree_blocks, owners_in, lost_to, pool_of, met_by_moves}
+use Rattle.fs_change.specs.Loose.{tree_blocks, owners_in, lost_to, met_by_moves}
 use Rattle.fs_change.specs.Met.{Met, and_then, met_moving}
 use Rattle.fs_change.specs.Parts.{sick_in, records_in}
 use Rattle.fs_change.specs.Step.{MayMap, MayGive, MayRefill, MayTrim, MayReserve, IsTaken, HasSame, is_owned}
+use Rattle.fs_change.specs.Switch.{has_owned}
 
 -- the cause says what the edit met. A list that is too short, or a batch that is too large, is met between an entry's
 -- edits, where no state stands: of these numbers no more is said than that they are too small, or too great. In a tree
@@ -92,19 +95,37 @@ IsWanted a (entries.Trimmed e) = MayTrim a e
 IsWanted a (entries.Reserved g unit b true) = MayReserve a [] g unit b true
 IsWanted a e = ⊥
 
+-- the row itself asks for an edit of the tree; beside these reverse mappings follow moved blocks alone
+abbrev pub is_asked : Entry → Kind → Bool
+is_asked (entries.Taken writer ino uid None) Rmap = false
+is_asked (entries.Given writer ino) Rmap = false
+is_asked e k = true
+
 -- its edit of this tree meets what the cause says
 pub record IsStopped (a : State) (g : ℕ) (k : Kind) (cause : Cause) : Type 0 where
   pub entry : Entry
   pub wanted : IsWanted a entry
   pub group : group_of_entry a entry ≡ g
+  pub asked : is_asked entry k ≡ true
   pub edits : is_among k (edited_in a [] entry) ≡ true
   pub explains : Explains a g k (met_by a entry k) cause
 
--- or reverse mappings couldn't follow blocks that it would have moved
+-- blocks of the inode btrees have one owner, and those of the list and of the other trees that are edited with them another
+abbrev pub may_turn : Owned → Bool
+may_turn o = (o.owner == number_of Ag) || (o.owner == number_of Inobt)
+
+-- or reverse mappings couldn't follow blocks that it would have moved, into an inode btree or out of one
 pub record IsStuck (a : State) (g : ℕ) (cause : Cause) : Type 0 where
+  pub entry : Entry
+  pub wanted : IsWanted a entry
+  pub group : group_of_entry a entry ≡ g
+  pub edits : (is_among Rmap (edited_in a [] entry) && is_among Ino (edited_in a [] entry)) ≡ true
   pub old : List Owned
   pub new : List Owned
-  pub pool : list_all (λ o. is_in o.block (pool_of (a.group g))) (old ++ new) ≡ true
+  pub some : 0 < length old
+  pub had : list_all (λ o. may_turn o && has_owned (owners_in (record (a.group g) { limbo = [] })) o) old ≡ true
+  pub turned : list_all (λ o. may_turn o && is_in o.block (blocks_in old)) new ≡ true
+  pub once : AllDiffer (blocks_in old) × AllDiffer (blocks_in new)
   pub explains : Explains a g Rmap (met_moving old new (records_in (a.group g) Rmap)) cause
 
 -- of a run that would be taken, for some wanted count or for a chunk, reverse mappings know an owner
