@@ -1,13 +1,12 @@
 -- Why an index is marked: what an edit of it met, in an entry that stands in the journal or in one that wasn't made; or
 -- what a choice met (Online Fsck Design, "Eventual Consistency").
-use Rattle.std.specs.Prelude.{◌≡◌, ◌⊎◌, ℕ, ◌*◌, ◌/◌, ◌<◌, ◌==◌, ◌&&◌, ◌||◌, nat_lt, Bool, true, false, List, [], ◌∷◌, ◌++◌, map, find, length, Some, None, if◌then◌else◌}
+use Rattle.std.specs.Prelude.{◌≡◌, ◌⊎◌, ℕ, ◌/◌, ◌<◌, ◌==◌, ◌&&◌, ◌||◌, nat_lt, Bool, true, false, List, [], ◌∷◌, ◌++◌, map, length, Some, None, if◌then◌else◌}
 use Rattle.std.specs.List.{list_any, list_all}
 use Rattle.fs_model.specs.declared.entry.Entry.{Entry}
 use Rattle.fs_model.specs.declared.entry.Entry.TheVariants as entries
 use Rattle.fs_model.specs.declared.entry.Extent.{Extent}
 use Rattle.fs_model.specs.declared.fault.Cause.{Cause}
 use Rattle.fs_model.specs.declared.fault.Cause.TheVariants as causes
-use Rattle.geom.specs.Layout.{group_len_of}
 use Rattle.rmap_recs.specs.Owners.{number_of}
 use Rattle.rmap_recs.specs.declared.owner.Owner.TheVariants.{Ag, Inobt}
 use Rattle.sblock.specs.declared.kind.Kind.{Kind}
@@ -18,8 +17,7 @@ use Rattle.fs_state.specs.Group.{is_among}
 use Rattle.fs_state.specs.State.{State, Owned, blocks_in, is_readable}
 use Rattle.fs_derive.specs.Derive.{is_free}
 use Rattle.fs_derive.specs.Kinds.{all_kinds}
-use Rattle.fs_derive.specs.Lists.{numbers}
-use Rattle.fs_change.specs.Choice.{extent, chosen_of, is_free_unit, free_inode, inode_of}
+use Rattle.fs_change.specs.Choice.{chosen, free_inode, chunk_run, inode_of}
 use Rattle.fs_change.specs.Edited.{group_of_inode, group_of_entry, edited_in, met_by}
 use Rattle.fs_change.specs.Loose.{tree_blocks, owners_in, lost_to, met_by_moves}
 use Rattle.fs_change.specs.Met.{Met, and_then, met_moving}
@@ -128,10 +126,13 @@ pub record IsStuck (a : State) (g : ℕ) (cause : Cause) : Type 0 where
   pub once : AllDiffer (blocks_in old) × AllDiffer (blocks_in new)
   pub explains : Explains a g Rmap (met_moving old new (records_in (a.group g) Rmap)) cause
 
--- of a run that would be taken, for some wanted count or for a chunk, reverse mappings know an owner
+-- of a run that would be taken, for some wanted count, or for a chunk where no inode is free, reverse mappings know an owner
 pub record IsOthers (a : State) (g : ℕ) : Type 0 where
+  pub gates : ℕ → Bool
   pub run : Extent
-  pub chosen : ((count : ℕ) × (chosen_of a count (g ∷ []) ≡ Some run)) ⊎ ((u : ℕ) × (find (is_free_unit (records_in (a.group g) Bno)) (numbers 0 (group_len_of a.geometry g / 8)) ≡ Some u) × (run ≡ extent g (8 * u) 8))
+  pub choice : ((count : ℕ) × (ino : ℕ) × (chosen a gates count ino ≡ Some run)) ⊎ ((free_inode a gates ≡ None) × (chunk_run a gates ≡ Some run))
+  pub group : run.group ≡ g
+  pub some : 0 < run.count
   pub owned : is_owned a run ≡ true
 
 -- the inode that would be taken is allocated, or a core of its chunk doesn't verify
