@@ -1,6 +1,6 @@
 -- What an entry of the journal says of the states before and after it (Online Fsck Design, "Eventual Consistency", "Live
 -- Updates"; formats of entries: fs_model).
-use Rattle.std.specs.Prelude.{◌≡◌, ◌⊎◌, ℕ, ◌*◌, ◌/◌, ◌<◌, ◌≤◌, ◌==◌, ◌&&◌, ◌||◌, nat_lt, Bool, true, false, List, [], ◌∷◌, length, slice_get, Option, Some, None, Result, Ok, Err, is_ok, Contains, if◌then◌else◌}
+use Rattle.std.specs.Prelude.{◌≡◌, ◌⊎◌, ℕ, ◌-◌, ◌*◌, ◌/◌, ◌<◌, ◌≤◌, ◌==◌, ◌&&◌, ◌||◌, nat_lt, Bool, true, false, List, [], ◌∷◌, length, slice_get, Option, Some, None, Result, Ok, Err, is_ok, Contains, if◌then◌else◌}
 use Rattle.std.specs.List.{list_any, list_all}
 use Rattle.dinode_core.specs.declared.mapping.Fork.{Fork}
 use Rattle.dinode_core.specs.declared.mapping.Fork.TheVariants as forks
@@ -139,11 +139,15 @@ pub record MayGive (a : State) (ino : ℕ) : Type 0 where
 
 -- ---- the free list
 
+-- so many blocks a short list is filled to
+abbrev pub filled_list : ℕ
+filled_list = 16
+
 pub record MayRefill (a : State) (e : Extent) : Type 0 where
   pub some : 0 < e.count
   pub sound : none_sick space_kinds (a.group e.group) ≡ true
   pub short : length (a.group e.group).free_list < 12
-  pub chosen : (count : ℕ) × (chosen_of a count (e.group ∷ []) ≡ Some e)
+  pub chosen : chosen_of a (filled_list - length (a.group e.group).free_list) (e.group ∷ []) ≡ Some e
   pub unowned : is_owned a e ≡ false
 
 pub record MayTrim (a : State) (e : Extent) : Type 0 where
