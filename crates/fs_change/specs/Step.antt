@@ -1,6 +1,6 @@
 -- What an entry of the journal says of the states before and after it (Online Fsck Design, "Eventual Consistency", "Live
 -- Updates"; formats of entries: fs_model).
-use Rattle.std.specs.Prelude.{◌≡◌, ◌⊎◌, ℕ, ◌-◌, ◌*◌, ◌/◌, ◌<◌, ◌≤◌, ◌==◌, ◌&&◌, ◌||◌, nat_lt, Bool, true, false, List, [], ◌∷◌, length, slice_get, Option, Some, None, Result, Ok, Err, is_ok, Contains, if◌then◌else◌}
+use Rattle.std.specs.Prelude.{◌≡◌, ◌⊎◌, ℕ, ◌-◌, ◌*◌, ◌/◌, ◌<◌, ◌≤◌, ◌==◌, ◌&&◌, ◌||◌, nat_lt, Bool, true, false, not, List, [], ◌∷◌, length, slice_get, Option, Some, None, Result, Ok, Err, is_ok, Contains, if◌then◌else◌}
 use Rattle.std.specs.List.{list_any, list_all}
 use Rattle.dinode_core.specs.declared.mapping.Fork.{Fork}
 use Rattle.dinode_core.specs.declared.mapping.Fork.TheVariants as forks
@@ -32,7 +32,7 @@ use Rattle.fs_derive.specs.Kinds.{unit_of, kinds_of}
 use Rattle.fs_derive.specs.Lists.{numbers}
 use Rattle.fs_change.specs.Chains.{most_chains, pending, gives, takes, Quiet}
 use Rattle.fs_change.specs.Changes.{extent_of, data_of, mapped, unmapped, converted, shared, rmap_done, ref_done, freed, taken, given, refilled, trimmed, marked, judged, reserved, released, owner_of_run, reaped}
-use Rattle.fs_change.specs.Choice.{is_guarded, none_sick, space_kinds, piece_kinds, chosen, chosen_of, spare_block, free_inode, chunk_run, inode_of}
+use Rattle.fs_change.specs.Choice.{is_guarded, is_bit, none_sick, space_kinds, piece_kinds, inode_kinds, chosen, chosen_of, spare_block, free_inode, chunk_run, inode_of}
 pub use Rattle.fs_change.specs.Edited.{group_of_inode, group_of_entry, edits_count, edits_reserve, edits_reaped, edited_kinds, edited_in, may_leave, met_by, leaves_faults}
 use Rattle.fs_change.specs.Loose.{Loosely}
 use Rattle.fs_change.specs.Parts.{sick_in, records_in}
@@ -130,10 +130,15 @@ abbrev pub IsEmptyFork : Result ForkList ForkFault → Type 0
 IsEmptyFork (Ok list) = list.mappings ≡ []
 IsEmptyFork (Err fault) = ⊥
 
+-- its record says so too
+abbrev pub is_allocated : ℕ → List InoRec → Bool
+is_allocated i rs = list_any (λ r. has_inode i r && not (is_bit r.free (i - r.startino))) rs
+
 -- an allocated inode, both forks of which can be read and are empty
 pub record MayGive (a : State) (ino : ℕ) : Type 0 where
   pub inode : is_inode a ino ≡ true
   pub allocated : is_free (a.core ino) ≡ false
+  pub sound : none_sick inode_kinds (a.group (group_of_inode a ino)) ≡ true
   pub empty : (f : Fork) → IsEmptyFork (a.fork ino f)
   pub none_pending : list_any (is_mapping_of ino) (pending a) ≡ false
 
@@ -216,7 +221,7 @@ Row a left (entries.Freed c g b n kept) x =
 Row a left (entries.Taken writer ino uid chunk) x =
     (i : ℕ) × IsTaken a (group_of_inode a ino) i chunk × (ino ≡ inode_of a (group_of_inode a ino) i) × (x ≡ taken (group_of_inode a ino) i ino uid chunk a)
 Row a left (entries.Given writer ino) x =
-    (i : ℕ) × MayGive a ino × (list_any (has_inode i) (records_in (a.group (group_of_inode a ino)) Ino) ≡ true) × (ino ≡ inode_of a (group_of_inode a ino) i) × (x ≡ given (group_of_inode a ino) i ino a)
+    (i : ℕ) × MayGive a ino × (is_allocated i (records_in (a.group (group_of_inode a ino)) Ino) ≡ true) × (ino ≡ inode_of a (group_of_inode a ino) i) × (x ≡ given (group_of_inode a ino) i ino a)
 Row a left (entries.Refilled e) x = MayRefill a e × (x ≡ refilled e a)
 Row a left (entries.Trimmed e) x = MayTrim a e × (x ≡ trimmed e a)
 Row a left (entries.Marked g k cause) x = MayMark cause × (x ≡ marked g k a)
