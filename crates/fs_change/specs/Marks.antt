@@ -1,6 +1,6 @@
 -- Why an index is marked: what an edit of it met, in an entry that stands in the journal or in one that wasn't made; or
 -- what a choice met (Online Fsck Design, "Eventual Consistency").
-use Rattle.std.specs.Prelude.{◌≡◌, ◌⊎◌, ℕ, ◌/◌, ◌<◌, ◌==◌, ◌&&◌, ◌||◌, nat_lt, Bool, true, false, List, [], ◌∷◌, ◌++◌, map, length, Some, None, if◌then◌else◌}
+use Rattle.std.specs.Prelude.{◌≡◌, ◌⊎◌, ℕ, ◌+◌, ◌*◌, ◌/◌, ◌<◌, ◌==◌, ◌&&◌, ◌||◌, nat_lt, Bool, true, false, List, [], ◌∷◌, ◌++◌, map, length, Some, None, if◌then◌else◌}
 use Rattle.std.specs.List.{list_any, list_all}
 use Rattle.fs_model.specs.declared.entry.Entry.{Entry}
 use Rattle.fs_model.specs.declared.entry.Entry.TheVariants as entries
@@ -23,24 +23,29 @@ use Rattle.fs_change.specs.Loose.{tree_blocks, owners_in, lost_to, met_by_moves}
 use Rattle.fs_change.specs.Met.{Met, and_then, met_moving}
 use Rattle.fs_change.specs.Parts.{sick_in, records_in}
 use Rattle.fs_change.specs.Step.{MayMap, MayGive, MayRefill, MayTrim, MayReserve, IsTaken, HasSame, is_owned}
-use Rattle.fs_change.specs.Switch.{has_owned}
+use Rattle.fs_change.specs.Switch.{has_owned, need_of}
 
--- the cause says what the edit met. A list that is too short, or a batch that is too large, is met between an entry's
--- edits, where no state stands: of these numbers no more is said than that they are too small, or too great. In a tree
--- that can be read no block fails.
-abbrev pub Explains : State → ℕ → Kind → Met → Cause → Type 0
-Explains a g k m causes.Missing = m.lacks ≡ true
-Explains a g k m causes.Overlap = (m.meets || m.far) ≡ true
-Explains a g k m (causes.Short have need) = have < need
-Explains a g k m (causes.Large n) = (160 < n) × (list_any (λ j. nat_lt 24 (length (tree_blocks (a.group g) j))) all_kinds ≡ true)
-Explains a g k m (causes.Block block fault) = is_readable ((a.group g).tree k).reading ≡ false
-Explains a g k m causes.Owner = ⊥
+-- the edits of a tree put in so many records at most: two that are left of one that they cut, and a new one, and as many
+-- for each block that gets another owner
+abbrev pub most_put : ℕ → ℕ
+most_put moved = 3 + 3 * moved
+
+-- the cause says what the edits met, where they put in at most so many records. A list that is too short, or a batch that
+-- is too large, is met between an entry's edits, where no state stands: these numbers are too small, or too great, and only
+-- a tree that may outgrow a leaf needs a block. In a tree that can be read no block fails.
+abbrev pub Explains : State → ℕ → Kind → Met → ℕ → Cause → Type 0
+Explains a g k m most causes.Missing = m.lacks ≡ true
+Explains a g k m most causes.Overlap = (m.meets || m.far) ≡ true
+Explains a g k m most (causes.Short have need) = (have < need) × (1 < need_of k (length (records_in (a.group g) k) + most))
+Explains a g k m most (causes.Large n) = (160 < n) × (list_any (λ j. nat_lt 24 (length (tree_blocks (a.group g) j))) all_kinds ≡ true)
+Explains a g k m most (causes.Block block fault) = is_readable ((a.group g).tree k).reading ≡ false
+Explains a g k m most causes.Owner = ⊥
 
 -- ---- marks behind an entry
 
 -- why a mark is due: the tree was left, or an owner was found. A tree that no edit asked for isn't marked.
 pub data Why : Type 0 where
-  EditMet : (met : Met) → Why
+  EditMet : (met : Met) → (most : ℕ) → Why
   NoEdit : Why
   FoundOwner : Why
 
@@ -52,7 +57,7 @@ pub record Due : Type 0 where
   pub why : Why
 
 abbrev pub IsReason : State → ℕ → Kind → Why → Cause → Type 0
-IsReason a g k (EditMet m) cause = Explains a g k m cause
+IsReason a g k (EditMet m most) cause = Explains a g k m most cause
 IsReason a g k NoEdit cause = ⊥
 IsReason a g k FoundOwner causes.Owner = Unit {0}
 IsReason a g k FoundOwner cause = ⊥
@@ -67,9 +72,13 @@ met_in a x b e Rmap = and_then (met_by a e Rmap) (met_by_moves (x.group (group_o
 met_in a x b e k = met_by a e k
 
 -- where a step of reference counts moves no block to another owner, it doesn't edit reverse mappings
+abbrev pub count_moved : State → State → ℕ → ℕ
+count_moved x y g = length (lost_to (owners_in (x.group g)) (owners_in (y.group g)))
+
 abbrev pub why_left : State → State → State → Entry → Kind → Why
-why_left a x y (entries.RefDone c g b n more) Rmap = if nat_lt 0 (length (lost_to (owners_in (x.group g)) (owners_in (y.group g)))) then EditMet (met_in a x y (entries.RefDone c g b n more) Rmap) else NoEdit
-why_left a x y e k = EditMet (met_in a x y e k)
+why_left a x y (entries.RefDone c g b n more) Rmap = if nat_lt 0 (count_moved x y g) then EditMet (met_in a x y (entries.RefDone c g b n more) Rmap) (most_put (count_moved x y g)) else NoEdit
+why_left a x y e Rmap = EditMet (met_in a x y e Rmap) (most_put (count_moved x y (group_of_entry a e)))
+why_left a x y e k = EditMet (met_in a x y e k) (most_put 0)
 
 -- a run is kept because it has an owner: reference counts are wrong. And an owner of a run that was to be taken shows that
 -- both indexes of free space are.
@@ -106,7 +115,7 @@ pub record IsStopped (a : State) (g : ℕ) (k : Kind) (cause : Cause) : Type 0 w
   pub group : group_of_entry a entry ≡ g
   pub asked : is_asked entry k ≡ true
   pub edits : is_among k (edited_in a [] entry) ≡ true
-  pub explains : Explains a g k (met_by a entry k) cause
+  pub explains : Explains a g k (met_by a entry k) (most_put 0) cause
 
 -- blocks of the inode btrees have one owner, and those of the list and of the other trees that are edited with them another
 abbrev pub may_turn : Owned → Bool
@@ -124,7 +133,7 @@ pub record IsStuck (a : State) (g : ℕ) (cause : Cause) : Type 0 where
   pub had : list_all (λ o. may_turn o && has_owned (owners_in (record (a.group g) { limbo = [] })) o) old ≡ true
   pub turned : list_all (λ o. may_turn o && is_in o.block (blocks_in old)) new ≡ true
   pub once : AllDiffer (blocks_in old) × AllDiffer (blocks_in new)
-  pub explains : Explains a g Rmap (met_moving old new (records_in (a.group g) Rmap)) cause
+  pub explains : Explains a g Rmap (met_moving old new (records_in (a.group g) Rmap)) (most_put (length old)) cause
 
 -- of a run that would be taken, for some wanted count, or for a chunk where no inode is free, reverse mappings know an owner
 pub record IsOthers (a : State) (g : ℕ) : Type 0 where

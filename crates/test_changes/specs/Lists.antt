@@ -98,10 +98,13 @@ NeedGrows =
     × (need reserved_one 0 units.Rmap ≡ 3) × (spare_block reserved_one 0 units.Rmap ≡ Some 20)
     × (need reserved_three 0 units.Rmap ≡ 3) × (count Rmap 169 0 0 ≡ 85) × (count Rmap 169 0 1 ≡ 84)
 
--- ---- a step whose edit finds too short a list leaves reverse mappings, and is followed by their mark
+-- ---- a step whose edit finds a full leaf and an empty list leaves reverse mappings, and is followed by their mark
+
+abbrev pub crowd : State → State
+crowd a = in_group 0 (λ p. change_tree Rmap (λ i. tree_of (5 ∷ []) (map (λ k. owned (40 + k) 1 195 (2 * k + 100)) (numbers 0 168))) (record p { free_list = [] })) a
 
 abbrev pub before_step : State
-before_step = mapped (piece 0 32 6) file_made
+before_step = crowd (mapped (piece 0 32 6) file_made)
 
 abbrev pub left_alone : State
 left_alone = rmap_done (Rmap ∷ []) 0 (first_of (before_step.chains 0)) (rest_of (before_step.chains 0)) before_step
@@ -111,7 +114,7 @@ and_marked = marked 0 Rmap left_alone
 
 abbrev pub LeftAlone : Type 0
 LeftAlone =
-    Leads before_step (done 32 6 ∷ entries.Marked 0 Rmap (Short 0 1) ∷ []) and_marked
+    Leads before_step (done 32 6 ∷ entries.Marked 0 Rmap (Short 0 2) ∷ []) and_marked
     × (records_in (and_marked.group 0) Rmap ≡ records_in (before_step.group 0) Rmap)
     × (((and_marked.group 0).tree Rmap).trust ≡ Sick)
 
