@@ -108,12 +108,18 @@ is_asked (entries.Taken writer ino uid None) Rmap = false
 is_asked (entries.Given writer ino) Rmap = false
 is_asked e k = true
 
+-- a trimming whose batch would be too large is refused, and nothing is marked
+abbrev pub is_refused : Entry → Cause → Bool
+is_refused (entries.Trimmed e) (causes.Large n) = true
+is_refused e cause = false
+
 -- its edit of this tree meets what the cause says
 pub record IsStopped (a : State) (g : ℕ) (k : Kind) (cause : Cause) : Type 0 where
   pub entry : Entry
   pub wanted : IsWanted a entry
   pub group : group_of_entry a entry ≡ g
   pub asked : is_asked entry k ≡ true
+  pub marks : is_refused entry cause ≡ false
   pub edits : is_among k (edited_in a [] entry) ≡ true
   pub explains : Explains a g k (met_by a entry k) (most_put 0) cause
 
