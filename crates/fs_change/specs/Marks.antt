@@ -1,6 +1,6 @@
 -- Why an index is marked: what an edit of it met, in an entry that stands in the journal or in one that wasn't made; or
 -- what a choice met (Online Fsck Design, "Eventual Consistency").
-use Rattle.std.specs.Prelude.{◌≡◌, ◌⊎◌, ℕ, ◌+◌, ◌*◌, ◌/◌, ◌<◌, ◌==◌, ◌&&◌, ◌||◌, nat_lt, Bool, true, false, List, [], ◌∷◌, ◌++◌, map, length, Some, None, if◌then◌else◌}
+use Rattle.std.specs.Prelude.{◌≡◌, ◌⊎◌, ℕ, ◌+◌, ◌*◌, ◌/◌, ◌<◌, ◌==◌, ◌&&◌, ◌||◌, nat_lt, Bool, true, false, not, List, [], ◌∷◌, ◌++◌, map, filter, length, Some, None, if◌then◌else◌}
 use Rattle.std.specs.List.{list_any, list_all}
 use Rattle.fs_model.specs.declared.entry.Entry.{Entry}
 use Rattle.fs_model.specs.declared.entry.Entry.TheVariants as entries
@@ -87,8 +87,13 @@ owners_due a (entries.Freed c g b n true) = if sick_in (a.group g) Rmap then [] 
 owners_due a (entries.Marked g Bno causes.Owner) = record { before = a; group = g; kind = Cnt; why = FoundOwner } ∷ []
 owners_due a e = []
 
+-- each of these once
+abbrev pub once_each : List Kind → List Kind
+once_each [] = []
+once_each (k ∷ ks) = k ∷ filter (λ j. not (is_among j (k ∷ []))) (once_each ks)
+
 abbrev pub dues : State → List Kind → Entry → State → State → List Due
-dues a left e x b = map (λ k. record { before = a; group = group_of_entry a e; kind = k; why = why_left a x b e k }) left ++ owners_due a e
+dues a left e x b = map (λ k. record { before = a; group = group_of_entry a e; kind = k; why = why_left a x b e k }) (once_each left) ++ owners_due a e
 
 -- ---- marks by themselves
 
