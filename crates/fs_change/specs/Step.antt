@@ -205,6 +205,10 @@ pub record MayReap (a : State) (e : Extent) (owner : ℕ) : Type 0 where
 
 -- ---- all rows
 
+-- the group is one of the image's
+abbrev pub HasGroup : State → ℕ → Type 0
+HasGroup a g = nat_lt g a.geometry.agcount ≡ true
+
 -- What does an entry say, where the trees `left` were left as they were? A row for each: what must hold before, and the
 -- state that it decides.
 abbrev pub Row : State → List Kind → Entry → State → Type 0
@@ -224,11 +228,11 @@ Row a left (entries.Given writer ino) x =
     (i : ℕ) × MayGive a ino × (is_allocated i (records_in (a.group (group_of_inode a ino)) Ino) ≡ true) × (ino ≡ inode_of a (group_of_inode a ino) i) × (x ≡ given (group_of_inode a ino) i ino a)
 Row a left (entries.Refilled e) x = MayRefill a e × (x ≡ refilled e a)
 Row a left (entries.Trimmed e) x = MayTrim a e × (x ≡ trimmed e a)
-Row a left (entries.Marked g k cause) x = MayMark cause × (x ≡ marked g k a)
+Row a left (entries.Marked g k cause) x = HasGroup a g × MayMark cause × (x ≡ marked g k a)
 Row a left (entries.Reserved g unit b spare) x = MayReserve a left g unit b spare × (x ≡ reserved left g unit b spare a)
 Row a left (entries.Released g unit) x = MayRelease a g unit × (x ≡ released g a)
-Row a left (entries.Fault g unit fault) x = (unit ≡ unit_of (kind_of_fault fault)) × (x ≡ marked g (kind_of_fault fault) a)
-Row a left (entries.Verdict g unit verdict) x = x ≡ judged g unit verdict a
+Row a left (entries.Fault g unit fault) x = HasGroup a g × (unit ≡ unit_of (kind_of_fault fault)) × (x ≡ marked g (kind_of_fault fault) a)
+Row a left (entries.Verdict g unit verdict) x = HasGroup a g × (x ≡ judged g unit verdict a)
 Row a left (entries.Switched g unit root second) x =
     (blocks : Kind → List ℕ) × MaySwitch a g unit × AreLaid (kind_need a g unit) (kinds_of unit) (blocks_in (a.group g).reserve) blocks × AreRoots (kinds_of unit) blocks root second × (x ≡ switched a g unit blocks)
 Row a left (entries.Reaped e) x = MayReap a e (owner_of_run (a.group e.group) e) × (x ≡ reaped left (owner_of_run (a.group e.group) e) e a)

@@ -147,11 +147,15 @@ pub reap_step : (a : State) (b n : ℕ) → nat_lt 0 n ≡ true → ((a.group 0)
 reap_step a b n some good there w =
     stands a (reaped [] (owner_of_run (a.group 0) (extent 0 b n)) (extent 0 b n) a) (entries.Reaped (extent 0 b n)) (record { some = ltb-true 0 n some; good = good; in_limbo = there }, refl) w
 
-pub fault_step : (a : State) (unit : ScrubUnit) (fault : Fault) → unit ≡ unit_of (kind_of_fault fault) → is_sound a (entries.Fault 0 unit fault) (marked 0 (kind_of_fault fault) a) ≡ true → Step a [] (entries.Fault 0 unit fault) (marked 0 (kind_of_fault fault) a)
-fault_step a unit fault is w = stands a (marked 0 (kind_of_fault fault) a) (entries.Fault 0 unit fault) (is, refl) w
+pub fault_step : (a : State) (unit : ScrubUnit) (fault : Fault) → unit ≡ unit_of (kind_of_fault fault) → (nat_lt 0 a.geometry.agcount && is_sound a (entries.Fault 0 unit fault) (marked 0 (kind_of_fault fault) a)) ≡ true → Step a [] (entries.Fault 0 unit fault) (marked 0 (kind_of_fault fault) a)
+fault_step a unit fault is w =
+    let v = and_parts (nat_lt 0 a.geometry.agcount) (is_sound a (entries.Fault 0 unit fault) (marked 0 (kind_of_fault fault) a)) w in
+    stands a (marked 0 (kind_of_fault fault) a) (entries.Fault 0 unit fault) (v.0, is, refl) v.1
 
-pub verdict_step : (a : State) (unit : ScrubUnit) (verdict : Verdict) → is_sound a (entries.Verdict 0 unit verdict) (judged 0 unit verdict a) ≡ true → Step a [] (entries.Verdict 0 unit verdict) (judged 0 unit verdict a)
-verdict_step a unit verdict w = stands a (judged 0 unit verdict a) (entries.Verdict 0 unit verdict) refl w
+pub verdict_step : (a : State) (unit : ScrubUnit) (verdict : Verdict) → (nat_lt 0 a.geometry.agcount && is_sound a (entries.Verdict 0 unit verdict) (judged 0 unit verdict a)) ≡ true → Step a [] (entries.Verdict 0 unit verdict) (judged 0 unit verdict a)
+verdict_step a unit verdict w =
+    let v = and_parts (nat_lt 0 a.geometry.agcount) (is_sound a (entries.Verdict 0 unit verdict) (judged 0 unit verdict a)) w in
+    stands a (judged 0 unit verdict a) (entries.Verdict 0 unit verdict) (v.0, refl) v.1
 
 -- a step that leaves reverse mappings
 abbrev pub is_left : State → ℕ → ℕ → State → Bool
