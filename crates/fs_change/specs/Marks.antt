@@ -7,6 +7,8 @@ use Rattle.fs_model.specs.declared.entry.Entry.TheVariants as entries
 use Rattle.fs_model.specs.declared.entry.Extent.{Extent}
 use Rattle.fs_model.specs.declared.fault.Cause.{Cause}
 use Rattle.fs_model.specs.declared.fault.Cause.TheVariants as causes
+use Rattle.fs_model.specs.declared.unit.Unit.{Unit as ScrubUnit}
+use Rattle.fs_model.specs.declared.unit.Unit.TheVariants as units
 use Rattle.rmap_recs.specs.Owners.{number_of}
 use Rattle.rmap_recs.specs.declared.owner.Owner.TheVariants.{Ag, Inobt}
 use Rattle.sblock.specs.declared.kind.Kind.{Kind}
@@ -104,7 +106,7 @@ IsWanted a (entries.Taken writer ino uid chunk) = (i : ℕ) × IsTaken a (group_
 IsWanted a (entries.Given writer ino) = MayGive a ino
 IsWanted a (entries.Refilled e) = MayRefill a e
 IsWanted a (entries.Trimmed e) = MayTrim a e
-IsWanted a (entries.Reserved g unit b true) = MayReserve a [] g unit b true
+IsWanted a (entries.Reserved g units.Free b true) = MayReserve a [] g units.Free b true
 IsWanted a e = ⊥
 
 -- the row itself asks for an edit of the tree; beside these reverse mappings follow moved blocks alone
@@ -146,6 +148,15 @@ pub record IsStuck (a : State) (g : ℕ) (cause : Cause) : Type 0 where
   pub once : AllDiffer (blocks_in old) × AllDiffer (blocks_in new)
   pub explains : Explains a g Rmap (met_moving old new (records_in (a.group g) Rmap)) (most_put (length old)) cause
 
+-- a spare block isn't reserved where its edits of free space and of reverse mappings both meet a fault
+pub record IsUnnoted (a : State) (g : ℕ) (cause : Cause) : Type 0 where
+  pub unit : ScrubUnit
+  pub block : ℕ
+  pub spare : MayReserve a [] g unit block true
+  pub edits : (is_among Bno (edited_in a [] (entries.Reserved g unit block true)) && is_among Rmap (edited_in a [] (entries.Reserved g unit block true))) ≡ true
+  pub other : (free : Cause) × Explains a g Bno (met_by a (entries.Reserved g unit block true) Bno) (most_put 0) free
+  pub explains : Explains a g Rmap (met_by a (entries.Reserved g unit block true) Rmap) (most_put 0) cause
+
 -- of a run that would be taken, for some wanted count, or for a chunk where no inode is free, reverse mappings know an owner
 pub record IsOthers (a : State) (g : ℕ) : Type 0 where
   pub gates : ℕ → Bool
@@ -177,7 +188,7 @@ IsLone a g Ino causes.Owner = IsNotFree a g
 IsLone a g k causes.Owner = ⊥
 IsLone a g k (causes.Block block fault) = (sick_in (a.group g) k ≡ false) × (is_readable ((a.group g).tree k).reading ≡ false)
 IsLone a g Ino causes.Missing = LacksFirst a g ⊎ IsStopped a g Ino causes.Missing
-IsLone a g Rmap cause = IsStopped a g Rmap cause ⊎ IsStuck a g cause
+IsLone a g Rmap cause = IsStopped a g Rmap cause ⊎ IsStuck a g cause ⊎ IsUnnoted a g cause
 IsLone a g k cause = IsStopped a g k cause
 
 abbrev pub MayStandAlone : State → Entry → Type 0
