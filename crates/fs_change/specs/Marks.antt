@@ -73,10 +73,11 @@ abbrev pub met_in : State → State → State → Entry → Kind → Met
 met_in a x b e Rmap = and_then (met_by a e Rmap) (met_by_moves (x.group (group_of_entry a e)) (b.group (group_of_entry a e)))
 met_in a x b e k = met_by a e k
 
--- where a step of reference counts moves no block to another owner, it doesn't edit reverse mappings
+-- how many blocks got another owner
 abbrev pub count_moved : State → State → ℕ → ℕ
 count_moved x y g = length (lost_to (owners_in (x.group g)) (owners_in (y.group g)))
 
+-- where a step of reference counts moves none so, it doesn't edit reverse mappings
 abbrev pub why_left : State → State → State → Entry → Kind → Why
 why_left a x y (entries.RefDone c g b n more) Rmap = if nat_lt 0 (count_moved x y g) then EditMet (met_in a x y (entries.RefDone c g b n more) Rmap) (most_put (count_moved x y g)) else NoEdit
 why_left a x y e Rmap = EditMet (met_in a x y e Rmap) (most_put (count_moved x y (group_of_entry a e)))
