@@ -1,5 +1,5 @@
 -- Journals and sessions one after the other.
-use Rattle.std.proofs.Common.{◌≡◌, ℕ, ◌==◌, ◌||◌, ◌&&◌, Bool, true, false, List, [], ◌∷◌, ◌++◌, subst, refl, ap, ap₂, ◌∙◌, eq-eqb}
+use Rattle.std.proofs.Common.{◌≡◌, ℕ, ◌==◌, ◌||◌, ◌&&◌, Bool, true, false, List, [], ◌∷◌, ◌++◌, subst, refl, ap, ap₂, eq-eqb}
 use Rattle.std.specs.List.{list_all}
 use Rattle.tree_defs.specs.Lists.{is_in}
 use Rattle.fs_model.specs.declared.entry.Entry.{Entry}
