@@ -46,6 +46,10 @@ is_met_near start meets recs s = option_map_or (λ r. meets r s) (last_at start 
 abbrev pub any_near : {R : Type 0} → (R → ℕ) → (R → R → Bool) → (R → R → Bool) → List R → List R → List R → Bool
 any_near start same meets out new recs = list_any (is_met_near start meets (filter (λ r. not (list_any (same r) out)) recs)) new
 
+-- records that go and records that come, where they are sought so
+abbrev pub met_by_start : {R : Type 0} → (R → ℕ) → (R → R → Bool) → (R → R → Bool) → Bool → List R → List R → List R → Met
+met_by_start start same meets lacks out new recs = record { lacks = lacks; meets = any_near start same meets out new recs; far = any_meets same meets out new recs }
+
 -- ---- free space
 
 abbrev pub do_overlap : SpanRec → SpanRec → Bool
@@ -54,18 +58,24 @@ do_overlap r s = nat_lt r.start (end_of s) && nat_lt s.start (end_of r)
 abbrev pub rests : List SpanRec → SpanRec → List SpanRec
 rests rs run = option_map_or (rest_of run) (holder_of rs run) []
 
+abbrev pub met_spans : Bool → List SpanRec → List SpanRec → List SpanRec → Met
+met_spans lacks out new rs = met_by_start (λ r. r.start) is_same_span do_overlap lacks out new rs
+
+abbrev pub met_spans_count : Bool → List SpanRec → List SpanRec → List SpanRec → Met
+met_spans_count lacks out new recs = record { lacks = lacks; meets = any_meets is_same_span is_same_span out new recs; far = false }
+
 -- a run that leaves the records by start, or those by count, and one that joins them
 abbrev pub met_taking : List SpanRec → SpanRec → Met
-met_taking rs run = record { lacks = not (is_some (holder_of rs run)); meets = any_near (λ r. r.start) is_same_span do_overlap (option_to_list (holder_of rs run)) (rests rs run) rs; far = any_meets is_same_span do_overlap (option_to_list (holder_of rs run)) (rests rs run) rs }
+met_taking rs run = met_spans (not (is_some (holder_of rs run))) (option_to_list (holder_of rs run)) (rests rs run) rs
 
 abbrev pub met_taking_count : List SpanRec → SpanRec → List SpanRec → Met
-met_taking_count rs run recs = record { lacks = not (option_map_or (has_span recs) (holder_of rs run) false); meets = any_meets is_same_span is_same_span (option_to_list (holder_of rs run)) (rests rs run) recs; far = false }
+met_taking_count rs run recs = met_spans_count (not (option_map_or (has_span recs) (holder_of rs run) false)) (option_to_list (holder_of rs run)) (rests rs run) recs
 
 abbrev pub met_giving : List SpanRec → SpanRec → Met
-met_giving rs run = record { lacks = false; meets = any_near (λ r. r.start) is_same_span do_overlap (beside_run rs run) (joined_run rs run ∷ []) rs; far = any_meets is_same_span do_overlap (beside_run rs run) (joined_run rs run ∷ []) rs }
+met_giving rs run = met_spans false (beside_run rs run) (joined_run rs run ∷ []) rs
 
 abbrev pub met_giving_count : List SpanRec → SpanRec → List SpanRec → Met
-met_giving_count rs run recs = record { lacks = not (list_all (has_span recs) (beside_run rs run)); meets = any_meets is_same_span is_same_span (beside_run rs run) (joined_run rs run ∷ []) recs; far = false }
+met_giving_count rs run recs = met_spans_count (not (list_all (has_span recs) (beside_run rs run))) (beside_run rs run) (joined_run rs run ∷ []) recs
 
 -- ---- reverse mappings
 
@@ -124,11 +134,14 @@ met_moving old new recs = and_then (met_losing_each old recs) (met_gaining_each 
 abbrev pub do_count_overlap : RefcRec → RefcRec → Bool
 do_count_overlap r s = nat_lt r.start (refc_end s) && nat_lt s.start (refc_end r)
 
+abbrev pub met_counts : List RefcRec → List RefcRec → List RefcRec → Met
+met_counts out new rs = met_by_start (λ r. r.start) is_same_count do_count_overlap false out new rs
+
 abbrev pub met_cutting : List RefcRec → ℕ → ℕ → Met
-met_cutting rs b n = record { lacks = false; meets = any_near (λ r. r.start) is_same_count do_count_overlap (option_to_list (counter_of rs b)) (option_map_or (count_rest b n) (counter_of rs b) []) rs; far = any_meets is_same_count do_count_overlap (option_to_list (counter_of rs b)) (option_map_or (count_rest b n) (counter_of rs b) []) rs }
+met_cutting rs b n = met_counts (option_to_list (counter_of rs b)) (option_map_or (count_rest b n) (counter_of rs b) []) rs
 
 abbrev pub met_joining : List RefcRec → ℕ → ℕ → ℕ → Met
-met_joining rs b n v = record { lacks = false; meets = any_near (λ r. r.start) is_same_count do_count_overlap (option_to_list (count_before rs b v) ++ option_to_list (count_behind rs (b + n) v)) (joined_counts rs b n v ∷ []) rs; far = any_meets is_same_count do_count_overlap (option_to_list (count_before rs b v) ++ option_to_list (count_behind rs (b + n) v)) (joined_counts rs b n v ∷ []) rs }
+met_joining rs b n v = met_counts (option_to_list (count_before rs b v) ++ option_to_list (count_behind rs (b + n) v)) (joined_counts rs b n v ∷ []) rs
 
 -- a stretch that gets a new count
 abbrev pub met_counting : ℕ → ℕ → ℕ → List RefcRec → Met
