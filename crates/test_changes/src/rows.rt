@@ -1,6 +1,6 @@
 ghost use Rattle.test_changes.specs.Crashes.{ClaimsKept, CutReserved, CutRun, CutSwitched, EitherRoot, GivenUpSpace, GivenUpWhole};
 ghost use Rattle.test_changes.specs.Scans.{BehindCursor, HeldInode};
-ghost use Rattle.test_changes.specs.Files.{ConvertedPiece, CutUnmapping, GrowingFile, MappedHalfway, OwnerFound, SharedPieceRow, ShrinkingFile};
+ghost use Rattle.test_changes.specs.Files.{ConvertedPiece, CutUnmapping, GrowingFile, MappedHalfway, MarkedOnce, OwnerFound, SharedPieceRow, ShrinkingFile};
 ghost use Rattle.test_changes.specs.Lists.{ChunkMade, Forgotten, InodeBlocks, LeftAlone, ListMoves, NeedGrows};
 ghost use Rattle.test_changes.specs.Refused.{NotToBeFreed, NotToBeGiven, NotToBeMarked, NotToBeShared, NotToBeSwitched, NotToBeTaken, NothingToDo, OwnedSpace, SayTooMuch};
 ghost use Rattle.test_changes.specs.Repairs.{NoBlockLeft, RebuiltFreeSpace, RebuiltInodes, RebuiltMappings, TreeSizes};
@@ -183,4 +183,9 @@ pub fn not_to_be_marked()
 /// A list isn't filled above 16 blocks, no inode is given back by a sick btree, and no group is named that isn't there.
 pub fn not_to_be_given()
     ensures { NotToBeGiven }
+{}
+
+/// A step of counts that moves no block leaves reverse mappings unmarked, and no tree is marked twice.
+pub fn marked_once()
+    ensures { MarkedOnce }
 {}
