@@ -152,4 +152,4 @@ pub stays : (g : ℕ) (left ks : List Kind) (a x : State) → AreWords (x.group 
 stays g left ks a x h = record { geometry = refl; chains = refl; others = λ k out. refl; inside = inside a.geometry.inobtcount left ks (x.group g) h; inodes = inodes_stay g ks a x }
 
 pub decided_stands : DecidedStands
-decided_stands a x left e row leaves met h = record { decided = x; row = row; leaves = leaves; met = met; loosely = stays (group_of_entry a e) left (edited_in a left e) a x h }
+decided_stands a x left e row leaves met h = record { decided = x; row = row; leaves = leaves; met = met; uncut = λ asked same. refl; loosely = stays (group_of_entry a e) left (edited_in a left e) a x h }

@@ -87,6 +87,13 @@ edited_kinds a (entries.Reserved g unit b spare) = edits_reserve unit spare
 edited_kinds a (entries.Reaped e) = edits_reaped (a.group e.group) e
 edited_kinds a e = []
 
+-- whether the row itself asks for an edit of the tree: beside these reverse mappings follow moved blocks alone
+abbrev pub is_asked : Entry → Kind → Bool
+is_asked (entries.RefDone c g b n more) Rmap = false
+is_asked (entries.Taken writer ino uid None) Rmap = false
+is_asked (entries.Given writer ino) Rmap = false
+is_asked e k = true
+
 -- those that aren't sick and weren't left
 abbrev pub edited_in : State → List Kind → Entry → List Kind
 edited_in a left e = filter (is_edited left (a.group (group_of_entry a e))) (edited_kinds a e)

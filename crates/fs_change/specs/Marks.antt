@@ -20,7 +20,7 @@ use Rattle.fs_state.specs.State.{State, Owned, blocks_in, is_readable}
 use Rattle.fs_derive.specs.Derive.{is_free}
 use Rattle.fs_derive.specs.Kinds.{all_kinds}
 use Rattle.fs_change.specs.Choice.{chosen, free_inode, chunk_run, inode_of}
-use Rattle.fs_change.specs.Edited.{group_of_inode, group_of_entry, edited_in, met_by}
+use Rattle.fs_change.specs.Edited.{group_of_inode, group_of_entry, is_asked, edited_in, met_by}
 use Rattle.fs_change.specs.Loose.{tree_blocks, owners_in, lost_to, met_by_moves}
 use Rattle.fs_change.specs.Met.{Met, and_then, met_moving}
 use Rattle.fs_change.specs.Parts.{sick_in, records_in}
@@ -77,10 +77,11 @@ met_in a x b e k = met_by a e k
 abbrev pub count_moved : State → State → ℕ → ℕ
 count_moved x y g = length (lost_to (owners_in (x.group g)) (owners_in (y.group g)))
 
--- where a step of reference counts moves none so, it doesn't edit reverse mappings
+-- reverse mappings that only follow aren't edited where none did
 abbrev pub why_left : State → State → State → Entry → Kind → Why
-why_left a x y (entries.RefDone c g b n more) Rmap = if nat_lt 0 (count_moved x y g) then EditMet (met_in a x y (entries.RefDone c g b n more) Rmap) (most_put (count_moved x y g)) else NoEdit
-why_left a x y e Rmap = EditMet (met_in a x y e Rmap) (most_put (count_moved x y (group_of_entry a e)))
+why_left a x y e Rmap =
+    let moved : ℕ = count_moved x y (group_of_entry a e) in
+    if is_asked e Rmap || nat_lt 0 moved then EditMet (met_in a x y e Rmap) (most_put moved) else NoEdit
 why_left a x y e k = EditMet (met_in a x y e k) (most_put 0)
 
 -- a run is kept because it has an owner: reference counts are wrong. And an owner of a run that was to be taken shows that
@@ -109,12 +110,6 @@ IsWanted a (entries.Refilled e) = MayRefill a e
 IsWanted a (entries.Trimmed e) = MayTrim a e
 IsWanted a (entries.Reserved g units.Free b true) = MayReserve a [] g units.Free b true
 IsWanted a e = ⊥
-
--- the row itself asks for an edit of the tree; beside these reverse mappings follow moved blocks alone
-abbrev pub is_asked : Entry → Kind → Bool
-is_asked (entries.Taken writer ino uid None) Rmap = false
-is_asked (entries.Given writer ino) Rmap = false
-is_asked e k = true
 
 -- a trimming whose batch would be too large is refused, and nothing is marked
 abbrev pub is_refused : Entry → Cause → Bool

@@ -33,8 +33,8 @@ use Rattle.fs_derive.specs.Lists.{numbers}
 use Rattle.fs_change.specs.Chains.{most_chains, pending, gives, takes, Quiet}
 use Rattle.fs_change.specs.Changes.{extent_of, data_of, mapped, unmapped, converted, shared, rmap_done, ref_done, freed, taken, given, refilled, trimmed, marked, judged, reserved, released, owner_of_run, reaped}
 use Rattle.fs_change.specs.Choice.{is_guarded, is_bit, none_sick, space_kinds, piece_kinds, inode_kinds, chosen, chosen_of, spare_block, free_inode, chunk_run, inode_of}
-pub use Rattle.fs_change.specs.Edited.{group_of_inode, group_of_entry, edits_count, edits_reserve, edits_reaped, edited_kinds, edited_in, may_leave, met_by, leaves_faults}
-use Rattle.fs_change.specs.Loose.{Loosely}
+pub use Rattle.fs_change.specs.Edited.{group_of_inode, group_of_entry, edits_count, edits_reserve, edits_reaped, edited_kinds, is_asked, edited_in, may_leave, met_by, leaves_faults}
+use Rattle.fs_change.specs.Loose.{Loosely, owners_in, lost_to, tree_blocks}
 use Rattle.fs_change.specs.Parts.{sick_in, records_in}
 use Rattle.fs_change.specs.Records.{count_at, most_counted, stretch, has_inode, is_piece, is_unmapped, is_unwritten_at}
 use Rattle.fs_change.specs.Switch.{has_owned, owned_by, is_reserve_of, AreLaid, kind_need, need, switched}
@@ -240,6 +240,10 @@ Row a left (entries.Reply writer line code done refused begun) x = x ≡ a
 
 -- ---- steps of a state
 
+-- where reverse mappings only follow, and no block got another owner, they aren't cut anew
+abbrev pub AreUncut : Entry → Group → Group → Type 0
+AreUncut e p q = is_asked e Rmap ≡ false → lost_to (owners_in p) (owners_in q) ≡ [] → tree_blocks q Rmap ≡ tree_blocks p Rmap
+
 -- What does an entry say of the states before and after it? The row holds, each tree whose edit meets a fault is left, and
 -- the second state is the one that the row decides, but for what is left open.
 pub record Step (a : State) (left : List Kind) (e : Entry) (b : State) : Type 0 where
@@ -247,4 +251,5 @@ pub record Step (a : State) (left : List Kind) (e : Entry) (b : State) : Type 0 
   pub row : Row a left e decided
   pub leaves : list_all (λ k. is_among k (may_leave a e)) left ≡ true
   pub met : leaves_faults a left e ≡ true
+  pub uncut : AreUncut e (decided.group (group_of_entry a e)) (b.group (group_of_entry a e))
   pub loosely : Loosely (group_of_entry a e) left (edited_in a left e) a decided b

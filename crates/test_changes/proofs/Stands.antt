@@ -173,5 +173,6 @@ leaves_one a b n i rest next group block some count sort ino whole w =
       row = (i, rest, is_next a b n i rest next group block some count, sort, ino, whole, refl);
       leaves = u.0;
       met = v.0;
+      uncut = λ asked same. refl;
       loosely = stays 0 (Rmap ∷ []) (edited_in a (Rmap ∷ []) (entries.RmapDone 0 195 0 b n)) a x (words (x.group 0) v.1);
     }
