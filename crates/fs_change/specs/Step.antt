@@ -72,15 +72,21 @@ pub record MayMap (a : State) (m : Piece) : Type 0 where
   pub chosen : IsChosen a m.ino (extent_of m)
   pub unowned : is_owned a (extent_of m) ≡ false
 
+-- a piece that is taken away, shared or made written has so many blocks at most
+abbrev pub most_changed : ℕ
+most_changed = 1024
+
 -- the piece is one of the inode's data fork
 pub record MayChange (a : State) (m : Piece) : Type 0 where
   pub some : 0 < m.count
+  pub most : m.count ≤ most_changed
   pub first : IsFirst a m.chain m.ino
   pub sound : none_sick piece_kinds (a.group m.group) ≡ true
   pub piece : is_piece m.offset (fs_block_of a.geometry m.group m.block) m.count (data_of a m.ino) ≡ true
 
 pub record MayShare (a : State) (m : SharedPiece) : Type 0 where
   pub some : 0 < m.count
+  pub most : m.count ≤ most_changed
   pub from_first : IsFirst a m.chain m.from
   pub to_first : IsFirst a m.chain m.to
   pub sound : none_sick piece_kinds (a.group m.group) ≡ true

@@ -120,10 +120,11 @@ pub first : (a : State) (ino : ℕ) → is_inode a ino ≡ true → is_free (a.c
 first a ino there used readable nothing none =
     record { file = record { inode = there; allocated = used; readable = readable }; open_chain = ltb-true 0 16 refl; owes_nothing = nothing; none_pending = none }
 
-pub changes : (a : State) (m : Piece) → m.chain ≡ 0 → nat_lt 0 m.count ≡ true → IsFirst a m.chain m.ino → (is_piece m.offset (fs_block_of a.geometry m.group m.block) m.count (data_of a m.ino) && none_sick piece_kinds (a.group m.group)) ≡ true → MayChange a m
+pub changes : (a : State) (m : Piece) → m.chain ≡ 0 → (nat_lt 0 m.count && nat_le m.count 1024) ≡ true → IsFirst a m.chain m.ino → (is_piece m.offset (fs_block_of a.geometry m.group m.block) m.count (data_of a m.ino) && none_sick piece_kinds (a.group m.group)) ≡ true → MayChange a m
 changes a m chain some is_first there =
     let v = and_parts (is_piece m.offset (fs_block_of a.geometry m.group m.block) m.count (data_of a m.ino)) (none_sick piece_kinds (a.group m.group)) there in
-    record { some = ltb-true 0 m.count some; first = is_first; sound = v.1; piece = v.0 }
+    let u = and_parts (nat_lt 0 m.count) (nat_le m.count 1024) some in
+    record { some = ltb-true 0 m.count u.0; most = leb-true m.count 1024 u.1; first = is_first; sound = v.1; piece = v.0 }
 
 -- ---- rebuilding
 
