@@ -18,7 +18,7 @@ use Rattle.fs_change.specs.Chains.{settled_forks, settled_own, is_quiet}
 use Rattle.fs_change.specs.Changes.{mapped, unmapped, converted, shared, rmap_done, ref_done, freed, taken, marked, data_of, give_owner}
 use Rattle.fs_change.specs.Choice.{extent}
 use Rattle.fs_change.specs.Loose.{is_touched}
-use Rattle.fs_change.specs.Marks.{Why, why_left, once_each}
+use Rattle.fs_change.specs.Marks.{why_left, once_each}
 use Rattle.fs_change.specs.Marks.Why.{NoEdit}
 use Rattle.fs_change.specs.Parts.{in_group, records_in}
 use Rattle.fs_change.specs.Run.{Leads}
