@@ -1,5 +1,7 @@
 -- Journals and sessions one after the other.
-use Rattle.std.proofs.Common.{List, [], ◌∷◌, ◌++◌, subst, refl}
+use Rattle.std.proofs.Common.{◌≡◌, ℕ, ◌==◌, ◌||◌, ◌&&◌, Bool, true, false, List, [], ◌∷◌, ◌++◌, subst, refl, ap, ap₂, eq-eqb}
+use Rattle.std.specs.List.{list_all}
+use Rattle.tree_defs.specs.Lists.{is_in}
 use Rattle.fs_model.specs.declared.entry.Entry.{Entry}
 use Rattle.fs_state.specs.State.{State, Group, Reading, Readable, Unreadable}
 use Rattle.fs_change.specs.Laws.{LeadsCompose, SessionsBegin, SessionsCompose}
@@ -23,9 +25,18 @@ sessions_compose a b c (j ∷ js) ks l m = (l.0, l.1, l.2, l.3, sessions_compose
 
 -- ---- what a new session may begin with
 
+passes_still : (x y : Bool) → y ≡ true → (x || y) ≡ true
+passes_still true y h = refl
+passes_still false y h = h
+
+-- all blocks of a list are in another that has them
+all_in : (bs cs : List ℕ) → ((b : ℕ) → is_in b bs ≡ true → is_in b cs ≡ true) → list_all (λ b. is_in b cs) bs ≡ true
+all_in [] cs h = refl
+all_in (b ∷ bs) cs h = ap₂ (λ x y. x && y) (h b (ap (λ x. x || is_in b bs) (eq-eqb b b refl))) (all_in bs cs (λ c i. h c (passes_still (b == c) (is_in c bs) i)))
+
 same_reading : {R : Type 0} (r : Reading R) → KeepsReading r r
 same_reading (Readable recs blocks) = refl
-same_reading (Unreadable block fault claims) = tt
+same_reading (Unreadable block fault claims) = all_in claims claims (λ b i. i)
 
 group_forgets : (p : Group) → GroupForgets p (forgotten_group p)
 group_forgets p = record {

@@ -90,24 +90,26 @@ owners_stay left p =
 same_number : (c n : ℕ) → c < 2 ^ 32 → follow c n n ≡ c
 same_number c n h = omega arith
 
-same_counter : (p : Group) → AreWords p → (name : Counter) → block_counter p p name ≡ p.counters name
-same_counter p h Iblocks = same_number (p.counters Iblocks) (length (tree_blocks p Ino)) (h Iblocks)
-same_counter p h Fblocks = same_number (p.counters Fblocks) (length (tree_blocks p Fino)) (h Fblocks)
-same_counter p h RmapBlocks = same_number (p.counters RmapBlocks) (length (tree_blocks p Rmap)) (h RmapBlocks)
-same_counter p h RefcountBlocks = same_number (p.counters RefcountBlocks) (length (tree_blocks p Refc)) (h RefcountBlocks)
-same_counter p h Btreeblks = same_number (p.counters Btreeblks) (length (tree_blocks p Bno) + length (tree_blocks p Cnt) + length (tree_blocks p Rmap)) (h Btreeblks)
-same_counter p h Count = refl
-same_counter p h Freecount = refl
-same_counter p h Freeblks = refl
-same_counter p h Longest = refl
+same_counter : (kept : Bool) (p : Group) → AreWords p → (name : Counter) → block_counter kept p p name ≡ p.counters name
+same_counter false p h Iblocks = refl
+same_counter false p h Fblocks = refl
+same_counter true p h Iblocks = same_number (p.counters Iblocks) (length (tree_blocks p Ino)) (h Iblocks)
+same_counter true p h Fblocks = same_number (p.counters Fblocks) (length (tree_blocks p Fino)) (h Fblocks)
+same_counter kept p h RmapBlocks = same_number (p.counters RmapBlocks) (length (tree_blocks p Rmap)) (h RmapBlocks)
+same_counter kept p h RefcountBlocks = same_number (p.counters RefcountBlocks) (length (tree_blocks p Refc)) (h RefcountBlocks)
+same_counter kept p h Btreeblks = same_number (p.counters Btreeblks) (length (tree_blocks p Bno) + length (tree_blocks p Cnt) + length (tree_blocks p Rmap)) (h Btreeblks)
+same_counter kept p h Count = refl
+same_counter kept p h Freecount = refl
+same_counter kept p h Freeblks = refl
+same_counter kept p h Longest = refl
 
 -- ---- all of a group
 
-laid_in_place : (left ks : List Kind) (p : Group) → AreWords p → p ≡ laid_out left ks (tree_blocks p) (drop 0 p.free_list ++ []) p.limbo p
-laid_in_place left ks p h =
+laid_in_place : (kept : Bool) (left ks : List Kind) (p : Group) → AreWords p → p ≡ laid_out kept left ks (tree_blocks p) (drop 0 p.free_list ++ []) p.limbo p
+laid_in_place kept left ks p h =
     let inner : record (in_trees (tree_blocks p) ks p) { free_list = drop 0 p.free_list ++ []; limbo = p.limbo } ≡ p = ap₂ (λ (q : Group) (list : List ℕ). record q { free_list = list; limbo = p.limbo }) (all_in_place ks p) (append-nil p.free_list) in
     let owners : owners_follow left p (record (in_trees (tree_blocks p) ks p) { free_list = drop 0 p.free_list ++ []; limbo = p.limbo }) ≡ p = ap (owners_follow left p) inner ∙ owners_stay left p in
-    sym (ap (λ (q : Group). record q { counters = block_counter p q }) owners ∙ (λ t. record p { counters = λ name. same_counter p h name t }))
+    sym (ap (λ (q : Group). record q { counters = block_counter kept p q }) owners ∙ (λ t. record p { counters = λ name. same_counter kept p h name t }))
 
 each_passes : (test : Owned → Bool) (ps : List Owned) → ((o : Owned) → has_owned ps o ≡ true → test o ≡ true) → list_all test ps ≡ true
 each_passes test [] h = refl
@@ -117,29 +119,29 @@ each_passes test (p ∷ ps) h = ap₂ (λ x y. x && y) (h p (same_is_there p ps)
 joins : (ks : List Kind) (p : Group) (o : Owned) → has_owned p.limbo o ≡ true → may_join ks p o ≡ true
 joins ks p o e = ap (λ b. b || list_any (λ k. (o.owner == tree_owner k) && (is_in o.block (tree_blocks p k) || is_in o.block p.free_list)) ks) e
 
-nothing_moves : (left ks : List Kind) (p : Group) → AreWords p → MovesBlocks left ks p p
-nothing_moves left ks p h = record {
+nothing_moves : (kept : Bool) (left ks : List Kind) (p : Group) → AreWords p → MovesBlocks kept left ks p p
+nothing_moves kept left ks p h = record {
   blocks = tree_blocks p;
   used = 0;
   freed = [];
   limbo = p.limbo;
-  is = laid_in_place left ks p h;
+  is = laid_in_place kept left ks p h;
   limbo_keeps = each_passes (has_owned p.limbo) p.limbo (λ o e. e);
   limbo_gains = each_passes (may_join ks p) p.limbo (joins ks p);
   none_lost = λ b. refl;
   owners_met = and_false (is_edited left p Rmap) (is_fault (met_by_moves p p)) (no_moves p);
 }
 
-inside : (left ks : List Kind) (p : Group) → AreWords p → Inside left ks p p
-inside left [] p h = refl
-inside left (k ∷ ks) p h = nothing_moves left (k ∷ ks) p h
+inside : (kept : Bool) (left ks : List Kind) (p : Group) → AreWords p → Inside kept left ks p p
+inside kept left [] p h = refl
+inside kept left (k ∷ ks) p h = nothing_moves kept left (k ∷ ks) p h
 
 same_fork : (r : Result ForkList ForkFault) → SameFork r r
 same_fork (Ok list) = refl
 same_fork (Err fault) = refl
 
-inodes_stay : (g : ℕ) (a x : State) → InodesStay g a x x
-inodes_stay g a x = record {
+inodes_stay : (g : ℕ) (ks : List Kind) (a x : State) → InodesStay g ks a x x
+inodes_stay g ks a x = record {
   untouched = λ ino out. refl;
   chunks = λ h u. refl;
   cores = λ ino is. refl;
@@ -147,7 +149,7 @@ inodes_stay g a x = record {
 }
 
 pub stays : (g : ℕ) (left ks : List Kind) (a x : State) → AreWords (x.group g) → Loosely g left ks a x x
-stays g left ks a x h = record { geometry = refl; chains = refl; others = λ k out. refl; inside = inside left ks (x.group g) h; inodes = inodes_stay g a x }
+stays g left ks a x h = record { geometry = refl; chains = refl; others = λ k out. refl; inside = inside a.geometry.inobtcount left ks (x.group g) h; inodes = inodes_stay g ks a x }
 
 pub decided_stands : DecidedStands
-decided_stands a x left e row leaves met h = record { decided = x; row = row; leaves = leaves; met = met; loosely = stays (group_of_entry a e) left (edited_in a left e) a x h }
+decided_stands a x left e row leaves met h = record { decided = x; row = row; leaves = leaves; met = met; uncut = λ asked same. refl; loosely = stays (group_of_entry a e) left (edited_in a left e) a x h }

@@ -1,5 +1,5 @@
 -- An entry leaves the trees that it neither edits nor judges.
-use Rattle.std.proofs.Common.{◌≡◌, ℕ, ◌==◌, ◌||◌, Bool, true, false, not, cond, List, [], ◌∷◌, ◌++◌, filter, sym, ap, subst, refl, ◌∙◌, Option, Some, None, eq-eqb, drop}
+use Rattle.std.proofs.Common.{◌≡◌, ℕ, ◌==◌, ◌&&◌, ◌||◌, Bool, true, false, not, cond, List, [], ◌∷◌, ◌++◌, filter, sym, ap, subst, refl, ◌∙◌, Option, Some, None, eq-eqb, drop}
 use Rattle.std.proofs.lemmas.Bool.{true≢false}
 use Rattle.std.specs.Prelude.{if◌then◌else◌}
 use Rattle.fs_model.specs.declared.entry.Entry.{Entry}
@@ -30,7 +30,7 @@ use Rattle.fs_change.specs.Changes.{mapped, unmapped, converted, shared, rmap_do
 use Rattle.fs_change.specs.Laws.{KeepsOtherTrees, changed_kinds, with_owners}
 use Rattle.fs_change.specs.Loose.{Inside, MovesBlocks, owners_follow, owners_in, lost_to}
 use Rattle.fs_change.specs.Met.{give_each, take_each}
-use Rattle.fs_change.specs.Parts.{in_group, tree_only, change_tree, in_blocks, in_trees, with_recs, set_trust, set_trusts, edit, is_edited, records_in}
+use Rattle.fs_change.specs.Parts.{in_group, tree_only, change_tree, in_blocks, in_trees, with_recs, set_trust, set_trusts, edit, is_edited, sick_in, records_in}
 use Rattle.fs_change.specs.Records.{is_unwritten_at, set_count, span, by_start, take_span, give_span, give_mapping, take_mapping, put_chunk, turn_inode, follow_inode}
 use Rattle.fs_change.specs.Step.{Row, edits_count, edits_reserve, edits_reaped, edited_kinds, group_of_entry, group_of_inode}
 use Rattle.span_recs.specs.declared.refcount.RefcRec.{RefcRec}
@@ -154,16 +154,21 @@ unfolding rmap_done
 by_rmap left c g i rest a j at h = subst (λ (k : ℕ). Keeps a (in_group i.group (edit left Rmap (do_mapping i.kind i)) a) k j) at (own i.group (edit left Rmap (do_mapping i.kind i)) a j (λ p. edited left Rmap j (do_mapping i.kind i) p h))
 
 -- a change that is made or not, with the trees that it edits then
-changed_if : (c : Bool) (ks : List Kind) (p q : Group) (j : Kind) → is_among j (with_owners (if c then ks else [])) ≡ false → (is_among j (with_owners ks) ≡ false → q.tree j ≡ p.tree j) → (if c then q else p).tree j ≡ p.tree j
-changed_if true ks p q j h changes = changes h
-changed_if false ks p q j h changes = refl
+changed_if : (c sick : Bool) (ks : List Kind) (p q : Group) (j : Kind) → is_among j (with_owners (if c && not sick then ks else [])) ≡ false → (sick ≡ true → q.tree j ≡ p.tree j) → (is_among j (with_owners ks) ≡ false → q.tree j ≡ p.tree j) → (if c then q else p).tree j ≡ p.tree j
+changed_if true true ks p q j h stays changes = stays refl
+changed_if true false ks p q j h stays changes = changes h
+changed_if false sick ks p q j h stays changes = refl
+
+-- a sick tree isn't changed
+sick_stays : (left : List Kind) (f : List RefcRec → List RefcRec) (p : Group) (j : Kind) → sick_in p Refc ≡ true → (edit left Refc f p).tree j ≡ p.tree j
+sick_stays left f p j sick = ap (λ b. (cond (cond b false (cond (is_among Refc left) false true)) (change_tree Refc (λ i. record i { reading = with_recs (f (recs_of i.reading)) i.reading }) p) p).tree j) sick
 
 by_ref : (left : List Kind) (c g b n : ℕ) (more : Bool) (i : Intent) (rest : List Intent) (a : State) (j : Kind) → is_among j (with_owners (edits_count (a.group g) b more)) ≡ false → Keeps a (ref_done left c more (record { group = g; block = b; count = n }) i rest a) g j
 unfolding ref_done
 by_ref left c g b n more i rest a j h =
     let f : List RefcRec → List RefcRec = λ recs. set_count b n (new_count more recs b) recs in
     own_here g (change_count left more (record { group = g; block = b; count = n })) a j
-    (changed_if (changes_count more (records_in (a.group g) Refc) b) (Refc ∷ Rmap ∷ []) (a.group g) (edit left Refc f (a.group g)) j h (λ k. edited left Refc j f (a.group g) (is_first j Refc (Rmap ∷ []) (in_rest j Rmap (Refc ∷ Rmap ∷ []) k))))
+    (changed_if (changes_count more (records_in (a.group g) Refc) b) (sick_in (a.group g) Refc) (Refc ∷ Rmap ∷ []) (a.group g) (edit left Refc f (a.group g)) j h (sick_stays left f (a.group g) j) (λ k. edited left Refc j f (a.group g) (is_first j Refc (Rmap ∷ []) (in_rest j Rmap (Refc ∷ Rmap ∷ []) k))))
 
 by_freed : (left : List Kind) (c g b n : ℕ) (rest : List Intent) (a : State) (j : Kind) → Not j Bno → Not j Cnt → Keeps a (freed left c false (record { group = g; block = b; count = n }) rest a) g j
 unfolding freed
@@ -300,11 +305,11 @@ decided a x left (entries.Given writer ino) r j h =
     as_is a x _ _ j r.4 (by_given (group_of_inode a ino) r.0 ino a j (is_first j Ino (Fino ∷ []) k) (is_first j Fino [] (in_rest j Ino (Fino ∷ []) k)))
 decided a x left (entries.Refilled e) r j h = let s = no_three j (Rmap ∷ []) h in as_is a x _ _ j r.1 (by_refilled e a j s.0 s.1 s.2)
 decided a x left (entries.Trimmed e) r j h = let s = no_three j (Rmap ∷ []) h in as_is a x _ _ j r.1 (by_trimmed e a j s.0 s.1 s.2)
-decided a x left (entries.Marked g k cause) r j h = as_is a x _ _ j r.1 (by_marked g k a j (is_first j k [] h))
+decided a x left (entries.Marked g k cause) r j h = as_is a x _ _ j r.2 (by_marked g k a j (is_first j k [] h))
 decided a x left (entries.Reserved g unit b spare) r j h = as_is a x _ _ j r.1 (by_reserved left g b unit spare a j h)
 decided a x left (entries.Released g unit) r j h = as_is a x _ _ j r.1 (by_released g a j)
-decided a x left (entries.Fault g unit fault) r j h = as_is a x _ _ j r.1 (by_marked g (kind_of_fault fault) a j (is_first j (kind_of_fault fault) [] h))
-decided a x left (entries.Verdict g unit verdict) r j h = as_is a x _ _ j r (by_judged g unit verdict a j h)
+decided a x left (entries.Fault g unit fault) r j h = as_is a x _ _ j r.2 (by_marked g (kind_of_fault fault) a j (is_first j (kind_of_fault fault) [] h))
+decided a x left (entries.Verdict g unit verdict) r j h = as_is a x _ _ j r.1 (by_judged g unit verdict a j h)
 decided a x left (entries.Switched g unit root second) r j h = as_is a x _ _ j r.4 (by_switched g unit r.0 a j h)
 decided a x left (entries.Reaped e) r j h = as_is a x _ _ j r.1 (by_reaped left e a j h)
 decided a x left (entries.Reply writer line code done refused begun) r j h = as_is a x _ _ j r refl
@@ -318,20 +323,20 @@ filtered j test (k ∷ ks) h = elim (test k) as (λ b. is_among j (cond b (k ∷
   | false ↦ filtered j test ks (in_rest j k ks h)
 ]
 
-moved_tree : (left ks : List Kind) (p q : Group) (j : Kind) → MovesBlocks left ks p q → is_among j ks ≡ false → Not j Rmap → q.tree j ≡ p.tree j
-moved_tree left ks p q j m h r =
+moved_tree : (kept : Bool) (left ks : List Kind) (p q : Group) (j : Kind) → MovesBlocks kept left ks p q → is_among j ks ≡ false → Not j Rmap → q.tree j ≡ p.tree j
+moved_tree kept left ks p q j m h r =
     ap (λ (s : Group). s.tree j) m.is
     ∙ followed left p (record (in_trees m.blocks ks p) { free_list = drop m.used p.free_list ++ m.freed; limbo = m.limbo }) j r
     ∙ in_place j m.blocks ks p h
 
-inside_tree : (left ks : List Kind) (p q : Group) (j : Kind) → Inside left ks p q → is_among j ks ≡ false → Not j Rmap → q.tree j ≡ p.tree j
-inside_tree left [] p q j i h r = ap (λ (s : Group). s.tree j) i
-inside_tree left (k ∷ ks) p q j i h r = moved_tree left (k ∷ ks) p q j i h r
+inside_tree : (kept : Bool) (left ks : List Kind) (p q : Group) (j : Kind) → Inside kept left ks p q → is_among j ks ≡ false → Not j Rmap → q.tree j ≡ p.tree j
+inside_tree kept left [] p q j i h r = ap (λ (s : Group). s.tree j) i
+inside_tree kept left (k ∷ ks) p q j i h r = moved_tree kept left (k ∷ ks) p q j i h r
 
 -- an entry that edits trees says so of reverse mappings too
-open_tree : (left : List Kind) (test : Kind → Bool) (ks : List Kind) (p q : Group) (j : Kind) → Inside left (filter test ks) p q → is_among j (with_owners ks) ≡ false → q.tree j ≡ p.tree j
-open_tree left test [] p q j i h = ap (λ (s : Group). s.tree j) i
-open_tree left test (k ∷ ks) p q j i h = inside_tree left (filter test (k ∷ ks)) p q j i (filtered j test (k ∷ ks) (in_rest j Rmap (k ∷ ks) h)) (is_first j Rmap (k ∷ ks) h)
+open_tree : (kept : Bool) (left : List Kind) (test : Kind → Bool) (ks : List Kind) (p q : Group) (j : Kind) → Inside kept left (filter test ks) p q → is_among j (with_owners ks) ≡ false → q.tree j ≡ p.tree j
+open_tree kept left test [] p q j i h = ap (λ (s : Group). s.tree j) i
+open_tree kept left test (k ∷ ks) p q j i h = inside_tree kept left (filter test (k ∷ ks)) p q j i (filtered j test (k ∷ ks) (in_rest j Rmap (k ∷ ks) h)) (is_first j Rmap (k ∷ ks) h)
 
 edits_only : (a : State) (e : Entry) (j : Kind) → is_among j (changed_kinds a e) ≡ false → is_among j (with_owners (edited_kinds a e)) ≡ false
 edits_only a (entries.Marked g k cause) j h = refl
@@ -347,5 +352,5 @@ edits_only a e j h = h
 pub keeps_other_trees : KeepsOtherTrees
 keeps_other_trees a b left e s j h =
     let g : ℕ = group_of_entry a e in
-    open_tree left (is_edited left (a.group g)) (edited_kinds a e) (s.decided.group g) (b.group g) j s.loosely.inside (edits_only a e j h)
+    open_tree a.geometry.inobtcount left (is_edited left (a.group g)) (edited_kinds a e) (s.decided.group g) (b.group g) j s.loosely.inside (edits_only a e j h)
     ∙ decided a s.decided left e s.row j h

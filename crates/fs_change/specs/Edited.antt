@@ -1,5 +1,5 @@
 -- Which trees an entry edits, which of them it may leave as they were, and what its edits meet.
-use Rattle.std.specs.Prelude.{ℕ, ◌+◌, ◌*◌, ◌/◌, ◌%◌, Bool, true, false, not, ◌||◌, List, [], ◌∷◌, filter, Some, None, if◌then◌else◌}
+use Rattle.std.specs.Prelude.{ℕ, ◌+◌, ◌*◌, ◌/◌, ◌%◌, Bool, true, false, not, ◌&&◌, ◌||◌, List, [], ◌∷◌, filter, Some, None, if◌then◌else◌}
 use Rattle.std.specs.List.{list_all}
 use Rattle.std.specs.Option.{option_map_or}
 use Rattle.fs_model.specs.declared.entry.Entry.{Entry}
@@ -19,7 +19,7 @@ use Rattle.fs_state.specs.declared.intent.Intent.{Intent}
 use Rattle.fs_change.specs.Changes.{extent_of, known_spans, plain_run, new_count, changes_count, owner_of_run, joins_no_space, free_chunk, chunk_extent, block_extent}
 use Rattle.fs_change.specs.Choice.{extent, group_or_first}
 use Rattle.fs_change.specs.Met.{Met, nothing, is_fault, met_taking, met_taking_count, met_giving, met_giving_count, met_losing, met_gaining, met_turning, met_mapping, met_counting, met_freeing, met_following, met_listing}
-use Rattle.fs_change.specs.Parts.{is_edited, records_in}
+use Rattle.fs_change.specs.Parts.{is_edited, sick_in, records_in}
 use Rattle.fs_change.specs.Records.{span}
 use Rattle.fs_change.specs.Switch.{unit_owner}
 
@@ -52,9 +52,9 @@ group_of_entry a (entries.Reply writer line code done refused begun) = 0
 
 -- ---- trees
 
--- a count that falls changes nothing where it has no record
+-- a count that falls changes nothing where it has no record; where counts are sick no block moves
 abbrev pub edits_count : Group → ℕ → Bool → List Kind
-edits_count p b more = if changes_count more (records_in p Refc) b then Refc ∷ Rmap ∷ [] else []
+edits_count p b more = if changes_count more (records_in p Refc) b && not (sick_in p Refc) then Refc ∷ Rmap ∷ [] else []
 
 -- a block of the list has its owner already where the group's own trees are rebuilt; a spare one leaves free space, unless
 -- that is rebuilt
@@ -86,6 +86,13 @@ edited_kinds a (entries.Trimmed e) = Bno ∷ Cnt ∷ Rmap ∷ []
 edited_kinds a (entries.Reserved g unit b spare) = edits_reserve unit spare
 edited_kinds a (entries.Reaped e) = edits_reaped (a.group e.group) e
 edited_kinds a e = []
+
+-- whether the row itself asks for an edit of the tree: beside these reverse mappings follow moved blocks alone
+abbrev pub is_asked : Entry → Kind → Bool
+is_asked (entries.RefDone c g b n more) Rmap = false
+is_asked (entries.Taken writer ino uid None) Rmap = false
+is_asked (entries.Given writer ino) Rmap = false
+is_asked e k = true
 
 -- those that aren't sick and weren't left
 abbrev pub edited_in : State → List Kind → Entry → List Kind

@@ -1,5 +1,6 @@
 -- What a new session keeps of the last state: what an image says by itself; and what a crash leaves.
 use Rattle.std.specs.Prelude.{◌≡◌, ◌⊎◌, ℕ, ◌/◌, Bool, true, false, [], Option, Some, None, Ok}
+use Rattle.std.specs.List.{list_all}
 use Rattle.dinode_core.specs.declared.mapping.Fork.{Fork}
 use Rattle.fs_model.specs.declared.unit.Trust.TheVariants.{Unknown, Sick}
 use Rattle.fs_model.specs.declared.unit.Trust.{Trust}
@@ -10,17 +11,17 @@ use Rattle.dinode_core.specs.Frame.{ForkList}
 use Rattle.fs_state.specs.Apart.{is_inode}
 use Rattle.fs_state.specs.Kinds.{Image}
 use Rattle.fs_state.specs.Read.{state_of, opened}
-use Rattle.fs_state.specs.State.{State, Group, Index, Reading, Readable, Unreadable, blocks_in}
+use Rattle.fs_state.specs.State.{State, Group, Index, Reading, Readable, Unreadable, blocks_of, blocks_in}
 
 -- its trust says no more than whether it can be read
 abbrev pub fresh_trust : {R : Type 0} → Reading R → Trust
 fresh_trust (Readable recs blocks) = Unknown
 fresh_trust (Unreadable block fault claims) = Sick
 
--- a tree that could be read is as it was; of another nothing is said
+-- a tree that could be read is as it was; another one claims still what it claimed
 abbrev pub KeepsReading : {R : Type 0} → Reading R → Reading R → Type 0
 KeepsReading (Readable recs blocks) now = now ≡ Readable recs blocks
-KeepsReading (Unreadable block fault claims) now = Unit {0}
+KeepsReading (Unreadable block fault claims) now = list_all (λ b. is_in b (blocks_of now)) claims ≡ true
 
 pub record IndexForgets {R : Type 0} (old new : Index R) : Type 0 where
   pub reading : KeepsReading old.reading new.reading
@@ -38,8 +39,8 @@ is_reserved a None = false
 is_reserved a (Some p) = is_in p.1 (blocks_in (a.group p.0).reserve)
 
 -- What does a new session keep? All but trust, reserve, limbo and chains. Open is what blocks of the reserve hold as
--- cores, and what comes of a tree or a fork that couldn't be read: a crash may leave any bytes in a block of the reserve
--- to which it leads.
+-- cores, what comes of a fork that couldn't be read, and of such a tree how it reads, and what it claims besides: a crash
+-- may leave any bytes in a block of the reserve to which it leads.
 pub record Forget (a b : State) : Type 0 where
   pub geometry : b.geometry ≡ a.geometry
   pub groups : (g : ℕ) → GroupForgets (a.group g) (b.group g)

@@ -1,6 +1,6 @@
 -- What an entry leaves open: how an edited tree is cut into blocks, and what a block that a tree had or gained, or that
 -- left the reserve, holds as cores.
-use Rattle.std.specs.Prelude.{◌≡◌, ℕ, ◌+◌, ◌/◌, ◌==◌, ◌&&◌, ◌||◌, Bool, true, false, not, List, [], ◌∷◌, ◌++◌, map, flat_map, filter, length, drop, Option, Some, None}
+use Rattle.std.specs.Prelude.{◌≡◌, ℕ, ◌+◌, ◌/◌, ◌==◌, ◌&&◌, ◌||◌, Bool, true, false, not, List, [], ◌∷◌, ◌++◌, map, flat_map, filter, length, drop, Option, Some, None, if◌then◌else◌}
 use Rattle.std.specs.List.{list_any, list_all}
 use Rattle.dinode_core.specs.declared.mapping.Fork.{Fork}
 use Rattle.fs_model.specs.declared.fault.Counter.{Counter}
@@ -39,20 +39,20 @@ owners_follow left p q = edit left Rmap (λ recs. give_each (lost_to (owners_in 
 abbrev pub met_by_moves : Group → Group → Met
 met_by_moves p q = met_moving (lost_to (owners_in p) (owners_in q)) (lost_to (owners_in q) (owners_in p)) (records_in p Rmap)
 
--- and so do the counters of blocks
-abbrev pub block_counter : Group → Group → Counter → ℕ
-block_counter p q Iblocks = follow (p.counters Iblocks) (length (tree_blocks p Ino)) (length (tree_blocks q Ino))
-block_counter p q Fblocks = follow (p.counters Fblocks) (length (tree_blocks p Fino)) (length (tree_blocks q Fino))
-block_counter p q RmapBlocks = follow (p.counters RmapBlocks) (length (tree_blocks p Rmap)) (length (tree_blocks q Rmap))
-block_counter p q RefcountBlocks = follow (p.counters RefcountBlocks) (length (tree_blocks p Refc)) (length (tree_blocks q Refc))
-block_counter p q Btreeblks = follow (p.counters Btreeblks) (length (tree_blocks p Bno) + length (tree_blocks p Cnt) + length (tree_blocks p Rmap)) (length (tree_blocks q Bno) + length (tree_blocks q Cnt) + length (tree_blocks q Rmap))
-block_counter p q name = p.counters name
+-- and so do the counters of blocks, those of inode btrees where heads keep them
+abbrev pub block_counter : Bool → Group → Group → Counter → ℕ
+block_counter kept p q Iblocks = if kept then follow (p.counters Iblocks) (length (tree_blocks p Ino)) (length (tree_blocks q Ino)) else p.counters Iblocks
+block_counter kept p q Fblocks = if kept then follow (p.counters Fblocks) (length (tree_blocks p Fino)) (length (tree_blocks q Fino)) else p.counters Fblocks
+block_counter kept p q RmapBlocks = follow (p.counters RmapBlocks) (length (tree_blocks p Rmap)) (length (tree_blocks q Rmap))
+block_counter kept p q RefcountBlocks = follow (p.counters RefcountBlocks) (length (tree_blocks p Refc)) (length (tree_blocks q Refc))
+block_counter kept p q Btreeblks = follow (p.counters Btreeblks) (length (tree_blocks p Bno) + length (tree_blocks p Cnt) + length (tree_blocks p Rmap)) (length (tree_blocks q Bno) + length (tree_blocks q Cnt) + length (tree_blocks q Rmap))
+block_counter kept p q name = p.counters name
 
 -- the group with its trees, list and limbo laid out so
-abbrev pub laid_out : List Kind → List Kind → (Kind → List ℕ) → List ℕ → List Owned → Group → Group
-laid_out left ks blocks list limbo p =
+abbrev pub laid_out : Bool → List Kind → List Kind → (Kind → List ℕ) → List ℕ → List Owned → Group → Group
+laid_out kept left ks blocks list limbo p =
     let q = owners_follow left p (record (in_trees blocks ks p) { free_list = list; limbo = limbo }) in
-    record q { counters = block_counter p q }
+    record q { counters = block_counter kept p q }
 
 -- all blocks of trees, list and limbo
 abbrev pub pool_of : Group → List ℕ
@@ -64,21 +64,21 @@ may_join ks p o = has_owned p.limbo o || list_any (λ k. (o.owner == tree_owner 
 
 -- Which blocks may an edit move? From the front of the list into edited trees, and from these to the list's end, or into
 -- limbo, with the owner of their tree; none comes or goes. Reverse mappings that can't follow are left.
-pub record MovesBlocks (left ks : List Kind) (p q : Group) : Type 0 where
+pub record MovesBlocks (kept : Bool) (left ks : List Kind) (p q : Group) : Type 0 where
   pub blocks : Kind → List ℕ
   pub used : ℕ
   pub freed : List ℕ
   pub limbo : List Owned
-  pub is : q ≡ laid_out left ks blocks (drop used p.free_list ++ freed) limbo p
+  pub is : q ≡ laid_out kept left ks blocks (drop used p.free_list ++ freed) limbo p
   pub limbo_keeps : list_all (has_owned limbo) p.limbo ≡ true
   pub limbo_gains : list_all (may_join ks p) limbo ≡ true
   pub none_lost : (b : ℕ) → times b (pool_of q) ≡ times b (pool_of p)
   pub owners_met : (is_edited left p Rmap && is_fault (met_by_moves p q)) ≡ false
 
 -- where no tree is edited nothing moves
-abbrev pub Inside : List Kind → List Kind → Group → Group → Type 0
-Inside left [] p q = q ≡ p
-Inside left (k ∷ ks) p q = MovesBlocks left (k ∷ ks) p q
+abbrev pub Inside : Bool → List Kind → List Kind → Group → Group → Type 0
+Inside kept left [] p q = q ≡ p
+Inside kept left (k ∷ ks) p q = MovesBlocks kept left (k ∷ ks) p q
 
 -- ---- cores
 
@@ -86,14 +86,14 @@ abbrev pub place_in : ℕ → Option (ℕ × ℕ) → (ℕ → Bool) → Bool
 place_in g None test = false
 place_in g (Some p) test = (p.0 == g) && test p.1
 
--- a tree had the block or has it, or it left the reserve
-abbrev pub is_touched : Group → Group → ℕ → Bool
-is_touched p q b = list_any (λ k. is_in b (tree_blocks p k) || is_in b (tree_blocks q k)) all_kinds || (is_in b (blocks_in p.reserve) && not (is_in b (blocks_in q.reserve)))
+-- a tree had the block or has it; or one edit had it from the list of x, and another gave it back; or it left the reserve
+abbrev pub is_touched : List Kind → Group → Group → Group → ℕ → Bool
+is_touched ks p x q b = list_any (λ k. is_in b (tree_blocks p k) || is_in b (tree_blocks q k)) all_kinds || list_any (λ k. is_in b x.free_list) ks || (is_in b (blocks_in p.reserve) && not (is_in b (blocks_in q.reserve)))
 
 -- What stays of inodes? All of other blocks, which chunks there are, and all of inodes in chunks; a fork that can't be
 -- read still can't.
-pub record InodesStay (g : ℕ) (a x b : State) : Type 0 where
-  pub untouched : (ino : ℕ) → place_in g (split_of a.geometry (ino / 8)) (is_touched (a.group g) (b.group g)) ≡ false → b.core ino ≡ x.core ino
+pub record InodesStay (g : ℕ) (ks : List Kind) (a x b : State) : Type 0 where
+  pub untouched : (ino : ℕ) → place_in g (split_of a.geometry (ino / 8)) (is_touched ks (a.group g) (x.group g) (b.group g)) ≡ false → b.core ino ≡ x.core ino
   pub chunks : (h u : ℕ) → is_chunk b h u ≡ is_chunk x h u
   pub cores : (ino : ℕ) → is_inode x ino ≡ true → b.core ino ≡ x.core ino
   pub forks : (ino : ℕ) (f : Fork) → is_inode x ino ≡ true → SameFork (x.fork ino f) (b.fork ino f)
@@ -104,5 +104,5 @@ pub record Loosely (g : ℕ) (left ks : List Kind) (a x b : State) : Type 0 wher
   pub geometry : b.geometry ≡ x.geometry
   pub chains : b.chains ≡ x.chains
   pub others : (h : ℕ) → (h ≡ g → ⊥) → b.group h ≡ x.group h
-  pub inside : Inside left ks (x.group g) (b.group g)
-  pub inodes : InodesStay g a x b
+  pub inside : Inside a.geometry.inobtcount left ks (x.group g) (b.group g)
+  pub inodes : InodesStay g ks a x b

@@ -1,6 +1,6 @@
 -- What an entry of the journal says of the states before and after it (Online Fsck Design, "Eventual Consistency", "Live
 -- Updates"; formats of entries: fs_model).
-use Rattle.std.specs.Prelude.{◌≡◌, ◌⊎◌, ℕ, ◌*◌, ◌/◌, ◌<◌, ◌≤◌, ◌==◌, ◌&&◌, ◌||◌, nat_lt, Bool, true, false, List, [], ◌∷◌, length, slice_get, Option, Some, None, Result, Ok, Err, is_ok, Contains, if◌then◌else◌}
+use Rattle.std.specs.Prelude.{◌≡◌, ◌⊎◌, ℕ, ◌-◌, ◌*◌, ◌/◌, ◌<◌, ◌≤◌, ◌==◌, ◌&&◌, ◌||◌, nat_lt, Bool, true, false, not, List, [], ◌∷◌, length, slice_get, Option, Some, None, Result, Ok, Err, is_ok, Contains, if◌then◌else◌}
 use Rattle.std.specs.List.{list_any, list_all}
 use Rattle.dinode_core.specs.declared.mapping.Fork.{Fork}
 use Rattle.dinode_core.specs.declared.mapping.Fork.TheVariants as forks
@@ -32,9 +32,9 @@ use Rattle.fs_derive.specs.Kinds.{unit_of, kinds_of}
 use Rattle.fs_derive.specs.Lists.{numbers}
 use Rattle.fs_change.specs.Chains.{most_chains, pending, gives, takes, Quiet}
 use Rattle.fs_change.specs.Changes.{extent_of, data_of, mapped, unmapped, converted, shared, rmap_done, ref_done, freed, taken, given, refilled, trimmed, marked, judged, reserved, released, owner_of_run, reaped}
-use Rattle.fs_change.specs.Choice.{is_guarded, none_sick, space_kinds, piece_kinds, chosen, chosen_of, spare_block, free_inode, chunk_run, inode_of}
-pub use Rattle.fs_change.specs.Edited.{group_of_inode, group_of_entry, edits_count, edits_reserve, edits_reaped, edited_kinds, edited_in, may_leave, met_by, leaves_faults}
-use Rattle.fs_change.specs.Loose.{Loosely}
+use Rattle.fs_change.specs.Choice.{is_guarded, is_bit, none_sick, space_kinds, piece_kinds, inode_kinds, chosen, chosen_of, spare_block, free_inode, chunk_run, inode_of}
+pub use Rattle.fs_change.specs.Edited.{group_of_inode, group_of_entry, edits_count, edits_reserve, edits_reaped, edited_kinds, is_asked, edited_in, may_leave, met_by, leaves_faults}
+use Rattle.fs_change.specs.Loose.{Loosely, owners_in, lost_to, tree_blocks}
 use Rattle.fs_change.specs.Parts.{sick_in, records_in}
 use Rattle.fs_change.specs.Records.{count_at, most_counted, stretch, has_inode, is_piece, is_unmapped, is_unwritten_at}
 use Rattle.fs_change.specs.Switch.{has_owned, owned_by, is_reserve_of, AreLaid, kind_need, need, switched}
@@ -72,15 +72,21 @@ pub record MayMap (a : State) (m : Piece) : Type 0 where
   pub chosen : IsChosen a m.ino (extent_of m)
   pub unowned : is_owned a (extent_of m) ≡ false
 
+-- a piece that is taken away, shared or made written has so many blocks at most
+abbrev pub most_changed : ℕ
+most_changed = 1024
+
 -- the piece is one of the inode's data fork
 pub record MayChange (a : State) (m : Piece) : Type 0 where
   pub some : 0 < m.count
+  pub most : m.count ≤ most_changed
   pub first : IsFirst a m.chain m.ino
   pub sound : none_sick piece_kinds (a.group m.group) ≡ true
   pub piece : is_piece m.offset (fs_block_of a.geometry m.group m.block) m.count (data_of a m.ino) ≡ true
 
 pub record MayShare (a : State) (m : SharedPiece) : Type 0 where
   pub some : 0 < m.count
+  pub most : m.count ≤ most_changed
   pub from_first : IsFirst a m.chain m.from
   pub to_first : IsFirst a m.chain m.to
   pub sound : none_sick piece_kinds (a.group m.group) ≡ true
@@ -130,20 +136,29 @@ abbrev pub IsEmptyFork : Result ForkList ForkFault → Type 0
 IsEmptyFork (Ok list) = list.mappings ≡ []
 IsEmptyFork (Err fault) = ⊥
 
+-- its record says so too
+abbrev pub is_allocated : ℕ → List InoRec → Bool
+is_allocated i rs = list_any (λ r. has_inode i r && not (is_bit r.free (i - r.startino))) rs
+
 -- an allocated inode, both forks of which can be read and are empty
 pub record MayGive (a : State) (ino : ℕ) : Type 0 where
   pub inode : is_inode a ino ≡ true
   pub allocated : is_free (a.core ino) ≡ false
+  pub sound : none_sick inode_kinds (a.group (group_of_inode a ino)) ≡ true
   pub empty : (f : Fork) → IsEmptyFork (a.fork ino f)
   pub none_pending : list_any (is_mapping_of ino) (pending a) ≡ false
 
 -- ---- the free list
 
+-- so many blocks a short list is filled to
+abbrev pub filled_list : ℕ
+filled_list = 16
+
 pub record MayRefill (a : State) (e : Extent) : Type 0 where
   pub some : 0 < e.count
   pub sound : none_sick space_kinds (a.group e.group) ≡ true
   pub short : length (a.group e.group).free_list < 12
-  pub chosen : (count : ℕ) × (chosen_of a count (e.group ∷ []) ≡ Some e)
+  pub chosen : chosen_of a (filled_list - length (a.group e.group).free_list) (e.group ∷ []) ≡ Some e
   pub unowned : is_owned a e ≡ false
 
 pub record MayTrim (a : State) (e : Extent) : Type 0 where
@@ -196,6 +211,10 @@ pub record MayReap (a : State) (e : Extent) (owner : ℕ) : Type 0 where
 
 -- ---- all rows
 
+-- the group is one of the image's
+abbrev pub HasGroup : State → ℕ → Type 0
+HasGroup a g = nat_lt g a.geometry.agcount ≡ true
+
 -- What does an entry say, where the trees `left` were left as they were? A row for each: what must hold before, and the
 -- state that it decides.
 abbrev pub Row : State → List Kind → Entry → State → Type 0
@@ -212,20 +231,24 @@ Row a left (entries.Freed c g b n kept) x =
 Row a left (entries.Taken writer ino uid chunk) x =
     (i : ℕ) × IsTaken a (group_of_inode a ino) i chunk × (ino ≡ inode_of a (group_of_inode a ino) i) × (x ≡ taken (group_of_inode a ino) i ino uid chunk a)
 Row a left (entries.Given writer ino) x =
-    (i : ℕ) × MayGive a ino × (list_any (has_inode i) (records_in (a.group (group_of_inode a ino)) Ino) ≡ true) × (ino ≡ inode_of a (group_of_inode a ino) i) × (x ≡ given (group_of_inode a ino) i ino a)
+    (i : ℕ) × MayGive a ino × (is_allocated i (records_in (a.group (group_of_inode a ino)) Ino) ≡ true) × (ino ≡ inode_of a (group_of_inode a ino) i) × (x ≡ given (group_of_inode a ino) i ino a)
 Row a left (entries.Refilled e) x = MayRefill a e × (x ≡ refilled e a)
 Row a left (entries.Trimmed e) x = MayTrim a e × (x ≡ trimmed e a)
-Row a left (entries.Marked g k cause) x = MayMark cause × (x ≡ marked g k a)
+Row a left (entries.Marked g k cause) x = HasGroup a g × MayMark cause × (x ≡ marked g k a)
 Row a left (entries.Reserved g unit b spare) x = MayReserve a left g unit b spare × (x ≡ reserved left g unit b spare a)
 Row a left (entries.Released g unit) x = MayRelease a g unit × (x ≡ released g a)
-Row a left (entries.Fault g unit fault) x = (unit ≡ unit_of (kind_of_fault fault)) × (x ≡ marked g (kind_of_fault fault) a)
-Row a left (entries.Verdict g unit verdict) x = x ≡ judged g unit verdict a
+Row a left (entries.Fault g unit fault) x = HasGroup a g × (unit ≡ unit_of (kind_of_fault fault)) × (x ≡ marked g (kind_of_fault fault) a)
+Row a left (entries.Verdict g unit verdict) x = HasGroup a g × (x ≡ judged g unit verdict a)
 Row a left (entries.Switched g unit root second) x =
     (blocks : Kind → List ℕ) × MaySwitch a g unit × AreLaid (kind_need a g unit) (kinds_of unit) (blocks_in (a.group g).reserve) blocks × AreRoots (kinds_of unit) blocks root second × (x ≡ switched a g unit blocks)
 Row a left (entries.Reaped e) x = MayReap a e (owner_of_run (a.group e.group) e) × (x ≡ reaped left (owner_of_run (a.group e.group) e) e a)
 Row a left (entries.Reply writer line code done refused begun) x = x ≡ a
 
 -- ---- steps of a state
+
+-- where reverse mappings only follow, and no block got another owner, they aren't cut anew
+abbrev pub AreUncut : Entry → Group → Group → Type 0
+AreUncut e p q = is_asked e Rmap ≡ false → lost_to (owners_in p) (owners_in q) ≡ [] → tree_blocks q Rmap ≡ tree_blocks p Rmap
 
 -- What does an entry say of the states before and after it? The row holds, each tree whose edit meets a fault is left, and
 -- the second state is the one that the row decides, but for what is left open.
@@ -234,4 +257,5 @@ pub record Step (a : State) (left : List Kind) (e : Entry) (b : State) : Type 0 
   pub row : Row a left e decided
   pub leaves : list_all (λ k. is_among k (may_leave a e)) left ≡ true
   pub met : leaves_faults a left e ≡ true
+  pub uncut : AreUncut e (decided.group (group_of_entry a e)) (b.group (group_of_entry a e))
   pub loosely : Loosely (group_of_entry a e) left (edited_in a left e) a decided b

@@ -114,28 +114,42 @@ pub record WorkedTrees : Type 0 where
 -- ---- what edits meet
 
 abbrev pub lacking : Met
-lacking = record { lacks = true; meets = false }
+lacking = record { lacks = true; meets = false; far = false }
 
 abbrev pub meeting : Met
-meeting = record { lacks = false; meets = true }
+meeting = record { lacks = false; meets = true; far = false }
+
+abbrev pub overlapping : Met
+overlapping = record { lacks = false; meets = true; far = true }
+
+-- a record meets, and hides behind a later one: no search has to find it
+abbrev pub hiding : Met
+hiding = record { lacks = false; meets = false; far = true }
+
+abbrev pub overlaid : List SpanRec
+overlaid = span 10 100 ∷ span 12 1 ∷ span 50 10 ∷ []
 
 pub record WorkedFaults : Type 0 where
   pub sound : met_taking spans (span 20 3) ≡ nothing
   pub not_free : met_taking spans (span 11 2) ≡ lacking
   -- what is left of the record has a block of another one
-  pub left_over : met_taking (span 4 8 ∷ span 10 4 ∷ []) (span 4 2) ≡ meeting
+  pub left_over : met_taking (span 4 8 ∷ span 10 4 ∷ []) (span 4 2) ≡ overlapping
   -- only the last that begins there or before is asked
   pub hidden : met_taking (span 4 8 ∷ span 6 2 ∷ []) (span 9 1) ≡ lacking
+  pub behind : met_taking overlaid (span 50 2) ≡ hiding
+  pub given_behind : met_giving overlaid (span 30 1) ≡ hiding
+  pub taken_before : met_taking (span 9 3 ∷ span 10 10 ∷ []) (span 18 2) ≡ overlapping
+  pub counted_behind : met_counting 50 2 3 (counted 10 100 2 ∷ counted 12 1 2 ∷ counted 50 4 3 ∷ []) ≡ hiding
   pub listed : met_taking_count spans (span 20 3) (span 10 2 ∷ span 4 4 ∷ span 20 8 ∷ []) ≡ nothing
   pub unlisted : met_taking_count spans (span 20 3) (span 10 2 ∷ span 4 4 ∷ []) ≡ lacking
-  pub twice_free : met_giving spans (span 8 3) ≡ meeting
+  pub twice_free : met_giving spans (span 8 3) ≡ overlapping
   pub neighbour : met_giving_count spans (span 8 2) (span 4 4 ∷ span 20 8 ∷ []) ≡ lacking
   pub lost : met_losing (run 5 1 group_own 0) runs ≡ nothing
   pub not_owned : met_losing (run 20 1 group_own 0) runs ≡ lacking
   pub gained : met_gaining (run 8 8 group_own 0) runs ≡ nothing
   pub same_key : met_gaining (run 4 1 group_own 0) runs ≡ meeting
   pub risen : met_counting 6 2 3 counts ≡ nothing
-  pub beyond : met_counting 6 4 5 counts ≡ meeting
+  pub beyond : met_counting 6 4 5 counts ≡ overlapping
   pub freed : met_following 130 (chunk 64 2 3 ∷ chunk 128 0 0 ∷ []) (chunk 64 2 3 ∷ []) ≡ nothing
   pub not_listed : met_following 65 (chunk 64 2 3 ∷ []) [] ≡ lacking
   pub listed_full : met_following 130 (chunk 128 0 0 ∷ []) (chunk 128 1 1 ∷ []) ≡ meeting

@@ -25,13 +25,13 @@ use Rattle.fs_derive.specs.Derive.{is_free}
 use Rattle.fs_derive.specs.Faults.{kind_of_fault}
 use Rattle.fs_derive.specs.Kinds.{unit_of, kinds_of}
 use Rattle.fs_derive.specs.Lists.{numbers}
-use Rattle.fs_change.proofs.Stays.{decided_stands}
+use Rattle.fs_change.proofs.Stays.{decided_stands, stays}
 use Rattle.fs_change.specs.Chains.{gives, takes, pending, is_quiet}
 use Rattle.fs_change.specs.Changes.{rmap_done, ref_done, freed, reserved, owner_of_run, reaped, marked, judged, data_of}
 use Rattle.fs_change.specs.Choice.{extent, none_sick, piece_kinds}
 use Rattle.fs_change.specs.Laws.{AreWords}
 use Rattle.fs_change.specs.Records.{is_piece}
-use Rattle.fs_change.specs.Step.{Step, Row, IsNext, IsFirst, first_stretch, MayChange, AreRoots, is_ref, is_kept, is_mapping_of, group_of_entry, may_leave}
+use Rattle.fs_change.specs.Step.{Step, Row, IsNext, IsFirst, first_stretch, MayChange, AreRoots, is_ref, is_kept, is_mapping_of, group_of_entry, edited_in, may_leave}
 use Rattle.fs_change.specs.Edited.{leaves_faults}
 use Rattle.fs_change.specs.Switch.{kind_need, need, AreLaid, is_reserve_of, switched, has_owned, owned_by}
 
@@ -52,7 +52,7 @@ are_words p = list_all (is_word p) all_counters
 behind : (p : Group) (name : Counter) (names : List Counter) → list_all (is_word p) (name ∷ names) ≡ true → (is_word p name ≡ true) × (list_all (is_word p) names ≡ true)
 behind p name names h = and_parts (is_word p name) (list_all (is_word p) names) h
 
-words : (p : Group) → are_words p ≡ true → AreWords p
+pub words : (p : Group) → are_words p ≡ true → AreWords p
 words p h =
     let w0 = behind p Count (Freecount ∷ Iblocks ∷ Fblocks ∷ RmapBlocks ∷ Freeblks ∷ Longest ∷ Btreeblks ∷ RefcountBlocks ∷ []) h in
     let w1 = behind p Freecount (Iblocks ∷ Fblocks ∷ RmapBlocks ∷ Freeblks ∷ Longest ∷ Btreeblks ∷ RefcountBlocks ∷ []) w0.1 in
@@ -88,7 +88,7 @@ stands a x e row w =
 
 -- ---- steps of chain 0 over n blocks of group 0
 
-is_next : (a : State) (b n : ℕ) (i : Intent) (rest : List Intent) → a.chains 0 ≡ i ∷ rest → i.group ≡ 0 → i.block ≡ b → nat_lt 0 n ≡ true → nat_le n i.count ≡ true → IsNext a 0 0 b n i rest
+pub is_next : (a : State) (b n : ℕ) (i : Intent) (rest : List Intent) → a.chains 0 ≡ i ∷ rest → i.group ≡ 0 → i.block ≡ b → nat_lt 0 n ≡ true → nat_le n i.count ≡ true → IsNext a 0 0 b n i rest
 is_next a b n i rest next group block some count = record { next = next; group = group; block = block; some = ltb-true 0 n some; count = leb-true n i.count count }
 
 -- of the inode's
@@ -120,10 +120,11 @@ pub first : (a : State) (ino : ℕ) → is_inode a ino ≡ true → is_free (a.c
 first a ino there used readable nothing none =
     record { file = record { inode = there; allocated = used; readable = readable }; open_chain = ltb-true 0 16 refl; owes_nothing = nothing; none_pending = none }
 
-pub changes : (a : State) (m : Piece) → m.chain ≡ 0 → nat_lt 0 m.count ≡ true → IsFirst a m.chain m.ino → (is_piece m.offset (fs_block_of a.geometry m.group m.block) m.count (data_of a m.ino) && none_sick piece_kinds (a.group m.group)) ≡ true → MayChange a m
+pub changes : (a : State) (m : Piece) → m.chain ≡ 0 → (nat_lt 0 m.count && nat_le m.count 1024) ≡ true → IsFirst a m.chain m.ino → (is_piece m.offset (fs_block_of a.geometry m.group m.block) m.count (data_of a m.ino) && none_sick piece_kinds (a.group m.group)) ≡ true → MayChange a m
 changes a m chain some is_first there =
     let v = and_parts (is_piece m.offset (fs_block_of a.geometry m.group m.block) m.count (data_of a m.ino)) (none_sick piece_kinds (a.group m.group)) there in
-    record { some = ltb-true 0 m.count some; first = is_first; sound = v.1; piece = v.0 }
+    let u = and_parts (nat_lt 0 m.count) (nat_le m.count 1024) some in
+    record { some = ltb-true 0 m.count u.0; most = leb-true m.count 1024 u.1; first = is_first; sound = v.1; piece = v.0 }
 
 -- ---- rebuilding
 
@@ -147,21 +148,32 @@ pub reap_step : (a : State) (b n : ℕ) → nat_lt 0 n ≡ true → ((a.group 0)
 reap_step a b n some good there w =
     stands a (reaped [] (owner_of_run (a.group 0) (extent 0 b n)) (extent 0 b n) a) (entries.Reaped (extent 0 b n)) (record { some = ltb-true 0 n some; good = good; in_limbo = there }, refl) w
 
-pub fault_step : (a : State) (unit : ScrubUnit) (fault : Fault) → unit ≡ unit_of (kind_of_fault fault) → is_sound a (entries.Fault 0 unit fault) (marked 0 (kind_of_fault fault) a) ≡ true → Step a [] (entries.Fault 0 unit fault) (marked 0 (kind_of_fault fault) a)
-fault_step a unit fault is w = stands a (marked 0 (kind_of_fault fault) a) (entries.Fault 0 unit fault) (is, refl) w
+pub fault_step : (a : State) (unit : ScrubUnit) (fault : Fault) → unit ≡ unit_of (kind_of_fault fault) → (nat_lt 0 a.geometry.agcount && is_sound a (entries.Fault 0 unit fault) (marked 0 (kind_of_fault fault) a)) ≡ true → Step a [] (entries.Fault 0 unit fault) (marked 0 (kind_of_fault fault) a)
+fault_step a unit fault is w =
+    let v = and_parts (nat_lt 0 a.geometry.agcount) (is_sound a (entries.Fault 0 unit fault) (marked 0 (kind_of_fault fault) a)) w in
+    stands a (marked 0 (kind_of_fault fault) a) (entries.Fault 0 unit fault) (v.0, is, refl) v.1
 
-pub verdict_step : (a : State) (unit : ScrubUnit) (verdict : Verdict) → is_sound a (entries.Verdict 0 unit verdict) (judged 0 unit verdict a) ≡ true → Step a [] (entries.Verdict 0 unit verdict) (judged 0 unit verdict a)
-verdict_step a unit verdict w = stands a (judged 0 unit verdict a) (entries.Verdict 0 unit verdict) refl w
+pub verdict_step : (a : State) (unit : ScrubUnit) (verdict : Verdict) → (nat_lt 0 a.geometry.agcount && is_sound a (entries.Verdict 0 unit verdict) (judged 0 unit verdict a)) ≡ true → Step a [] (entries.Verdict 0 unit verdict) (judged 0 unit verdict a)
+verdict_step a unit verdict w =
+    let v = and_parts (nat_lt 0 a.geometry.agcount) (is_sound a (entries.Verdict 0 unit verdict) (judged 0 unit verdict a)) w in
+    stands a (judged 0 unit verdict a) (entries.Verdict 0 unit verdict) (v.0, refl) v.1
 
 -- a step that leaves reverse mappings
 abbrev pub is_left : State → ℕ → ℕ → State → Bool
 is_left a b n x = list_all (λ k. is_among k (may_leave a (entries.RmapDone 0 195 0 b n))) (Rmap ∷ []) && (leaves_faults a (Rmap ∷ []) (entries.RmapDone 0 195 0 b n) && are_words (x.group 0))
 
-pub leaves_one : (a : State) (b n : ℕ) (i : Intent) (rest : List Intent) → a.chains 0 ≡ i ∷ rest → i.group ≡ 0 → i.block ≡ b → nat_lt 0 n ≡ true → nat_le n i.count ≡ true
+unfoldable pub leaves_one : (a : State) (b n : ℕ) (i : Intent) (rest : List Intent) → a.chains 0 ≡ i ∷ rest → i.group ≡ 0 → i.block ≡ b → nat_lt 0 n ≡ true → nat_le n i.count ≡ true
     → ((gives i.kind || takes i.kind) ≡ true) → i.ino ≡ 195 → i.count ≡ n → is_left a b n (rmap_done (Rmap ∷ []) 0 i rest a) ≡ true
     → Step a (Rmap ∷ []) (entries.RmapDone 0 195 0 b n) (rmap_done (Rmap ∷ []) 0 i rest a)
 leaves_one a b n i rest next group block some count sort ino whole w =
     let x : State = rmap_done (Rmap ∷ []) 0 i rest a in
     let u = and_parts (list_all (λ k. is_among k (may_leave a (entries.RmapDone 0 195 0 b n))) (Rmap ∷ [])) (leaves_faults a (Rmap ∷ []) (entries.RmapDone 0 195 0 b n) && are_words (x.group 0)) w in
     let v = and_parts (leaves_faults a (Rmap ∷ []) (entries.RmapDone 0 195 0 b n)) (are_words (x.group 0)) u.1 in
-    decided_stands a x (Rmap ∷ []) (entries.RmapDone 0 195 0 b n) (i, rest, is_next a b n i rest next group block some count, sort, ino, whole, refl) u.0 v.0 (words (x.group 0) v.1)
+    record {
+      decided = x;
+      row = (i, rest, is_next a b n i rest next group block some count, sort, ino, whole, refl);
+      leaves = u.0;
+      met = v.0;
+      uncut = λ asked same. refl;
+      loosely = stays 0 (Rmap ∷ []) (edited_in a (Rmap ∷ []) (entries.RmapDone 0 195 0 b n)) a x (words (x.group 0) v.1);
+    }

@@ -22,7 +22,7 @@ use Rattle.fs_derive.specs.Kinds.{all_kinds}
 use Rattle.fs_change.specs.Changes.{marked, judged, reserved, reaped}
 use Rattle.fs_change.specs.Choice.{extent, spare_block}
 use Rattle.fs_change.specs.Forget.{Forget, forgotten}
-use Rattle.fs_change.specs.Parts.{records_in}
+use Rattle.fs_change.specs.Parts.{in_group, change_tree, records_in}
 use Rattle.fs_change.specs.Run.{Leads}
 use Rattle.fs_change.specs.Switch.{need, switched}
 use Rattle.test_states.specs.Images.{span, mapped as owned, ag, inodes, free_a}
@@ -64,6 +64,13 @@ EitherRoot =
     × ((((forgotten free_reserved).group 0).tree Cnt).reading ≡ Readable free_a (2 ∷ []))
     × ((((forgotten free_switched).group 0).tree Bno).reading ≡ Readable free_a (7 ∷ []))
     × ((((forgotten free_switched).group 0).tree Cnt).reading ≡ Readable free_a (8 ∷ []))
+
+-- a tree that couldn't be read doesn't lose the block that it claimed
+abbrev pub without_claims : State
+without_claims = in_group 0 (λ p. change_tree Bno (λ i. record i { reading = Unreadable 1 Checksum [] }) p) (forgotten free_reserved)
+
+abbrev pub ClaimsKept : Type 0
+ClaimsKept = Forget free_reserved without_claims → ⊥
 
 -- ---- a rebuild of reverse mappings, cut off after its block was reserved, after its switch, and after reaping: a session
 -- that follows repairs what is left, and a check behind it finds nothing

@@ -17,9 +17,13 @@ use Rattle.fs_derive.specs.Faults.{faults}
 use Rattle.fs_change.specs.Chains.{settled_forks, settled_own, is_quiet}
 use Rattle.fs_change.specs.Changes.{mapped, unmapped, converted, shared, rmap_done, ref_done, freed, taken, marked, data_of, give_owner}
 use Rattle.fs_change.specs.Choice.{extent}
+use Rattle.fs_change.specs.Loose.{is_touched}
+use Rattle.fs_change.specs.Marks.{why_left, once_each}
+use Rattle.fs_change.specs.Marks.Why.{NoEdit}
 use Rattle.fs_change.specs.Parts.{in_group, records_in}
 use Rattle.fs_change.specs.Run.{Leads}
 use Rattle.fs_change.specs.Scan.{shadow_of}
+use Rattle.fs_change.specs.Step.{edited_kinds}
 use Rattle.fs_state.specs.declared.intent.Intent.{Intent}
 use Rattle.fs_state.specs.declared.intent.IntentKind.TheVariants.{Free}
 use Rattle.test_states.specs.Images.{image_a, trees_a, tree_of, file_with, fork_with, counters_with, span, shared as counted, mapped as owned, chunk, mapping, fs, inodes}
@@ -110,6 +114,21 @@ ShrinkingFile =
     × Leads lost_one (entries.Unmapped (piece 0 40 1) ∷ done 40 1 ∷ lowered 40 1 ∷ entries.Freed 0 0 40 1 false ∷ []) all_freed
     × (records_in (all_freed.group 0) Bno ≡ span 19 5 ∷ span 32 224 ∷ [])
     × (faults all_freed 0 units.Rmap ≡ []) × (faults all_freed 0 units.Free ≡ [])
+
+-- ---- reverse mappings aren't marked for a step of counts that moves no block, and no tree is marked twice
+
+abbrev pub owner_gone : State
+owner_gone = step_mapping (unmapped (piece 5 40 1) shared_forty)
+
+abbrev pub MarkedOnce : Type 0
+MarkedOnce =
+    (edited_kinds owner_gone (lowered 40 1) ≡ Refc ∷ Rmap ∷ [])
+    × (edited_kinds (marked 0 Refc owner_gone) (lowered 40 1) ≡ [])
+    × (why_left owner_gone lost_one lost_one (lowered 40 1) Rmap ≡ NoEdit)
+    × (once_each (Refc ∷ Rmap ∷ Refc ∷ []) ≡ Refc ∷ Rmap ∷ [])
+    -- a block of the list may hold other cores behind an edit, and stays where nothing is edited
+    × (is_touched (Cnt ∷ []) (image_a.group 0) (image_a.group 0) (image_a.group 0) 7 ≡ true)
+    × (is_touched [] (image_a.group 0) (image_a.group 0) (image_a.group 0) 7 ≡ false)
 
 -- ---- an owner of the block that was there all along is found before it is freed
 

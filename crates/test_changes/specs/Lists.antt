@@ -1,15 +1,16 @@
 -- The free list, chunks, needs that grow, trees that are left, and what a session keeps.
-use Rattle.std.specs.Prelude.{◌≡◌, ◌+◌, ◌-◌, ◌*◌, ◌^◌, ℕ, true, [], ◌∷◌, ◌++◌, map, length, Some, None}
+use Rattle.std.specs.Prelude.{◌≡◌, ◌+◌, ◌-◌, ◌*◌, ◌^◌, ℕ, Bool, true, false, [], ◌∷◌, ◌++◌, map, length, Some, None}
 use Rattle.bulk_load.specs.Shapes.{count}
 use Rattle.dinode_core.specs.declared.mapping.Mapping.{Mapping}
 use Rattle.fs_model.specs.declared.entry.Entry.TheVariants as entries
 use Rattle.fs_model.specs.declared.fault.Cause.TheVariants.{Short}
+use Rattle.fs_model.specs.declared.fault.Counter.TheVariants.{Iblocks}
 use Rattle.fs_model.specs.declared.fault.Fault.TheVariants.{Extra}
 use Rattle.fs_model.specs.declared.«record».AnyRec.TheVariants as recs
 use Rattle.fs_model.specs.declared.unit.Trust.TheVariants.{Unknown, Sick}
 use Rattle.fs_model.specs.declared.unit.Unit.TheVariants as units
 use Rattle.sblock.specs.declared.kind.Kind.TheVariants.{Bno, Cnt, Rmap, Ino}
-use Rattle.fs_state.specs.State.{State}
+use Rattle.fs_state.specs.State.{State, Group}
 use Rattle.fs_derive.specs.Derive.{bno_of, cnt_of}
 use Rattle.fs_derive.specs.Faults.{faults}
 use Rattle.fs_derive.specs.Lists.{numbers}
@@ -17,10 +18,11 @@ use Rattle.fs_derive.specs.Own.{rmap_of}
 use Rattle.fs_change.specs.Changes.{mapped, taken, refilled, trimmed, reserved, rmap_done, marked}
 use Rattle.fs_change.specs.Choice.{extent, spare_block}
 use Rattle.fs_change.specs.Forget.{forgotten}
+use Rattle.fs_change.specs.Loose.{laid_out}
 use Rattle.fs_change.specs.Parts.{in_group, change_tree, records_in}
 use Rattle.fs_change.specs.Run.{Leads}
 use Rattle.fs_change.specs.Switch.{need, owned_by}
-use Rattle.test_states.specs.Images.{image_a, image, group_with, trees_a, tree_of, file_with, fork_with, no_forks, counters_with, cores_to, span, mapped as owned, chunk, mapping, ag, inodes}
+use Rattle.test_states.specs.Images.{image_a, image, group_with, trees_a, tree_of, file_with, fork_with, no_forks, counters_with, cores_to, span, mapped as owned, chunk, mapping, fs, ag, inobt, refc, inodes}
 use Rattle.test_states.specs.Rows.{six_mappings}
 use Rattle.test_changes.specs.Files.{piece, file_made, cut_off, first_of, rest_of, done}
 use Rattle.test_changes.specs.Repairs.{rmap_rebuilt}
@@ -53,6 +55,16 @@ ListMoves =
     × ((cut_list.group 0).free_list ≡ numbers 69 16)
     × (records_in (cut_list.group 0) Bno ≡ span 7 17 ∷ span 32 37 ∷ span 85 171 ∷ [])
     × (faults cut_list 0 units.Rmap ≡ []) × (faults cut_list 0 units.Free ≡ [])
+
+-- ---- an inode btree gets a root above two leaves: the counter of its blocks follows where heads keep it
+
+abbrev pub split_inodes : Bool → Group
+split_inodes kept = laid_out kept [] (Ino ∷ []) (λ k. 3 ∷ 7 ∷ 8 ∷ []) (numbers 9 10) [] (image_a.group 0)
+
+abbrev pub InodeBlocks : Type 0
+InodeBlocks =
+    ((split_inodes true).counters Iblocks ≡ 3) × ((split_inodes false).counters Iblocks ≡ 1)
+    × (records_in (split_inodes true) Rmap ≡ owned 0 1 fs 0 ∷ owned 1 2 ag 0 ∷ owned 3 2 inobt 0 ∷ owned 5 1 ag 0 ∷ owned 6 1 refc 0 ∷ owned 7 2 inobt 0 ∷ owned 9 10 ag 0 ∷ owned 24 8 inodes 0 ∷ [])
 
 -- ---- where no inode is free a chunk is made, at the lowest aligned run of eight free blocks
 
@@ -98,10 +110,13 @@ NeedGrows =
     × (need reserved_one 0 units.Rmap ≡ 3) × (spare_block reserved_one 0 units.Rmap ≡ Some 20)
     × (need reserved_three 0 units.Rmap ≡ 3) × (count Rmap 169 0 0 ≡ 85) × (count Rmap 169 0 1 ≡ 84)
 
--- ---- a step whose edit finds too short a list leaves reverse mappings, and is followed by their mark
+-- ---- a step whose edit finds a full leaf and an empty list leaves reverse mappings, and is followed by their mark
+
+abbrev pub crowd : State → State
+crowd a = in_group 0 (λ p. change_tree Rmap (λ i. tree_of (5 ∷ []) (map (λ k. owned (40 + k) 1 195 (2 * k + 100)) (numbers 0 168))) (record p { free_list = [] })) a
 
 abbrev pub before_step : State
-before_step = mapped (piece 0 32 6) file_made
+before_step = crowd (mapped (piece 0 32 6) file_made)
 
 abbrev pub left_alone : State
 left_alone = rmap_done (Rmap ∷ []) 0 (first_of (before_step.chains 0)) (rest_of (before_step.chains 0)) before_step
@@ -111,7 +126,7 @@ and_marked = marked 0 Rmap left_alone
 
 abbrev pub LeftAlone : Type 0
 LeftAlone =
-    Leads before_step (done 32 6 ∷ entries.Marked 0 Rmap (Short 0 1) ∷ []) and_marked
+    Leads before_step (done 32 6 ∷ entries.Marked 0 Rmap (Short 0 2) ∷ []) and_marked
     × (records_in (and_marked.group 0) Rmap ≡ records_in (before_step.group 0) Rmap)
     × (((and_marked.group 0).tree Rmap).trust ≡ Sick)
 

@@ -2,22 +2,25 @@
 use Rattle.std.specs.Prelude.{◌≡◌, ℕ, false, List, [], ◌∷◌, ◌++◌, None}
 use Rattle.fs_model.specs.declared.entry.Entry.{Entry}
 use Rattle.fs_model.specs.declared.entry.Entry.TheVariants as entries
-use Rattle.fs_model.specs.declared.fault.Cause.TheVariants.{Missing, Owner}
+use Rattle.fs_model.specs.declared.fault.Cause.TheVariants.{Missing, Owner, Block, Short}
 use Rattle.fs_model.specs.declared.entry.SharedPiece.{SharedPiece}
 use Rattle.fs_model.specs.declared.unit.Trust.TheVariants.{Sick}
 use Rattle.fs_model.specs.declared.unit.Unit.TheVariants as units
 use Rattle.fs_model.specs.declared.verdict.Verdict.TheVariants.{Good}
+use Rattle.sblock.specs.declared.block.BlockFault.TheVariants.{Magic}
 use Rattle.sblock.specs.declared.kind.Kind.{Kind}
-use Rattle.sblock.specs.declared.kind.Kind.TheVariants.{Bno, Cnt, Rmap, Refc}
+use Rattle.sblock.specs.declared.kind.Kind.TheVariants.{Bno, Cnt, Rmap, Refc, Ino}
 use Rattle.fs_state.specs.State.{State}
 use Rattle.fs_change.specs.Changes.{judged, marked, taken, data_of, give_owner}
 use Rattle.fs_change.specs.Choice.{extent}
-use Rattle.fs_change.specs.Parts.{in_group, change_tree, records_in}
+use Rattle.fs_change.specs.Parts.{in_group, change_tree, set_trust, records_in}
+use Rattle.fs_change.specs.Marks.{IsLone}
 use Rattle.fs_change.specs.Run.{Leads}
 use Rattle.fs_change.specs.Step.{Step}
 use Rattle.test_states.specs.Images.{image_a, tree_of, shared as counted, mapped, free_a, inodes}
 use Rattle.test_states.specs.Rows.{shared_forty, unread_free, on_heads, six_mappings, two}
 use Rattle.test_changes.specs.Files.{piece, file_made, with_owner}
+use Rattle.test_changes.specs.Lists.{short_list}
 use Rattle.test_changes.specs.Repairs.{free_rebuilt}
 
 -- no state comes after this entry
@@ -50,6 +53,17 @@ NotToBeSwitched =
     NoneAfter unread_free (entries.Switched 0 units.Free 7 8)
     × NoneAfter on_heads (entries.Switched 0 units.Rmap 7 0)
     × NoneAfter unread_free (entries.Reserved 0 units.Free 8 false)
+
+-- a bad block of a tree that is sick already; a list that is too short for a tree of two records
+abbrev pub NotToBeMarked : Type 0
+NotToBeMarked = (IsLone unread_free 0 Bno (Block 77 Magic) → ⊥) × (IsLone image_a 0 Bno (Short 0 1) → ⊥)
+
+-- a list of one block isn't filled above 16; an inode isn't given back while its btree is sick
+abbrev pub empty_file : State
+empty_file = in_group 0 (set_trust Sick Ino) file_made
+
+abbrev pub NotToBeGiven : Type 0
+NotToBeGiven = NoneAfter short_list (entries.Refilled (extent 0 32 224)) × NoneAfter empty_file (entries.Given 1 195) × NoneAfter image_a (entries.Verdict 7 units.Inode Good)
 
 -- a block with so many owners isn't shared once more
 abbrev pub most_shared : State

@@ -1,8 +1,8 @@
-ghost use Rattle.test_changes.specs.Crashes.{CutReserved, CutRun, CutSwitched, EitherRoot, GivenUpSpace, GivenUpWhole};
+ghost use Rattle.test_changes.specs.Crashes.{ClaimsKept, CutReserved, CutRun, CutSwitched, EitherRoot, GivenUpSpace, GivenUpWhole};
 ghost use Rattle.test_changes.specs.Scans.{BehindCursor, HeldInode};
-ghost use Rattle.test_changes.specs.Files.{ConvertedPiece, CutUnmapping, GrowingFile, MappedHalfway, OwnerFound, SharedPieceRow, ShrinkingFile};
-ghost use Rattle.test_changes.specs.Lists.{ChunkMade, Forgotten, LeftAlone, ListMoves, NeedGrows};
-ghost use Rattle.test_changes.specs.Refused.{NotToBeFreed, NotToBeShared, NotToBeSwitched, NotToBeTaken, NothingToDo, OwnedSpace, SayTooMuch};
+ghost use Rattle.test_changes.specs.Files.{ConvertedPiece, CutUnmapping, GrowingFile, MappedHalfway, MarkedOnce, OwnerFound, SharedPieceRow, ShrinkingFile};
+ghost use Rattle.test_changes.specs.Lists.{ChunkMade, Forgotten, InodeBlocks, LeftAlone, ListMoves, NeedGrows};
+ghost use Rattle.test_changes.specs.Refused.{NotToBeFreed, NotToBeGiven, NotToBeMarked, NotToBeShared, NotToBeSwitched, NotToBeTaken, NothingToDo, OwnedSpace, SayTooMuch};
 ghost use Rattle.test_changes.specs.Repairs.{NoBlockLeft, RebuiltFreeSpace, RebuiltInodes, RebuiltMappings, TreeSizes};
 
 /// A file is made, and grows by six blocks and by one.
@@ -163,4 +163,29 @@ pub fn cut_run()
 /// A rebuild without a block to take is given up.
 pub fn given_up_space()
     ensures { GivenUpSpace }
+{}
+
+/// The counter of an inode btree's blocks follows where heads keep it.
+pub fn inode_blocks()
+    ensures { InodeBlocks }
+{}
+
+/// A new session keeps what a tree claims that couldn't be read.
+pub fn claims_kept()
+    ensures { ClaimsKept }
+{}
+
+/// No mark names a bad block of a sick tree, or a short list where no block is needed.
+pub fn not_to_be_marked()
+    ensures { NotToBeMarked }
+{}
+
+/// A list isn't filled above 16 blocks, no inode is given back by a sick btree, and no group is named that isn't there.
+pub fn not_to_be_given()
+    ensures { NotToBeGiven }
+{}
+
+/// A step of counts that moves no block leaves reverse mappings unmarked, and no tree is marked twice.
+pub fn marked_once()
+    ensures { MarkedOnce }
 {}

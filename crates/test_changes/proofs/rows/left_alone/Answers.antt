@@ -10,5 +10,5 @@ use Rattle.fs_model.specs.declared.fault.Cause.TheVariants.{Short}
 use Rattle.test_changes.proofs.rows.left_alone.Goals as goal
 
 pub returns : goal.returns
-unfolding computing
-returns c = ((Rmap ∷ [], left_alone, leaves_one before_step 32 6 (first_of (before_step.chains 0)) (rest_of (before_step.chains 0)) refl refl refl refl refl refl refl refl refl, tt, ((refl, refl, ltb-true 0 1 refl), and_marked, stands left_alone and_marked (entries.Marked 0 Rmap (Short 0 1)) (ltb-true 0 1 refl, refl) refl, refl)), refl, refl)
+unfolding computing leaves_one
+returns c = ((Rmap ∷ [], left_alone, leaves_one before_step 32 6 (first_of (before_step.chains 0)) (rest_of (before_step.chains 0)) refl refl refl refl refl refl refl refl refl, tt, ((refl, refl, (ltb-true 0 2 refl, ltb-true 1 3 refl)), and_marked, stands left_alone and_marked (entries.Marked 0 Rmap (Short 0 2)) (refl, ltb-true 0 2 refl, refl) refl, refl)), refl, refl)

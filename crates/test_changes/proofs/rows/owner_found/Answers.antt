@@ -15,7 +15,7 @@ returns c = (
     step_free true 40 1 with_owner,
     free_step (with_owner) 40 1 true (first_of ((with_owner).chains 0)) (rest_of ((with_owner).chains 0)) refl refl refl refl refl refl refl refl refl,
     tt,
-    ((refl, refl, tt), kept_block, stands (step_free true 40 1 with_owner) kept_block (entries.Marked 0 Refc Owner) (tt, refl) refl, refl),
+    ((refl, refl, tt), kept_block, stands (step_free true 40 1 with_owner) kept_block (entries.Marked 0 Refc Owner) (refl, tt, refl) refl, refl),
   ),
   refl,
   refl,

@@ -15,6 +15,6 @@ no_one e = omega arith
 pub returns : goal.returns
 unfolding computing
 returns c = (
-  λ s. true≢false (ap (λ p. is_empty p.free_list) s.loosely.inside ∙ ap (λ y. is_empty (y.group 0).free_list) s.row),
-  λ s. true≢false (ap (λ p. is_empty p.free_list) (s.loosely.others 1 no_one) ∙ ap (λ y. is_empty (y.group 1).free_list) s.row.1),
+  λ s. true≢false (ap (λ p. is_empty p.free_list) s.loosely.inside ∙ ap (λ y. is_empty (y.group 0).free_list) s.row.1),
+  λ s. true≢false (ap (λ p. is_empty p.free_list) (s.loosely.others 1 no_one) ∙ ap (λ y. is_empty (y.group 1).free_list) s.row.2),
 )

@@ -1,0 +1,7 @@
+use Rattle.std.specs.Prelude.{refl}
+use Rattle.test_changes.proofs.Computing.{computing}
+use Rattle.test_changes.proofs.rows.inode_blocks.Goals as goal
+
+pub returns : goal.returns
+unfolding computing
+returns c = (refl, refl, refl)
