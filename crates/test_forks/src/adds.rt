@@ -126,3 +126,34 @@ fn the_greatest_offset_is_mapped_and_taken(rt: HostRuntime) -> Result<(), Fail> 
     assert_eq!(rt; list.as_slice(), [before].as_slice());
     Ok(())
 }
+
+#[test]
+fn a_mapping_is_joined_with_one_neighbour(rt: HostRuntime) -> Result<(), Fail> {
+    let alloc = rt.alloc();
+    let geo = two_groups();
+    let mut list = Vec::from_slice(alloc, &[written(5, 40, 3)])?;
+    let goes_on = written(8, 43, 1);
+    let goes_before = written(4, 39, 1);
+    let elsewhere = written(9, 45, 2);
+    assert_eq!(rt; add(alloc, &geo, &mut list, &goes_on, 1), Ok(()));
+    assert_eq!(rt; add(alloc, &geo, &mut list, &goes_before, 1), Ok(()));
+    assert_eq!(rt; list.as_slice(), [written(4, 39, 5)].as_slice());
+    assert_eq!(rt; add(alloc, &geo, &mut list, &elsewhere, 2), Ok(()));
+    assert_eq!(rt; list.as_slice(), [written(4, 39, 5), elsewhere].as_slice());
+    Ok(())
+}
+
+#[test]
+fn the_first_mapping_needs_room(rt: HostRuntime) -> Result<(), Fail> {
+    let alloc = rt.alloc();
+    let geo = two_groups();
+    let mut list = Vec::new(alloc);
+    let longest = written(18_014_398_507_384_833, 0, 2_097_151);
+    assert_eq!(rt;
+        add(alloc, &geo, &mut list, &longest, 0),
+        Err(ForkChange::Full(1))
+    );
+    assert_eq!(rt; add(alloc, &geo, &mut list, &longest, 1), Ok(()));
+    assert_eq!(rt; list.as_slice(), [longest].as_slice());
+    Ok(())
+}

@@ -90,3 +90,32 @@ fn a_written_piece_changes_nothing(rt: HostRuntime) -> Result<(), Fail> {
     assert_eq!(rt; list.as_slice(), [whole].as_slice());
     Ok(())
 }
+
+#[test]
+fn the_greatest_offset_is_made_written(rt: HostRuntime) -> Result<(), Fail> {
+    let alloc = rt.alloc();
+    let geo = two_groups();
+    let first = 18_014_398_509_481_982;
+    let last = 18_014_398_509_481_983;
+    let mut list = Vec::from_slice(alloc, &[unwritten(first, 40, 2)])?;
+    assert_eq!(rt;
+        convert(alloc, &geo, &mut list, last, 1, 2),
+        Ok(unwritten(last, 41, 1))
+    );
+    let parts = [unwritten(first, 40, 1), written(last, 41, 1)];
+    assert_eq!(rt; list.as_slice(), parts.as_slice());
+    Ok(())
+}
+
+#[test]
+fn what_is_made_written_stays_in_its_group(rt: HostRuntime) -> Result<(), Fail> {
+    let alloc = rt.alloc();
+    let geo = two_groups();
+    let lower = written(0, 4_194_299, 5);
+    let upper = unwritten(5, 4_194_304, 3);
+    let mut list = Vec::from_slice(alloc, &[lower, upper])?;
+    assert_eq!(rt; convert(alloc, &geo, &mut list, 5, 3, 2), Ok(upper));
+    let parts = [lower, written(5, 4_194_304, 3)];
+    assert_eq!(rt; list.as_slice(), parts.as_slice());
+    Ok(())
+}
