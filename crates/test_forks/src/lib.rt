@@ -1,0 +1,12 @@
+//! Tests of what is added to a fork's list of mappings, of what of it is made written, and of stretches
+//! of reference counts, over public calls alone.
+#![tactic(auto)]
+
+#[cfg(test)]
+mod adds;
+#[cfg(test)]
+mod converts;
+#[cfg(test)]
+mod maps;
+#[cfg(test)]
+mod stretches;
