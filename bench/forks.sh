@@ -56,21 +56,25 @@ numbers() {
 
 form='%-20s | %8s %9s %8s | %8s | %8s | %10s\n'
 
-# row NAME: the file image.img.
-row() {
-  local all ours frag mappings blocks
+# shown NAME FRAG REPAIR: a row of the file image.img, with the seconds of the two tools.
+shown() {
+  local all mappings blocks
   mapfile -t all < <(numbers)
   "$program" image.img "${all[@]}" >shown.txt 2>&1
   mappings=$(grep -c ' map ' shown.txt)
   blocks=$(grep -c ' tree ' shown.txt)
   least_of "$program" image.img "${all[@]}"
-  ours=$least
-  least_of xfs_db -r -c frag image.img
-  frag=$least
-  least_of xfs_repair -n image.img
   # shellcheck disable=SC2059
-  printf "$form" "$1" "${#all[@]}" "$mappings" "$blocks" "$(seconds "$ours")" "$(seconds "$frag")" \
-    "$(seconds "$least")"
+  printf "$form" "$1" "${#all[@]}" "$mappings" "$blocks" "$(seconds "$least")" "$2" "$3"
+}
+
+# row NAME: the same, with both tools in the same run.
+row() {
+  local frag
+  least_of xfs_db -r -c frag image.img
+  frag=$(seconds "$least")
+  least_of xfs_repair -n image.img
+  shown "$1" "$frag" "$(seconds "$least")"
 }
 
 xfs_db -V
@@ -78,7 +82,8 @@ echo "$(nproc) processors, load $(cut -d ' ' -f 1-3 /proc/loadavg); each number 
 # shellcheck disable=SC2059
 printf "$form" image inodes mappings blocks forks 'xfs_db' 'xfs_repair'
 
-# One file in an image of four groups, with so many mappings of one block each.
+# One file in an image of four groups, with so many mappings of one block each; many share a block, so
+# the tools have other work with it.
 head -c 4096 /dev/zero >file
 printf '%s\n' x '0 0' 'd--755 0 0' 'file ---644 0 0 file' '$' >prototype
 for mappings in 10000 100000 1000000; do
@@ -86,7 +91,7 @@ for mappings in 10000 100000 1000000; do
   truncate -s 400M image.img
   mkfs.xfs -q -m rmapbt=1,reflink=1 -d agcount=4 -p prototype image.img || exit 1
   python3 "$top/tests/long_fork.py" image.img "$mappings" || exit 1
-  row "made: $mappings"
+  shown "made: $mappings" - -
 done
 
 for image in "${images[@]}"; do
