@@ -1,11 +1,9 @@
 -- The tests of an AGF or AGI: when they pass, and what follows.
-use Rattle.std.proofs.Common.{◌≡◌, ℕ, Bool, true, false, List, [], ◌∷◌, Option, Some, None, refl}
-use Rattle.std.specs.Prelude.{⊤, if◌then◌else◌}
+use Rattle.std.proofs.Common.{◌≡◌, ℕ, true, List, None}
 use Rattle.std.proofs.lemmas.Bool.{eq-eqb, eqb-true}
 use Rattle.std.proofs.lemmas.Slice.Eq.{bytes_eq-Decides}
 use Rattle.byte_fields.specs.Checksum.{has_sum}
 use Rattle.byte_fields.specs.Fields.{field, has_uuid}
-use Rattle.byte_fields.specs.FirstFailing.{first_failing}
 use Rattle.byte_fields.proofs.TestLemmas.{all_pass, none_fails}
 use Rattle.geom.specs.Layout.{Layout}
 use Rattle.ag_headers.specs.Fields.{uuid_at}

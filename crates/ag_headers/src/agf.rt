@@ -1,4 +1,5 @@
-ghost use Rattle.std.specs.Prelude.{◌≡◌, ℕ, ◌+◌, ◌<◌, ◌≤◌, length, take, drop, Some, None, IfOk, MatchResult};
+ghost use Rattle.std.specs.Prelude.{◌≡◌, ℕ, ◌+◌, ◌<◌, ◌≤◌, length, take, drop, Some, None, IfOk};
+ghost use Rattle.byte_fields.specs.FirstFailing.{Decodes};
 ghost use Rattle.geom.specs.Layout.{Layout};
 ghost use Rattle.geom.specs.Places.{layout};
 ghost use Rattle.ag_headers.specs.Agf.{agf_fault, agf_of, agf_in, agf_form, agf_trees, agf_space, agf_blocks, agf_table, agf_written};
@@ -103,9 +104,7 @@ fn agf_at(agf: &[u8]) -> Agf
 #[tactic(auto, using(crate::proofs::AgfLemmas::agf_is_of_group))]
 pub fn decode_agf(block: &Block, geo: &Geometry, g: u32) -> Result<Agf, HeadFault>
     requires { g < geo.now.agcount }
-    ensures exact { MatchResult result
-        (λ agf. (agf_fault (layout geo.now) g block.now.bytes ≡ None) × (agf ≡ agf_of block.now.bytes))
-        (λ fault. agf_fault (layout geo.now) g block.now.bytes ≡ Some fault) }
+    ensures exact { Decodes (agf_fault (layout geo.now) g block.now.bytes) (λ agf. agf ≡ agf_of block.now.bytes) result }
     ensures of_group { IfOk result (λ agf. IsOfGroup (layout geo.now) g agf.seqno agf.length agf.uuid) }
 {
     let agf = sector_in::<1>(&block.bytes);

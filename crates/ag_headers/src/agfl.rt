@@ -1,5 +1,6 @@
 ghost use Rattle.std.specs.Prelude.{◌≡◌, ℕ, ◌<◌, ◌≤◌, ◌==◌, List, length, if◌then◌else◌, true, false, Some, None, IfOk, MatchOption, MatchResult};
 ghost use Rattle.std.specs.Bool.{OnTrue};
+ghost use Rattle.byte_fields.specs.FirstFailing.{Decodes};
 ghost use Rattle.byte_fields.specs.Fields.{field};
 ghost use Rattle.geom.specs.Layout.{Layout};
 ghost use Rattle.geom.specs.Places.{layout};
@@ -309,9 +310,7 @@ fn tested_ring(agf: &[u8], agfl: &[u8], blocks: u32) -> Result<Agfl, HeadFault>
 /// (XFS Algorithms and Data Structures, "AG Free List").
 pub fn decode_agfl(block: &Block, geo: &Geometry, g: u32) -> Result<Agfl, HeadFault>
     requires { g < geo.now.agcount }
-    ensures exact { MatchResult result
-        (λ list. (agfl_fault (layout geo.now) g block.now.bytes ≡ None) × (list ≡ agfl_of block.now.bytes))
-        (λ fault. agfl_fault (layout geo.now) g block.now.bytes ≡ Some fault) }
+    ensures exact { Decodes (agfl_fault (layout geo.now) g block.now.bytes) (λ list. list ≡ agfl_of block.now.bytes) result }
     ensures of_group { IfOk result (λ list. IsListOf (layout geo.now) g list) }
     ensures named { IfOk result (λ list. NamesRing (agf_of block.now.bytes) list) }
 {

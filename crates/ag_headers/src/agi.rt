@@ -1,4 +1,5 @@
-ghost use Rattle.std.specs.Prelude.{◌≡◌, ℕ, ◌^◌, ◌<◌, length, slice_index, Some, None, IfOk, MatchResult};
+ghost use Rattle.std.specs.Prelude.{◌≡◌, ℕ, ◌^◌, ◌<◌, length, slice_index, Some, None, IfOk};
+ghost use Rattle.byte_fields.specs.FirstFailing.{Decodes};
 ghost use Rattle.geom.specs.Layout.{Layout};
 ghost use Rattle.geom.specs.Places.{layout};
 ghost use Rattle.ag_headers.specs.Agi.{agi_fault, agi_of, agi_in, agi_form, agi_inodes, agi_free, agi_table, agi_written};
@@ -91,9 +92,7 @@ fn agi_at(agi: &[u8]) -> Agi
 /// (XFS Algorithms and Data Structures, "AG Inode Management").
 pub fn decode_agi(block: &Block, geo: &Geometry, g: u32) -> Result<Agi, HeadFault>
     requires { g < geo.now.agcount }
-    ensures exact { MatchResult result
-        (λ agi. (agi_fault (layout geo.now) g block.now.bytes ≡ None) × (agi ≡ agi_of block.now.bytes))
-        (λ fault. agi_fault (layout geo.now) g block.now.bytes ≡ Some fault) }
+    ensures exact { Decodes (agi_fault (layout geo.now) g block.now.bytes) (λ agi. agi ≡ agi_of block.now.bytes) result }
     ensures of_group { IfOk result (λ agi. IsOfGroup (layout geo.now) g agi.seqno agi.length agi.uuid) }
 {
     let agi = sector_in::<2>(&block.bytes);

@@ -1,4 +1,5 @@
-ghost use Rattle.std.specs.Prelude.{◌≡◌, length, take, drop, Some, None, IfOk, MatchResult};
+ghost use Rattle.std.specs.Prelude.{◌≡◌, length, take, drop, Some, None, IfOk};
+ghost use Rattle.byte_fields.specs.FirstFailing.{Decodes};
 ghost use Rattle.dinode_core.specs.Core.{core_fault, core_of};
 ghost use Rattle.dinode_core.specs.Parts.{kinds_of, counts_of, changes_of};
 
@@ -159,9 +160,7 @@ fn first_fault(bytes: &[u8], ino: u64, uuid: &[u8; 16]) -> Option<CoreFault>
 #[tactic(auto, using(crate::proofs::CoreLemmas::named))]
 pub fn decode_core(bytes: &[u8], ino: u64, uuid: &[u8; 16]) -> Result<Core3, CoreFault>
     requires { length bytes.now ≡ 512 }
-    ensures exact { MatchResult result
-        (λ core. (core_fault bytes.now ino uuid.now ≡ None) × (core ≡ core_of bytes.now))
-        (λ fault. core_fault bytes.now ino uuid.now ≡ Some fault) }
+    ensures exact { Decodes (core_fault bytes.now ino uuid.now) (λ core. core ≡ core_of bytes.now) result }
     ensures named { IfOk result (λ core. (core.ino ≡ ino) × (core.uuid ≡ uuid.now)) }
 {
     match first_fault(bytes, ino, uuid) {

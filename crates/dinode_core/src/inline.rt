@@ -1,4 +1,5 @@
-ghost use Rattle.std.specs.Prelude.{◌≡◌, ◌*◌, ◌≤◌, ◌<◌, ℕ, List, [], length, IfOk, None, false, MatchResult};
+ghost use Rattle.std.specs.Prelude.{◌≡◌, ◌*◌, ◌≤◌, ◌<◌, ℕ, List, [], length, IfOk, None, false};
+ghost use Rattle.byte_fields.specs.FirstFailing.{DecodesOr};
 ghost use Rattle.geom.specs.Layout.{split_of};
 ghost use Rattle.geom.specs.Places.{layout};
 ghost use Rattle.dinode_core.specs.Shape.{area_of, format_of, is_absent};
@@ -235,9 +236,8 @@ pub fn inline_fork(
     fork: Fork,
     geo: &Geometry,
 ) -> Result<Vec<Mapping>, ForkError>
-    ensures { MatchResult result
-        (λ v. (inline_fault (layout geo.now) core.now fork ≡ None) × (v.items ≡ inline_mappings core.now fork))
-        (λ error. Refuses error (inline_fault (layout geo.now) core.now fork)) }
+    ensures { DecodesOr Refuses (inline_fault (layout geo.now) core.now fork)
+        (λ v. v.items ≡ inline_mappings core.now fork) result }
 {
     if let Some(fault) = form_fault(core, fork) {
         return Err(ForkError::Fault(fault));

@@ -1,4 +1,5 @@
 pub mod Area
+pub mod Beside
 pub mod Calls
 pub mod Counts
 pub mod Recover

@@ -5,6 +5,7 @@ ghost use Rattle.blk_device.specs.Crash.{IsDurable};
 ghost use Rattle.blk_device.specs.Reading.{Keeps};
 ghost use Rattle.blk_device.specs.declared.device.Region.TheVariants.{Image, Redo};
 ghost use Rattle.redo_area.specs.Area.{Batch, put_copies, put_homes, homes_of, BehindGate, AllButGate, AllButHomes, bytes_of, gate_bytes, staged, with_batch};
+ghost use Rattle.redo_area.specs.Beside.{OpensBeside, OpeningLeaves, InstallsWaiting, InstallsBeside, InstallingLeaves};
 ghost use Rattle.redo_area.specs.Calls.{LeavesFrom, Reaches};
 ghost use Rattle.redo_area.specs.Stages.{After, AfterBut, AtRest, AtRestBut, BeforeOrAfter, BeforeOrAfterBut, EndsAs, EndsAsBut, Installs, IsInstalled, IsInstalledBut, IsReady, IsReadyBut, IsWaiting, IsWaitingBut, Opens, OpensBut, Prepares, PreparesBut, StandsFor, StandsForBut};
 ghost use Rattle.redo_area.specs.Recover.{StaysTold};
@@ -143,10 +144,8 @@ pub fn open_gate<D: Device>(dev: &mut D) -> Result<(), DeviceFailed>
         (IsReady (D.blocks dev.old Image) batch) (Opens (D.blocks dev.old Image) batch) }
     ensures any_moment { (batch : Batch) → LeavesFrom D.Device dev.old dev.new
         (IsReady (D.blocks dev.old Image) batch) (BeforeOrAfter (with_batch batch)) }
-    ensures opened_but { (K : ℕ → Bool) (batch : Batch) → Reaches D.Device dev.old dev.new result
-        (IsReadyBut K (D.blocks dev.old Image) batch) (OpensBut K (D.blocks dev.old Image) batch) }
-    ensures any_moment_but { (K : ℕ → Bool) (batch : Batch) → LeavesFrom D.Device dev.old dev.new
-        (IsReadyBut K (D.blocks dev.old Image) batch) (BeforeOrAfterBut K (with_batch batch)) }
+    ensures opened_but { OpensBeside D.Device dev.old dev.new result }
+    ensures any_moment_but { OpeningLeaves D.Device dev.old dev.new }
     ensures told { StaysTold (D.content dev.old) (D.content dev.new) }
     ensures sizes { D.blocks dev.new ≡ D.blocks dev.old }
     ensures cause { HasCause any_error (D.faults dev.old) (D.faults dev.new) result }
@@ -164,14 +163,11 @@ pub fn install<D: Device>(dev: &mut D, batch: &[(u64, Block)]) -> Result<(), Dev
     requires some { 0 < length batch.now }
     requires rise { rises 0 (D.blocks dev.old Image) (places batch.now) ≡ true }
     ensures written { OnOk result (D.content dev.new ≡ map_told (put_homes (bytes_of batch.now)) (D.content dev.old)) }
-    ensures installed { Reaches D.Device dev.old dev.new result
-        (IsWaiting (D.blocks dev.old Image) (bytes_of batch.now)) (Installs (D.blocks dev.old Image) (bytes_of batch.now)) }
+    ensures installed { InstallsWaiting D.Device (bytes_of batch.now) dev.old dev.new result }
     ensures any_moment { LeavesFrom D.Device dev.old dev.new
         (IsWaiting (D.blocks dev.old Image) (bytes_of batch.now)) (After (with_batch (bytes_of batch.now))) }
-    ensures installed_but { (K : ℕ → Bool) → Reaches D.Device dev.old dev.new result
-        (IsWaitingBut K (D.blocks dev.old Image) (bytes_of batch.now)) (Installs (D.blocks dev.old Image) (bytes_of batch.now)) }
-    ensures any_moment_but { (K : ℕ → Bool) → LeavesFrom D.Device dev.old dev.new
-        (IsWaitingBut K (D.blocks dev.old Image) (bytes_of batch.now)) (AfterBut K (with_batch (bytes_of batch.now))) }
+    ensures installed_but { InstallsBeside D.Device (bytes_of batch.now) dev.old dev.new result }
+    ensures any_moment_but { InstallingLeaves D.Device (bytes_of batch.now) dev.old dev.new }
     ensures told { StaysTold (D.content dev.old) (D.content dev.new) }
     ensures sizes { D.blocks dev.new ≡ D.blocks dev.old }
     ensures cause { HasCause any_error (D.faults dev.old) (D.faults dev.new) result }

@@ -1,4 +1,5 @@
-ghost use Rattle.std.specs.Prelude.{◌≡◌, ◌+◌, ◌^◌, ◌<◌, ◌≤◌, ◌==◌, length, Some, None, IfOk, MatchResult};
+ghost use Rattle.std.specs.Prelude.{◌≡◌, ◌+◌, ◌^◌, ◌<◌, ◌≤◌, ◌==◌, length, Some, None, IfOk};
+ghost use Rattle.byte_fields.specs.FirstFailing.{Decodes};
 ghost use Rattle.sblock.specs.Area.{area_of};
 ghost use Rattle.sblock.specs.Blocks.{most_of, least_of, level_fits, count_fits, header_of, key_in, rises_at, is_rising, is_child_inside, is_record_inside, is_inside, are_inside, is_supported_at, are_supported, block_fault, records_of, keys_of, children_of, AreKeysRising, IsRising, AllInside, AllSupported, AreBlocks};
 ghost use Rattle.sblock.specs.Kinds.{leaf_most_of, node_most_of};
@@ -219,9 +220,7 @@ fn first_fault<K: RecKind>(block: &Block, want: &Want) -> Option<BlockFault>
 #[tactic(auto, using(crate::proofs::BlockLemmas::has_level, crate::proofs::BlockLemmas::has_room, crate::proofs::BlockLemmas::records_rise, crate::proofs::BlockLemmas::records_lie_inside, crate::proofs::BlockLemmas::records_are_supported, crate::proofs::BlockLemmas::keys_rise, crate::proofs::BlockLemmas::children_lie_inside))]
 pub fn verify<K: RecKind>(block: &Block, want: &Want) -> Result<Header, BlockFault>
     requires { want.now.kind ≡ K.form.kind }
-    ensures exact { MatchResult result
-        (λ header. (block_fault K.form block.now.bytes want.now ≡ None) × (header ≡ header_of block.now.bytes))
-        (λ fault. block_fault K.form block.now.bytes want.now ≡ Some fault) }
+    ensures exact { Decodes (block_fault K.form block.now.bytes want.now) (λ header. header ≡ header_of block.now.bytes) result }
     ensures level { IfOk result (λ header. (header.level ≡ want.now.level) × (header.level ≤ 8)) }
     ensures count { IfOk result (λ header. header.numrecs ≤ most_of K.form.kind (want.now.level == 0)) }
     ensures rising { IfOk result (λ header. want.now.level ≡ 0 → IsRising K.form (records_of K.form block.now.bytes)) }

@@ -1,8 +1,8 @@
-use Rattle.std.proofs.Common.{Bool, IfSome, refl, ap, subst, ◌∙◌}
+use Rattle.std.proofs.Common.{Bool, IfSome, ap, subst, ◌∙◌}
 use Rattle.blk_device.specs.Contents.{map_told}
 use Rattle.redo_area.specs.Area.{closed_over}
 use Rattle.redo_area.specs.Recover.{IsSeen}
-use Rattle.redo_area.proofs.Steps.{not_raised, raised_both, seen_open, seen_shut}
+use Rattle.redo_area.proofs.Steps.{raised_both, seen_open, seen_shut}
 use Rattle.redo_area.proofs.recovery.recover.Goals as goal
 
 pub returns-in_err-finish-clause-reads : goal.returns-in_err-finish-clause-reads

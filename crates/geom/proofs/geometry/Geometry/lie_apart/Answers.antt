@@ -1,4 +1,4 @@
-use Rattle.std.proofs.Common.{◌≡◌, ℕ, ap, sym, ◌∙◌, subst}
+use Rattle.std.proofs.Common.{◌≡◌, ℕ, sym, subst}
 use Rattle.geom.specs.Layout.{device_block_of}
 use Rattle.geom.specs.Places.{layout}
 use Rattle.geom.proofs.ApartLemmas.{blocks_differ, groups_differ}
