@@ -1,6 +1,6 @@
 -- What a walk from the root meets.
-use Rattle.std.proofs.Common.{◌≡◌, ℕ, ◌+◌, ◌-◌, ◌<◌, ◌≤◌, Bool, true, false, List, Option, Some, None, Result, Err, refl, ◌∙◌, arith}
-use Rattle.std.specs.Prelude.{◌==◌, ◌&&◌, nat_le, nat_lt, if◌then◌else◌, IfSome}
+use Rattle.std.proofs.Common.{◌≡◌, ℕ, ◌+◌, ◌-◌, ◌<◌, ◌≤◌, Bool, true, false, List, Some, None, Result, Err, refl, ◌∙◌, arith}
+use Rattle.std.specs.Prelude.{◌==◌, ◌&&◌, nat_le, nat_lt, if◌then◌else◌}
 use Rattle.std.proofs.lemmas.Bool.Decides.{nat_tests}
 use Rattle.byte_fields.specs.Fields.{field}
 use Rattle.sblock.specs.Blocks.{block_fault, level_fits}
@@ -12,7 +12,7 @@ use Rattle.tree_defs.specs.Tree.{Trail, fresh, top_of, sooner, sibling_fault, or
 use Rattle.tree_defs.specs.Walked.{walked_node, walked}
 use Rattle.tree_defs.specs.declared.site.Site.{Site}
 use Rattle.tree_blocks.specs.Meets.{Refuses}
-use Rattle.tree_walk.specs.Meets.{MeetsTree, CountedBy, HasRead}
+use Rattle.tree_walk.specs.Meets.{MeetsTree, CountedBy}
 use Rattle.tree_blocks.specs.declared.tree.TreeRead.{TreeRead}
 use Rattle.tree_blocks.specs.declared.tree.WalkFault.{WalkFault}
 use Rattle.tree_blocks.specs.declared.tree.WalkFault.TheVariants.{Bad, Failed, Memory}

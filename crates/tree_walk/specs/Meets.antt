@@ -1,7 +1,11 @@
 -- The answer of a walk beside what the tree reads as.
 use Rattle.std.specs.Prelude.{◌≡◌, ◌≤◌, ℕ, ◌+◌, List, Option, Result, Ok, Err}
 use Rattle.sblock.specs.declared.block.BlockFault.{BlockFault}
-use Rattle.tree_defs.specs.Tree.{Trail, Read}
+use Rattle.sblock.specs.Form.{Form}
+use Rattle.tree_defs.specs.Tree.{Trail, Read, read_tree}
+use Rattle.tree_defs.specs.Walked.{walked}
+use Rattle.tree_defs.specs.declared.site.Site.{Site}
+use Rattle.tree_blocks.specs.declared.tree.TreeAt.{TreeAt}
 use Rattle.sblock.specs.declared.spans.Span.{Span}
 use Rattle.tree_blocks.specs.Meets.{Refuses}
 use Rattle.tree_blocks.specs.declared.tree.TreeRead.{TreeRead}
@@ -18,6 +22,10 @@ abbrev pub MeetsTree : {R : Type 0} → Result (List R × List ℕ) (ℕ × Bloc
 MeetsTree read (Ok tree) = read ≡ Ok (tree.recs.items, tree.blocks.items)
 MeetsTree read (Err fault) = Refuses read fault
 
+-- the tree with this root and these levels is read
+abbrev pub MeetsTreeAt : {R K : Type 0} → Form R K → Site → (ℕ → List ℕ) → TreeAt → Result (TreeRead R) WalkFault → Type 0
+MeetsTreeAt form site m tree result = MeetsTree (read_tree form site m tree.root tree.levels) result
+
 -- n blocks were counted as read, or no more than n where the walk was cut off
 abbrev pub CountedBy : ℕ → ℕ → ℕ → WalkFault → Type 0
 CountedBy before n after (Bad block fault) = after ≡ before + n
@@ -27,3 +35,7 @@ CountedBy before n after Memory = after ≤ before + n
 abbrev pub HasRead : {A : Type 0} → ℕ → ℕ → ℕ → Result A WalkFault → Type 0
 HasRead before n after (Ok a) = after ≡ before + n
 HasRead before n after (Err fault) = CountedBy before n after fault
+
+-- the blocks of this tree that a walk reads were counted
+abbrev pub CountsTree : {A R K : Type 0} → Form R K → Site → (ℕ → List ℕ) → TreeAt → ℕ → ℕ → Result A WalkFault → Type 0
+CountsTree form site m tree before after result = HasRead before (walked form site m tree.root tree.levels) after result

@@ -5,10 +5,10 @@ ghost use Rattle.geom.specs.Places.{layout};
 ghost use Rattle.sblock.specs.Kinds.{node_most_of};
 ghost use Rattle.tree_defs.specs.Sites.{bounds_of};
 ghost use Rattle.tree_defs.specs.Tree.{entry_at, agrees, fresh, closed, read_node, read_tree};
-ghost use Rattle.tree_blocks.specs.Told.{OfTree};
+ghost use Rattle.tree_blocks.specs.Told.{OfTree, WhereTold};
 ghost use Rattle.tree_blocks.specs.Meets.{Refuses};
 ghost use Rattle.tree_defs.specs.Walked.{walked_node, walked};
-ghost use Rattle.tree_walk.specs.Meets.{MeetsNode, MeetsTree, HasRead, CountedBy};
+ghost use Rattle.tree_walk.specs.Meets.{MeetsNode, MeetsTree, MeetsTreeAt, HasRead, CountedBy, CountsTree};
 ghost use Rattle.tree_blocks.specs.Calls.{Reads};
 ghost use Rattle.blk_device.specs.Reading.{OnlyRead};
 ghost use Rattle.blk_device.specs.Causes.{HasCause};
@@ -168,12 +168,11 @@ pub fn walk_site<K: RecKind, B: Blocks>(
     tree: &TreeAt,
 ) -> Result<TreeRead<K::Rec>, WalkFault>
     requires here { B.place blocks.old ≡ site.now }
-    ensures exact { (m : ℕ → List ℕ) → B.told blocks.old ≡ Some m
-        → MeetsTree (read_tree K.form site.now m tree.now.root tree.now.levels) result }
+    ensures exact { WhereTold (B.told blocks.old) (λ m. MeetsTreeAt K.form site.now m tree.now result) }
     ensures sound { IfOk result (λ read. AreSound K.form site.now.bounds read.recs.items) }
     ensures lie { IfOk result (λ read. LieInside site.now.bounds.length read.blocks.items) }
-    ensures counted { (m : ℕ → List ℕ) → B.told blocks.old ≡ Some m
-        → HasRead (B.count blocks.old) (walked K.form site.now m tree.now.root tree.now.levels) (B.count blocks.new) result }
+    ensures counted { WhereTold (B.told blocks.old) (λ m.
+        CountsTree K.form site.now m tree.now (B.count blocks.old) (B.count blocks.new) result) }
     ensures reading { Reads B.Blocks blocks.old blocks.new }
     ensures cause { HasCause is_failed (B.faults blocks.old) (B.faults blocks.new) result }
     ensures each { IfOk result (λ read. B.count blocks.new ≡ B.count blocks.old + length read.blocks.items) }

@@ -2,7 +2,7 @@ use Rattle.std.proofs.Common.{◌≡◌, ◌-◌, ◌<◌, length, sym, ◌∙�
 use Rattle.sblock.specs.Area.{child_of}
 use Rattle.sblock.specs.Blocks.{numrecs}
 use Rattle.tree_defs.specs.Tree.{read_node}
-use Rattle.tree_defs.specs.Walked.{walked_children, walked_node}
+use Rattle.tree_defs.specs.Walked.{walked_node}
 use Rattle.tree_walk.specs.Trails.{trail_of}
 use Rattle.tree_walk.proofs.BlockFacts.{noted_blocks, noted_recs, noted_lie, lie_still, leaf_room, leaf_inside, node_room, children_inside, child_inside}
 use Rattle.tree_blocks.proofs.ReadingLemmas.{reads_on}
