@@ -1,4 +1,4 @@
-use crate::lost::{unclaimed, unlisted};
+use crate::lost::{of_old, unclaimed, unlisted};
 use crate::order::shown;
 use crate::piece::{Among, Memory, Piece};
 use crate::runs::OwnerRuns;
@@ -28,7 +28,7 @@ impl ClaimSet {
     ghost use Rattle.sblock.specs.Blocks.{IsRising};
     ghost use Rattle.sblock.specs.Lists.{Rises};
     ghost use Rattle.unit_plan.specs.Joined.{AreRunsOf, ClaimOnce, runs_of};
-    ghost use Rattle.unit_plan.specs.Lost.{is_unclaimed, is_unlisted};
+    ghost use Rattle.unit_plan.specs.Lost.{is_of_old, is_unclaimed, is_unlisted};
     ghost use Rattle.unit_plan.specs.Sets.{pieces_of, IsFirstOverlap, LieBelow};
     ghost use Rattle.unit_plan.specs.Spans.{MappingsRise, SpansFit, span_run};
     ghost use Rattle.unit_plan.specs.Spare.{IsLowest, is_spare};
@@ -130,7 +130,23 @@ impl ClaimSet {
         Ok(unlisted(alloc, length, self.pieces.as_slice(), free)?)
     }
 
-    /// The limbo of a switch of another unit: the maximal runs of the blocks of a group of `length`
+    /// The limbo of a switch of inodes: the maximal runs of the blocks of a group of `length` blocks that
+    /// the old inode btrees have which could be read; `ino` and `fino` say whether each could. It takes
+    /// memory for a record a piece (XFS Online Fsck Design, "Reaping After Repairing Ondisk Metadata").
+    pub fn lost_trees(
+        &self,
+        alloc: Global,
+        length: u32,
+        ino: bool,
+        fino: bool,
+    ) -> Result<Vec<Run>, Memory>
+        requires { LieBelow length (pieces_of self.now) }
+        ensures { IfOk result (λ runs. AreRunsBelow (is_of_old ino fino (pieces_of self.now)) length runs.items) }
+    {
+        Ok(of_old(alloc, length, self.pieces.as_slice(), ino, fino)?)
+    }
+
+    /// The limbo of a switch of free space or of reference counts: the maximal runs of the blocks of a group of `length`
     /// blocks that the reverse mappings give to the unit's owner and that nothing claims, the unit's old
     /// btrees aside. It takes memory for a record a piece and for the owner's mappings
     /// (XFS Online Fsck Design, "Reaping After Repairing Ondisk Metadata").
