@@ -1,6 +1,6 @@
 //! Measures a set of claims: `bench_plan pieces` prints the time that each of 10,000, 100,000 and
-//! 1,000,000 pieces takes to be put, to be asked for the first overlap, and to be asked for the
-//! lowest spare block. With no word it measures nothing and prints nothing.
+//! 1,000,000 pieces takes to be put, to be asked for the first overlap and for the lowest spare
+//! block, and to become the runs of its owner. With no word it measures nothing and prints nothing.
 #![tactic(auto)]
 
 mod measure;
@@ -21,8 +21,9 @@ fn main(rt: HostRuntime) -> io::Result<()> {
             let put = spent.put;
             let overlap = spent.overlap;
             let spare = spent.spare;
+            let runs = spent.runs;
             println!(&rt;
-                "{pieces} pieces: {put} ns a piece put, {overlap} ns first overlap, {spare} ns lowest spare block"
+                "{pieces} pieces: {put} ns a piece put, {overlap} ns first overlap, {spare} ns lowest spare block, {runs} ns runs"
             )?;
         }
     }

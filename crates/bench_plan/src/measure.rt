@@ -18,6 +18,7 @@ pub(crate) struct Times {
     pub(crate) put: u128,
     pub(crate) overlap: u128,
     pub(crate) spare: u128,
+    pub(crate) runs: u128,
 }
 
 fn each_since<R: Clock>(rt: &R, start: &Instant, pieces: u32) -> io::Result<u128> {
@@ -72,12 +73,19 @@ pub(crate) fn measured<R: Clock>(rt: &R, alloc: Global, pieces: u32) -> io::Resu
     let start = Instant::now(rt)?;
     let spare = lowest_spare(&mut set);
     let walked = each_since(rt, &start, pieces)?;
-    if overlap.is_some() || spare.is_none() {
-        return Err(io::Error::new(io::ErrorKind::InvalidData, "a gap or an overlap"));
+    let start = Instant::now(rt)?;
+    let runs = set.into_runs();
+    let joined = each_since(rt, &start, pieces)?;
+    if overlap.is_some() || spare.is_none() || runs.len() != pieces as usize {
+        return Err(io::Error::new(
+            io::ErrorKind::InvalidData,
+            "a gap, an overlap or a joined run",
+        ));
     }
     Ok(Times {
         put,
         overlap: asked,
         spare: walked,
+        runs: joined,
     })
 }

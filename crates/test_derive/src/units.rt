@@ -1,4 +1,4 @@
-use index_derive::{joined_runs, listed_units};
+use index_derive::{has_unit, joined_runs, listed_units};
 use ino_recs::InoRec;
 use rmap_recs::RmapRec;
 use run_sets::Run;
@@ -62,6 +62,10 @@ fn both_trees_list_units(rt: HostRuntime) -> Result<(), Fail> {
         },
     ];
     assert_eq!(rt; units.as_slice(), wanted.as_slice());
+    for unit in 0..40u32 {
+        let listed = matches!(unit, 3..=5 | 9 | 31);
+        assert_eq!(rt; has_unit(units.as_slice(), unit), listed, "{unit}");
+    }
     let none = listed_units(rt.alloc(), 256, &[], &[])?;
     assert_eq!(rt; none.as_slice(), [].as_slice());
     Ok(())
