@@ -1,4 +1,5 @@
 pub mod BadLemmas
+pub mod EachLemmas
 pub mod EndLemmas
 pub mod FirstLemmas
 pub mod JoinLemmas
@@ -8,6 +9,7 @@ pub mod LeafLemmas
 pub mod NextLemmas
 pub mod PartLemmas
 pub mod PieceLemmas
+pub mod RangeLemmas
 pub mod RestLemmas
 pub mod ResumeLemmas
 pub mod RiseLemmas

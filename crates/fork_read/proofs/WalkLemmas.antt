@@ -77,7 +77,7 @@ module _ (at : Layout) (image : Image) (core : Core3) (from : ℕ) where
       ap (λ (f : Trail → Result Trail Trail). walk_from at image core from level t e >>= f) (λ i u. each_then level es xs u i) ∙ sym (grouped (walk_from at image core from level t e) (walk_each (walk_from at image core from level) es) (walk_tasks at image core from xs))
 
   -- a block that isn't sound ends the walk
-  bad_level : (level : ℕ) (e : Entry) (t : Trail) → read_at at image core from level (t.last level) e (split_of at e.block) ≡ None → walk_from at image core from level t e ≡ Err t
+  pub bad_level : (level : ℕ) (e : Entry) (t : Trail) → read_at at image core from level (t.last level) e (split_of at e.block) ≡ None → walk_from at image core from level t e ≡ Err t
   unfolding walk_from
   bad_level zero e t h = rw h refl
   bad_level (suc level) e t h = rw h refl
@@ -87,7 +87,7 @@ module _ (at : Layout) (image : Image) (core : Core3) (from : ℕ) where
   bad_block x xs t h = rw (bad_level x.level (entry_of x) t h) refl
 
   -- a leaf gives its mappings
-  leaf_level : (level : ℕ) (e : Entry) (t : Trail) (bytes : List ℕ) → level ≡ 0 → read_at at image core from level (t.last level) e (split_of at e.block) ≡ Some bytes → walk_from at image core from level t e ≡ Ok (with_mappings (leaf_mappings bytes) (passed_from from level e bytes t))
+  pub leaf_level : (level : ℕ) (e : Entry) (t : Trail) (bytes : List ℕ) → level ≡ 0 → read_at at image core from level (t.last level) e (split_of at e.block) ≡ Some bytes → walk_from at image core from level t e ≡ Ok (with_mappings (leaf_mappings bytes) (passed_from from level e bytes t))
   unfolding walk_from
   leaf_level zero e t bytes low h = rw h refl
   leaf_level (suc level) e t bytes low h = absurd (omega (arith, low))
@@ -97,7 +97,7 @@ module _ (at : Layout) (image : Image) (core : Core3) (from : ℕ) where
   leaf_block x xs t u bytes low h e = rw (leaf_level x.level (entry_of x) t bytes low h, e) refl
 
   -- a node gives its entries
-  node_level : (level : ℕ) (e : Entry) (t : Trail) (bytes : List ℕ) → 0 < level → read_at at image core from level (t.last level) e (split_of at e.block) ≡ Some bytes → walk_from at image core from level t e ≡ walk_each (walk_from at image core from (level - 1)) (pruned (skipped_to from (t.last level) e.key) (node_entries bytes)) (passed_from from level e bytes t)
+  pub node_level : (level : ℕ) (e : Entry) (t : Trail) (bytes : List ℕ) → 0 < level → read_at at image core from level (t.last level) e (split_of at e.block) ≡ Some bytes → walk_from at image core from level t e ≡ walk_each (walk_from at image core from (level - 1)) (pruned (skipped_to from (t.last level) e.key) (node_entries bytes)) (passed_from from level e bytes t)
   unfolding walk_from
   node_level zero e t bytes high h = absurd (omega (arith, high))
   node_level (suc level) e t bytes high h =
@@ -116,11 +116,11 @@ module _ (at : Layout) (image : Image) (core : Core3) (from : ℕ) where
   entries_below skipped zero bytes high = absurd (omega (arith, high))
   entries_below skipped (suc level) bytes high = let below : suc level - 1 ≡ level = omega arith in rw below refl
 
-  taken_leaf : (level : ℕ) (e : Entry) (bytes : List ℕ) (t : Trail) → level ≡ 0 → taken_in from level e bytes t ≡ with_mappings (leaf_mappings bytes) (passed_from from level e bytes t)
+  pub taken_leaf : (level : ℕ) (e : Entry) (bytes : List ℕ) (t : Trail) → level ≡ 0 → taken_in from level e bytes t ≡ with_mappings (leaf_mappings bytes) (passed_from from level e bytes t)
   taken_leaf zero e bytes t low = refl
   taken_leaf (suc level) e bytes t low = absurd (omega (arith, low))
 
-  taken_node : (level : ℕ) (e : Entry) (bytes : List ℕ) (t : Trail) → 0 < level → taken_in from level e bytes t ≡ passed_from from level e bytes t
+  pub taken_node : (level : ℕ) (e : Entry) (bytes : List ℕ) (t : Trail) → 0 < level → taken_in from level e bytes t ≡ passed_from from level e bytes t
   taken_node zero e bytes t high = absurd (omega (arith, high))
   taken_node (suc level) e bytes t high = refl
 

@@ -1,5 +1,5 @@
 -- What a piece of a fork is, by the bytes of an image.
-use Rattle.std.specs.Prelude.{◌≡◌, ℕ, ◌*◌, ◌/◌, ◌%◌, ◌<◌, ◌≤◌, length, true, false, List, [], map, take, drop, Option, Some, None, Result, Ok, Err, IfSome, ◌⊎◌, ⊤}
+use Rattle.std.specs.Prelude.{◌≡◌, ℕ, ◌*◌, ◌/◌, ◌%◌, ◌<◌, ◌≤◌, length, true, false, List, [], map, take, drop, Option, Some, None, Result, Ok, Err, All, IfSome, ◌⊎◌, ⊤}
 use Rattle.blk_cache.specs.Cache.{Keeps, Stays}
 use Rattle.blk_cache.specs.declared.cache.BlkCache.{BlkCache}
 use Rattle.byte_fields.specs.declared.block.Block.{Block}
@@ -10,7 +10,7 @@ use Rattle.dinode_core.specs.declared.mapping.ForkError.{ForkError}
 use Rattle.dinode_core.specs.declared.mapping.ForkError.TheVariants.{Fault, Memory as NoMemory}
 use Rattle.dinode_core.specs.declared.mapping.ForkFault.{ForkFault}
 use Rattle.dinode_core.specs.Core.{core_fault, core_of}
-use Rattle.dinode_core.specs.Inline.{inline_fault, inline_mappings, root_level}
+use Rattle.dinode_core.specs.Inline.{in_range, inline_fault, inline_mappings, root_level}
 use Rattle.dinode_core.specs.Shape.{area_of}
 use Rattle.dinode_core.specs.ForkTree.{Image, Trail, is_tree, start}
 use Rattle.fork_read.specs.declared.fault.ForkPiece.{ForkPiece}
@@ -27,6 +27,10 @@ pub record IsSized (from : ℕ) (piece : ForkPiece) : Type 0 where
   pub most : length piece.mappings.items ≤ 512
   pub some : (offset : ℕ) → piece.next ≡ Some offset → 0 < length piece.mappings.items
   pub behind : (offset : ℕ) → piece.next ≡ Some offset → from < offset
+
+-- each mapping lies in one group, and ends where a mapping may
+abbrev pub AreInRange : Layout → Fork → ForkPiece → Type 0
+AreInRange at fork piece = All (λ m. in_range at fork m ≡ true) piece.mappings.items
 
 -- the 512 bytes of an inode in its block
 abbrev pub slot_bytes : List ℕ → ℕ → List ℕ

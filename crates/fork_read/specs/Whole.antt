@@ -67,6 +67,16 @@ RefusalsAreFirst at core fork =
     (image : Image) (pieces : List ForkPiece) (from : ℕ) (fault : ForkFault) → Follow at image core fork (Some 0) pieces (Some from)
     → IsForkFault at image core fork from fault → (walk_fault at image core fork ≡ Some fault) ⊎ IsCut at image core fork from fault
 
+-- there is a first fault
+abbrev pub HasFault : Option ForkFault → Type 0
+HasFault found = (fault : ForkFault) × (found ≡ Some fault)
+
+-- pieces from 0 on come to the end of a fork that has no first fault, and of one that has some a piece is refused
+abbrev pub FirstFaultTells : Layout → Core3 → Fork → Type 0
+FirstFaultTells at core fork =
+    (image : Image) (pieces : List ForkPiece) → (Follow at image core fork (Some 0) pieces None → walk_fault at image core fork ≡ None)
+    × ((from : ℕ) (fault : ForkFault) → Follow at image core fork (Some 0) pieces (Some from) → IsForkFault at image core fork from fault → HasFault (walk_fault at image core fork))
+
 -- a piece of a fork without a fault has nothing of other forks
 abbrev pub PiecesAreParts : Layout → Core3 → Fork → Type 0
 PiecesAreParts at core fork =

@@ -51,8 +51,8 @@ fn stop_fault_of(seen: &Seen, levels: u8, stop: &Stop) -> Option<ForkFault>
     }
 }
 
-// The first fault of what was met: a bad mapping comes before a bad block.
-fn judge(geo: &Geometry, fork: Fork, levels: u8, seen: &Seen, stop: &Stop) -> Option<ForkFault>
+/// The first fault of what was met: a bad mapping comes before a bad block.
+pub fn judge(geo: &Geometry, fork: Fork, levels: u8, seen: &Seen, stop: &Stop) -> Option<ForkFault>
     requires { levels ≤ 9 }
     ensures { result ≡ judged (layout geo.now) fork levels stop.now (trail_of seen.now) }
 {

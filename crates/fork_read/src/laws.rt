@@ -1,5 +1,5 @@
 ghost use Rattle.geom.specs.Places.{layout};
-ghost use Rattle.fork_read.specs.Whole.{PiecesAreParts, PiecesJoin, RefusalsAreFirst};
+ghost use Rattle.fork_read.specs.Whole.{FirstFaultTells, PiecesAreParts, PiecesJoin, RefusalsAreFirst};
 
 use dinode_core::{Core3, Fork};
 use geom::Geometry;
@@ -18,6 +18,13 @@ pub fn pieces_join(core: &Core3, fork: Fork, geo: &Geometry)
 /// (XFS Algorithms and Data Structures, "Data Fork".)
 pub fn refusal_is_first(core: &Core3, fork: Fork, geo: &Geometry)
     ensures { RefusalsAreFirst (layout geo.now) core.now fork }
+{}
+
+/// Pieces from 0 on, each from where the one before leaves something, come to the end of a fork in
+/// which `first_fault` finds nothing, and where one is refused, it finds a fault: the fork's first one.
+/// (XFS Algorithms and Data Structures, "Data Fork".)
+pub fn first_fault_tells(core: &Core3, fork: Fork, geo: &Geometry)
+    ensures { FirstFaultTells (layout geo.now) core.now fork }
 {}
 
 /// A piece of a fork without a fault, from any offset on, has mappings of the fork only, and blocks of

@@ -3,6 +3,7 @@
 
 mod block;
 mod fault;
+mod first;
 mod inode;
 mod judge;
 mod laws;
@@ -12,5 +13,6 @@ mod tasks;
 mod walk;
 
 pub use fault::{ForkPiece, ReadFault};
-pub use laws::{pieces_are_parts, pieces_join, refusal_is_first};
-pub use piece::fork_piece;
+pub use first::{first_fault, first_fault_of_core};
+pub use laws::{first_fault_tells, pieces_are_parts, pieces_join, refusal_is_first};
+pub use piece::{fork_piece, piece_of_core};

@@ -10,7 +10,7 @@ ghost use Rattle.dinode_core.specs.ForkTree.{entries, is_tree};
 ghost use Rattle.dinode_core.specs.Inline.{form_fault, key_room, root_keys, root_level};
 ghost use Rattle.dinode_core.specs.Shape.{size_of};
 ghost use Rattle.fork_read.specs.Answers.{is_failed};
-ghost use Rattle.fork_read.specs.Pieces.{CachesInode, IsAnswer, IsForkAnswer, IsRefused, IsSized, IsTreeAnswer};
+ghost use Rattle.fork_read.specs.Pieces.{AreInRange, CachesInode, IsAnswer, IsForkAnswer, IsRefused, IsSized, IsTreeAnswer};
 ghost use Rattle.fork_read.specs.Walk.{pruned, tasks_of};
 
 use crate::fault::{ForkPiece, ReadFault};
@@ -28,8 +28,8 @@ use std::alloc::Global;
 use std::collections::VecDeque;
 use std::sync::ledger::Ledger;
 
-// How many keys a btree's root has room for.
-fn root_room(core: &Core3, fork: Fork) -> usize
+/// How many keys a btree's root has room for.
+pub fn root_room(core: &Core3, fork: Fork) -> usize
     requires { 8 ≤ size_of core.now fork }
     ensures { result ≡ key_room (size_of core.now fork) }
 {
@@ -77,6 +77,7 @@ fn tree_piece<D: Device, L: Ledger>(
     requires room { geo.now.dblocks ≤ D.blocks dev.old Image }
     ensures exact { (c : Contents) → D.content dev.old ≡ Some c → IsTreeAnswer (layout geo.now) (c Image) core.now fork from result }
     ensures size { IfOk result (IsSized from) }
+    ensures range { IfOk result (AreInRange (layout geo.now) fork) }
     ensures reading { OnlyRead D.Device dev.old dev.new steps.old steps.new }
     ensures cause { HasCause is_failed (D.faults dev.old) (D.faults dev.new) result }
     ensures few { steps.new.reads ≤ steps.old.reads + 128 }
@@ -106,8 +107,10 @@ fn refused(error: ForkError) -> ReadFault
     }
 }
 
-// The piece of a fork of this core.
-fn piece_in<D: Device, L: Ledger>(
+/// The next mappings of a fork of this core, which was read before: what `fork_piece` answers of an
+/// inode with such a core. Its blocks come from the device itself, at most 128 of them.
+/// (XFS Algorithms and Data Structures, "Data Fork" and "Long Format B+trees".)
+pub fn piece_of_core<D: Device, L: Ledger>(
     alloc: Global,
     dev: &mut D,
     geo: &Geometry,
@@ -119,6 +122,7 @@ fn piece_in<D: Device, L: Ledger>(
     requires { geo.now.dblocks ≤ D.blocks dev.old Image }
     ensures exact { (c : Contents) → D.content dev.old ≡ Some c → IsForkAnswer (layout geo.now) (c Image) core.now fork from result }
     ensures size { IfOk result (IsSized from) }
+    ensures range { IfOk result (AreInRange (layout geo.now) fork) }
     ensures reading { OnlyRead D.Device dev.old dev.new steps.old steps.new }
     ensures cause { HasCause is_failed (D.faults dev.old) (D.faults dev.new) result }
     ensures few { steps.new.reads ≤ steps.old.reads + 128 }
@@ -137,7 +141,7 @@ fn piece_in<D: Device, L: Ledger>(
 /// the blocks of its btree whose first mapping isn't one of an earlier piece, at most 128 of which are
 /// read, from the device itself. Where `next` is given, a subtree that begins there is left, and at
 /// least one mapping came. The core's first fault is refused, and the fork's: the first of what was
-/// met. The number of a btree's mappings isn't compared with the core's. (XFS Algorithms and Data
+/// met, which `first_fault` tells of the whole fork. The number of a btree's mappings isn't compared with the core's. (XFS Algorithms and Data
 /// Structures, "Data Fork" and "Long Format B+trees".)
 pub fn fork_piece<D: Device, L: Ledger>(
     alloc: Global,
@@ -154,6 +158,7 @@ pub fn fork_piece<D: Device, L: Ledger>(
     requires agreed { AgreesTold cache.old (D.content dev.old) }
     ensures exact { (c : Contents) → D.content dev.old ≡ Some c → IsAnswer (layout geo.now) (c Image) ino fork from result }
     ensures size { IfOk result (IsSized from) }
+    ensures range { IfOk result (AreInRange (layout geo.now) fork) }
     ensures reading { OnlyRead D.Device dev.old dev.new steps.old steps.new }
     ensures cause { HasCause is_failed (D.faults dev.old) (D.faults dev.new) result }
     ensures agrees { AgreesTold cache.new (D.content dev.new) }
@@ -164,5 +169,5 @@ pub fn fork_piece<D: Device, L: Ledger>(
         Ok(core) => core,
         Err(fault) => return Err(fault),
     };
-    piece_in(alloc, dev, geo, &core, fork, from, steps)
+    piece_of_core(alloc, dev, geo, &core, fork, from, steps)
 }

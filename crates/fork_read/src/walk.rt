@@ -66,8 +66,8 @@ fn load<D: Device, L: Ledger>(
     }
 }
 
-// Reads the block of a subtree and tests it in its place; none where it isn't sound.
-fn open_task<D: Device, L: Ledger>(
+/// Reads the block of a subtree and tests it in its place; none where it isn't sound.
+pub fn open_task<D: Device, L: Ledger>(
     dev: &mut D,
     geo: &Geometry,
     core: &Core3,

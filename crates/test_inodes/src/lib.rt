@@ -2,6 +2,8 @@
 #![tactic(auto)]
 
 #[cfg(test)]
+mod first;
+#[cfg(test)]
 mod inodes;
 #[cfg(test)]
 mod pieces;

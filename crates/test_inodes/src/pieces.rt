@@ -13,16 +13,16 @@ use std::sync::ledger::{Blank, Ledger};
 use std::test::Fail;
 
 // No sibling.
-const NONE: u64 = 0xffff_ffff_ffff_ffff;
+pub const NONE: u64 = 0xffff_ffff_ffff_ffff;
 
 // The bytes 1 to 16, as two numbers.
 const UUID: (u64, u64) = (0x0102_0304_0506_0708, 0x090a_0b0c_0d0e_0f10);
 
 // One block from block 100 on.
-const ONE: u64 = (100 << 21) + 1;
+pub const ONE: u64 = (100 << 21) + 1;
 
 // Two groups, of 256 blocks and of 64, so that a file system block is the block of that number.
-fn geometry() -> Geometry {
+pub fn geometry() -> Geometry {
     Geometry {
         agblocks: 256,
         agcount: 2,
@@ -41,7 +41,7 @@ fn mend(block: &mut Block) {
 }
 
 // A block of the btree of inode 195: its level, the count of its records, its siblings and its place.
-fn tree_block(level: u16, count: u16, left: u64, right: u64, at: u32) -> Block {
+pub fn tree_block(level: u16, count: u16, left: u64, right: u64, at: u32) -> Block {
     let mut block = Block::zeroed();
     let bytes = &mut block.bytes;
     put_u32(bytes, 0, 0x424d_4133);
@@ -57,7 +57,7 @@ fn tree_block(level: u16, count: u16, left: u64, right: u64, at: u32) -> Block {
 }
 
 // Writes two words into a block.
-fn put_pair(block: &mut Block, at: usize, high: u64, low: u64) {
+pub fn put_pair(block: &mut Block, at: usize, high: u64, low: u64) {
     if at <= 4080 {
         put_u64(&mut block.bytes, at, high);
         put_u64(&mut block.bytes, at + 8, low);
@@ -65,7 +65,7 @@ fn put_pair(block: &mut Block, at: usize, high: u64, low: u64) {
 }
 
 // A leaf with so many mappings of one block: offsets from this one on, every second one.
-fn leaf(count: u16, left: u64, right: u64, at: u32, first: u16) -> Block {
+pub fn leaf(count: u16, left: u64, right: u64, at: u32, first: u16) -> Block {
     let mut block = tree_block(0, count, left, right, at);
     for i in 0..count {
         let offset = u64::from(first) + 2 * u64::from(i);
@@ -76,7 +76,7 @@ fn leaf(count: u16, left: u64, right: u64, at: u32, first: u16) -> Block {
 }
 
 // A leaf of which one mapping is another.
-fn spoiled(leaf: Block, i: u8, high: u64, low: u64) -> Block {
+pub fn spoiled(leaf: Block, i: u8, high: u64, low: u64) -> Block {
     let mut block = leaf;
     put_pair(&mut block, 72 + 16 * usize::from(i), high, low);
     mend(&mut block);
@@ -105,7 +105,7 @@ fn root_places(fork: Fork) -> (usize, usize)
 
 // Block 24, whose slot 3 has inode 195 with a root of this level, of so many keys, of which three are
 // here beside the blocks that they lead to.
-fn inodes(fork: Fork, level: u16, keys: u16, entries: [(u64, u64); 3]) -> Block {
+pub fn inodes(fork: Fork, level: u16, keys: u16, entries: [(u64, u64); 3]) -> Block {
     let mut block = Block::zeroed();
     let mut bytes = [0; 512];
     let (root, pointers) = root_places(fork);
@@ -184,7 +184,7 @@ fn counted<L: Ledger>(
 }
 
 // The piece of a fork of inode 195, for a caller that counts no steps.
-fn piece_at(
+pub fn piece_at(
     alloc: Global,
     device: MemDevice,
     fork: Fork,
@@ -196,7 +196,7 @@ fn piece_at(
 
 // A btree of three leaves: two full ones, the second's last mapping with this low word, and one with a
 // mapping alone.
-fn three_leaves(alloc: Global, fork: Fork, low: u64) -> Result<MemDevice, AllocError> {
+pub fn three_leaves(alloc: Global, fork: Fork, low: u64) -> Result<MemDevice, AllocError> {
     let full = leaf(251, 40, 42, 41, 502);
     device_of(
         alloc,

@@ -3,8 +3,10 @@ use Rattle.blk_device.specs.declared.device.Region.TheVariants.{Image}
 use Rattle.geom.specs.Places.{layout}
 use Rattle.dinode_core.specs.Inline.{key_room, root_level}
 use Rattle.dinode_core.specs.Shape.{area_of, size_of}
+use Rattle.fork_read.specs.Answers.{next_of}
 use Rattle.fork_read.specs.Walk.{trail_of}
 use Rattle.fork_read.proofs.PieceLemmas.{ends_of, numbers_same, tree_answered, tree_outside}
+use Rattle.fork_read.proofs.RangeLemmas.{tree_ranged}
 use Rattle.fork_read.proofs.RootLemmas.{first_pushed, low_first, root_facts}
 use Rattle.fork_read.proofs.SizeLemmas.{sized}
 use Rattle.fork_read.proofs.piece.tree_piece.Goals as goal
@@ -53,3 +55,7 @@ returns-clause-exact g c = λ m e.
 
 pub returns-clause-size : goal.returns-clause-size
 returns-clause-size g c = sized (layout c.args.geo.now) c.args.fork c.in-Ok.level c.args.from (trail_of c.walk_piece.new.seen) (map (λ b. b.block) c.walk_piece.new.seen.blocks.items) c.walk_piece.new.tasks.items c.in-Ok-walk_piece.stop c.answer.result c.answer.ensures.good c.in-Ok-walk_piece.ensures.leaves c.answer.ensures.piece
+
+pub returns-clause-range : goal.returns-clause-range
+returns-clause-range g c =
+    tree_ranged (layout c.args.geo.now) c.args.fork c.in-Ok.level c.args.from c.in-Ok-walk_piece.stop (trail_of c.walk_piece.new.seen) (map (λ b. b.block) c.walk_piece.new.seen.blocks.items) (next_of c.in-Ok-walk_piece.stop) c.answer.result c.answer.ensures.good c.answer.ensures.piece

@@ -1,8 +1,9 @@
 use Rattle.geom.specs.Places.{layout}
 use Rattle.fork_read.proofs.PieceLemmas.{form_none}
-use Rattle.std.proofs.Common.{[]}
+use Rattle.std.proofs.Common.{[], None}
+use Rattle.fork_read.proofs.RangeLemmas.{inline_ranged}
 use Rattle.fork_read.proofs.SizeLemmas.{inline_sized}
-use Rattle.fork_read.proofs.piece.piece_in.Goals as goal
+use Rattle.fork_read.proofs.piece.piece_of_core.Goals as goal
 
 pub tree_piece-requires-clause-form : goal.tree_piece-requires-clause-form
 tree_piece-requires-clause-form g c = form_none (layout c.args.geo.now) c.args.core.now c.args.fork c.in-Ok.ensures.0
@@ -10,3 +11,7 @@ tree_piece-requires-clause-form g c = form_none (layout c.args.geo.now) c.args.c
 pub returns-clause-size : goal.returns-clause-size
 returns-clause-size g c =
     inline_sized (layout c.args.geo.now) c.args.core.now c.args.fork c.args.from c.as_slice.result.now c.in-Ok.mappings.items [] c.piece_of.result c.in-Ok.ensures.0 c.in-Ok.ensures.1 c.as_slice.ensures.value c.piece_of.ensures.piece
+
+pub returns-clause-range : goal.returns-clause-range
+returns-clause-range g c =
+    inline_ranged (layout c.args.geo.now) c.args.core.now c.args.fork c.args.from c.as_slice.result.now c.in-Ok.mappings.items [] None c.piece_of.result c.in-Ok.ensures.0 c.in-Ok.ensures.1 c.as_slice.ensures.value c.piece_of.ensures.piece

@@ -1,0 +1,30 @@
+use Rattle.std.proofs.Common.{◌≡◌, ◌+◌, ◌≤◌, ◌∙◌, ap, subst, arith}
+use Rattle.blk_device.specs.ReadingLaws.{read_on}
+use Rattle.blk_device.specs.declared.device.Region.TheVariants.{Image}
+use Rattle.geom.specs.Places.{layout}
+use Rattle.dinode_core.specs.declared.inode.Core3.{Core3}
+use Rattle.fork_read.specs.First.{most_met}
+use Rattle.fork_read.proofs.EachLemmas.{core_first, core_refused}
+use Rattle.fork_read.proofs.first.first_fault.Goals as goal
+
+pub returns-in-Err-clause-exact : goal.returns-in-Err-clause-exact
+returns-in-Err-clause-exact g c = λ m e. core_refused (layout c.args.geo.now) (m Image) c.args.ino c.args.fork c.in-Err.fault (c.in-Err.ensures.core m e)
+
+pub returns-in-Err-clause-each : goal.returns-in-Err-clause-each
+returns-in-Err-clause-each g c = λ m e. omega (arith, c.load_core.ensures.few)
+
+pub returns-clause-exact : goal.returns-clause-exact
+returns-clause-exact g c = λ m e.
+    let core = c.in-Ok.ensures.core m e in
+    core_first (layout c.args.geo.now) (m Image) c.args.ino c.args.fork c.in-Ok.core c.first_fault_of_core.result core.0 core.1 (c.first_fault_of_core.ensures.exact m (c.load_core.ensures.reading.same ∙ e))
+
+pub returns-clause-each : goal.returns-clause-each
+returns-clause-each g c = λ m e.
+    let core = c.in-Ok.ensures.core m e in
+    let few = c.first_fault_of_core.ensures.each m (c.load_core.ensures.reading.same ∙ e) in
+    let same = ap (λ (x : Core3). most_met (layout c.args.geo.now) (m Image) x c.args.fork) core.1 in
+    omega (arith, c.load_core.ensures.few, few, same)
+
+pub returns-clause-reading : goal.returns-clause-reading
+returns-clause-reading g c =
+    read_on g.D.Device g.met.D.Device.only_now g.met.D.Device.counts_now c.args.dev.now c.load_core.new.dev c.first_fault_of_core.new.dev c.args.steps.now c.load_core.new.steps c.first_fault_of_core.new.steps c.load_core.ensures.reading c.first_fault_of_core.ensures.reading

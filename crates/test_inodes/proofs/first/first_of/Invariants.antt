@@ -1,0 +1,5 @@
+use Rattle.test_inodes.proofs.first.first_of.Given as goal
+
+-- the ledger is the blank's
+abbrev pub ghosts-counted : goal.ghosts-counted
+ghosts-counted a = record { name = a.blank.name; parts = a.blank.parts }
