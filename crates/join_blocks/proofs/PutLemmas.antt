@@ -74,6 +74,7 @@ found_same told at n bytes x ps found there = (elim (at == n) as (λ t. (at == n
 ]) refl where
   eq_test : (x y : ℕ) → x ≡ y → (x == y) ≡ true
   eq_test x y e = grind arith
+
   differ : (t : Bool) → t ≡ true → t ≡ false → ⊥
   differ true e h = cc h
   differ false e h = cc e

@@ -16,7 +16,6 @@ use Rattle.kind_laws.specs.Laws.{CoversOne, BarsAsItMeets}
 
 -- ---- a record covers a block
 
-
 pub bno_covers : CoversOne bno_form
 unfolding is_span_in_range
 bno_covers bounds r h = grind (arith, nat_tests)
