@@ -2,7 +2,6 @@ ghost use Rattle.std.specs.Prelude.{◌≡◌, ◌-◌, ◌*◌, ◌+◌, ◌^�
 ghost use Rattle.sblock.specs.Blocks.{IsRising};
 ghost use Rattle.sblock.specs.Headers.{no_block};
 ghost use Rattle.sblock.specs.declared.kind.Kind.{Kind};
-ghost use Rattle.tree_defs.specs.Lists.{AllDiffer};
 ghost use Rattle.bulk_load.specs.Loaded.{left_for, right_for, header_for, IsLaid, IsNumber, IsLoaded};
 ghost use Rattle.bulk_load.specs.Shapes.{width, start, HasLevel, IsRow, IsShape};
 
@@ -125,7 +124,6 @@ pub fn load_piece<K: RecKind, L: Ledger>(
     requires ends { All (λ r. K.form.has_end r ≡ true) list.now }
     requires shaped { IsShape K.form.kind (length list.now) shape.now.levels shape.now.blocks }
     requires claimed { length claimed.now ≡ shape.now.blocks }
-    requires differ { AllDiffer claimed.now }
     requires places { (k : ℕ) → k < length claimed.now → 8 * (frame.now.first + slice_index claimed.now k) < 2 ^ 64 }
     requires begins { from < shape.now.blocks }
     ensures next { IfOk result (λ next. next ≡ from + min (shape.now.blocks - from) 64) }

@@ -1,5 +1,7 @@
 -- Which blocks an edited tree stands in, and where those go that are left over.
-use Rattle.std.specs.Prelude.{◌≡◌, ℕ, ◌+◌, ◌-◌, List, ◌++◌, length, take, drop}
+use Rattle.std.specs.Prelude.{◌≡◌, ℕ, ◌+◌, ◌-◌, ◌≤◌, List, ◌++◌, length, take, drop, vec_len, vec_capacity}
+use Rattle.std.specs.declared.vec.Vec.{Vec}
+use Rattle.std.specs.declared.alloc.Global.{Global}
 use Rattle.ag_headers.specs.Ring.{FreeRing}
 use Rattle.tree_defs.specs.Lists.{times}
 use Rattle.edit_blocks.specs.declared.choice.TheConstants.{LIST_MOST}
@@ -29,6 +31,10 @@ for_list listed blocks = take (LIST_MOST - length listed) blocks
 
 abbrev pub for_limbo : List ℕ → List ℕ → List ℕ
 for_limbo listed blocks = drop (LIST_MOST - length listed) blocks
+
+-- there is room in limbo for these blocks
+abbrev pub HasRoomFor : Vec ℕ Global → List ℕ → Type 0
+HasRoomFor limbo blocks = vec_len limbo + length blocks ≤ vec_capacity limbo
 
 -- a free list of the same group and image, of the same write
 pub record IsSameList (old new : FreeRing) : Type 0 where

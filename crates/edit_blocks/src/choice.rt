@@ -1,6 +1,6 @@
-ghost use Rattle.std.specs.Prelude.{◌≡◌, ◌+◌, ◌-◌, ◌≤◌, length, take, drop, ◌++◌, IfOk, OnErr, OnOk};
+ghost use Rattle.std.specs.Prelude.{◌≡◌, ◌+◌, ◌-◌, ◌≤◌, length, take, drop, ◌++◌, IfOk, OnOk};
 ghost use Rattle.ag_headers.specs.Ring.{entries};
-ghost use Rattle.edit_blocks.specs.Choice.{need_of, chosen, for_list, for_limbo, IsSameList};
+ghost use Rattle.edit_blocks.specs.Choice.{need_of, chosen, for_list, for_limbo, IsSameList, HasRoomFor};
 
 use ag_headers::Agfl;
 use std::alloc::{AllocError, Global};
@@ -56,20 +56,47 @@ fn put_all(list: &mut Agfl, blocks: &[u32])
     }
 }
 
-/// Puts the blocks that are left over at the end of the free list, in their order, and into `limbo`
-/// those for which the list has no room. Without memory nothing changes
+// Puts these blocks into limbo, which has room for them.
+fn push_all(limbo: &mut Vec<u32>, blocks: &[u32])
+    requires room { HasRoomFor limbo.old blocks.now }
+    ensures { limbo.new.items ≡ limbo.old.items ++ blocks.now }
+{
+    let mut rest = blocks;
+    while let Some((block, later)) = rest.split_first() {
+        limbo.push_reserved(*block);
+        rest = later;
+    }
+}
+
+/// Makes room in `limbo` for those of the blocks that are left over for which the free list has none
+/// once so many of its first blocks are taken off it. What limbo has stays; without memory it is
+/// refused (XFS Algorithms and Data Structures, "AG Free List").
+pub fn make_room(
+    list: &Agfl,
+    taken: u32,
+    limbo: &mut Vec<u32>,
+    freed: &[u32],
+) -> Result<(), AllocError>
+    requires enough { taken ≤ length (entries list.now) }
+    ensures same { limbo.new.items ≡ limbo.old.items }
+    ensures room { OnOk result (HasRoomFor limbo.new (for_limbo (drop taken (entries list.now)) freed.now)) }
+{
+    let room = (LIST_MOST - (list.len() - taken)) as usize;
+    limbo.try_reserve(freed.len().saturating_sub(room))
+}
+
+/// Puts the blocks that are left over at the end of the free list, in their order, and into `limbo`,
+/// which has room for them, those for which the list has none
 /// (XFS Algorithms and Data Structures, "AG Free List").
-pub fn give_back(list: &mut Agfl, limbo: &mut Vec<u32>, freed: &[u32]) -> Result<(), AllocError>
-    ensures list { OnOk result (entries list.new ≡ entries list.old ++ for_list (entries list.old) freed.now) }
-    ensures limbo { OnOk result (limbo.new.items ≡ limbo.old.items ++ for_limbo (entries list.old) freed.now) }
+pub fn give_back(list: &mut Agfl, limbo: &mut Vec<u32>, freed: &[u32])
+    requires room { HasRoomFor limbo.old (for_limbo (entries list.old) freed.now) }
+    ensures list { entries list.new ≡ entries list.old ++ for_list (entries list.old) freed.now }
+    ensures limbo { limbo.new.items ≡ limbo.old.items ++ for_limbo (entries list.old) freed.now }
     ensures same { IsSameList list.old list.new }
     ensures most { length (entries list.old) ≤ LIST_MOST }
-    ensures kept { OnErr result (list.new ≡ list.old) }
-    ensures kept_limbo { OnErr result (limbo.new.items ≡ limbo.old.items) }
 {
     let room = (LIST_MOST - list.len()) as usize;
     let (to_list, to_limbo) = freed.split_at(room.min(freed.len()));
-    limbo.extend_from_slice(to_limbo)?;
+    push_all(limbo, to_limbo);
     put_all(list, to_list);
-    Ok(())
 }

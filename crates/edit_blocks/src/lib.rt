@@ -5,5 +5,5 @@
 mod choice;
 mod laws;
 
-pub use choice::{LIST_MOST, choose, give_back, take_from};
+pub use choice::{LIST_MOST, choose, give_back, make_room, take_from};
 pub use laws::each_block_once;

@@ -1,17 +1,19 @@
 -- How many blocks are joined.
 use Rattle.std.proofs.Common.{◌≡◌, ◌≤◌, ◌<◌, ◌^◌, ℕ, suc, ◌+◌, Bool, true, false, List, [], ◌∷◌, ◌++◌, length, refl, sym, ap, subst, ◌∙◌, arith, Result, Ok, Err, IsErrOf, eqb-true, inl, inr}
-use Rattle.std.specs.Prelude.{◌↔◌, ◌⊎◌, ◌==◌, ◌||◌, not, nat_lt, is_some, if◌then◌else◌, Option, Some, None}
+use Rattle.std.specs.Prelude.{◌↔◌, ◌⊎◌, ◌==◌, ◌||◌, ◌&&◌, not, nat_lt, is_some, if◌then◌else◌, Option, Some, None}
+use Rattle.std.proofs.lemmas.Bool.Decides.{nat_tests}
 use Rattle.std.specs.Result.{IsErr, IsErrAnd}
+use Rattle.byte_fields.specs.Steps.{StepCount}
 use Rattle.byte_fields.specs.declared.block.Block.{Block}
 use Rattle.redo_area.specs.Area.{Batch}
 use Rattle.redo_area.specs.Table.{rises}
-use Rattle.meta_txn.specs.Joined.{bytes_at, with_block, IsBatch, WouldBe}
+use Rattle.meta_txn.specs.Joined.{bytes_at, with_block, reads_block, IsBatch, WouldBe}
 use Rattle.meta_txn.specs.Places.{is_there}
 use Rattle.meta_txn.proofs.ListLemmas.{there_is}
 use Rattle.meta_txn.proofs.JoinedLaws.{bytes_at_with}
 use Rattle.meta_txn.specs.declared.fault.TxnFault.{TxnFault}
 use Rattle.meta_txn.specs.declared.fault.TxnFault.TheVariants.{TooMany, Failed}
-use Rattle.join_blocks.specs.Joins.{is_joined, fresh, numbers, count_of, placed_in, CountGrows}
+use Rattle.join_blocks.specs.Joins.{is_joined, fresh, numbers, count_of, placed_in, ReadsNew, CountsAll, CountsJoined, CountGrows}
 
 -- one block more where its number wasn't there
 count_there : (at : ℕ) (bytes : List ℕ) (ps : Batch) → length (with_block at bytes ps) ≡ (if is_there at ps then length ps else suc (length ps))
@@ -44,6 +46,35 @@ is_failed Failed at ps only room = refl
 pub is_failed_joined : {S : Type 0} (fault : TxnFault) (at : ℕ) (ps : Batch) → ((n : ℕ) → IsErrOf {T = S} (Err fault) (TooMany n) ↔ WouldBe at ps n) → is_joined ps at ≡ true → fault ≡ Failed
 is_failed_joined (TooMany n) at ps only there = absurd (none_joined (bytes_at at ps) ((only n).0 refl).0 there)
 is_failed_joined Failed at ps only there = refl
+
+not_both : {T E : Type 0} (done : T) (fault : E) → ◌≡◌ {A = Result T E} (Ok done) (Err fault) → ⊥
+not_both done fault h = cc h
+
+-- a join that is answered reads its block where it wasn't joined
+pub one_read : {S : Type 0} (done : S) (at long : ℕ) (ps : Batch) (before after : StepCount) → (reads_block at ps ≡ false → after ≡ before) → (reads_block at ps ≡ true → after ≡ record before { reads = before.reads + 1 }) → ((n : ℕ) → IsErrOf {T = S} (Ok done) (TooMany n) ↔ WouldBe at ps n)
+    → long ≡ (if is_joined ps at then length ps else suc (length ps)) → after.reads + length ps ≡ before.reads + long
+one_read {S} done at long ps before after none one many count = cases (bytes_at at ps) refl where
+  cases : (o : Option (List ℕ)) → bytes_at at ps ≡ o → after.reads + length ps ≡ before.reads + long
+  cases (Some b) e =
+      let same = ap (λ (s : StepCount). s.reads) (none (ap (λ (o : Option (List ℕ)). not (is_some o) && nat_lt (length ps) 160) e)) in
+      let long_is = ap (λ (o : Option (List ℕ)). if is_some o then length ps else suc (length ps)) e in
+      omega (arith, same, count, long_is)
+  cases None e = (elim (nat_lt (length ps) 160) as (λ t. nat_lt (length ps) 160 ≡ t → after.reads + length ps ≡ before.reads + long) [
+    | true ↦ λ is.
+        let more = ap (λ (s : StepCount). s.reads) (one (ap (λ (o : Option (List ℕ)). not (is_some o) && nat_lt (length ps) 160) e ∙ is)) in
+        let long_is = ap (λ (o : Option (List ℕ)). if is_some o then length ps else suc (length ps)) e in
+        omega (arith, more, count, long_is)
+    | false ↦ λ isnt. absurd (not_both done (TooMany (suc (length ps))) ((many (suc (length ps))).1 (e, refl, too_many (length ps) isnt)))
+  ]) refl
+    where
+      too_many : (n : ℕ) → nat_lt n 160 ≡ false → 160 < suc n
+      too_many n h = grind (arith, nat_tests)
+
+pub one_at_most : (at : ℕ) (ps : Batch) (before after : StepCount) → (reads_block at ps ≡ false → after ≡ before) → (reads_block at ps ≡ true → after ≡ record before { reads = before.reads + 1 }) → after.reads ≤ before.reads + 1
+one_at_most at ps before after none one = (elim (reads_block at ps) as (λ t. reads_block at ps ≡ t → after.reads ≤ before.reads + 1) [
+  | true ↦ λ is. let more = ap (λ (s : StepCount). s.reads) (one is) in omega (arith, more)
+  | false ↦ λ isnt. let same = ap (λ (s : StepCount). s.reads) (none isnt) in omega (arith, same)
+]) refl
 
 -- ---- numbers that aren't there yet
 
@@ -148,6 +179,21 @@ count_grows joined first xs ys =
     let rest = fresh_grows (is_joined joined) (numbers first xs) (numbers first ys) in
     let both = ap (λ (l : List ℕ). fresh (is_joined joined) l) (numbers_both first xs ys) in
     omega (arith, rest, both)
+
+no_more : (xs : List ℕ) → xs ++ [] ≡ xs
+no_more [] = refl
+no_more (x ∷ xs) = ap (λ (ys : List ℕ). x ∷ ys) (no_more xs)
+
+pub counts_joined : CountsJoined
+unfolding fresh
+counts_joined first blocks old new all =
+    let one = all [] in
+    let same = ap (λ (bs : List ℕ). count_of old first bs) (no_more blocks) in
+    omega (arith, one, same)
+
+pub no_blocks_counted : (first : ℕ) (rest : List ℕ) (ps : Batch) (bs : List ℕ) → length rest ≡ 0 → count_of ps first bs ≡ count_of ps first (rest ++ bs)
+no_blocks_counted first [] ps bs e = refl
+no_blocks_counted first (x ∷ xs) ps bs e = absurd (omega (arith, e))
 
 pub free_room : (first b v : ℕ) (ps : Batch) (bs : List ℕ) → v ≡ b → count_of ps first (b ∷ bs) ≤ 160 → (length ps < 160) ⊎ (is_joined ps (first + v) ≡ true)
 free_room first b v ps bs e room = subst (λ (n : ℕ). (length ps < 160) ⊎ (is_joined ps (first + n) ≡ true)) (sym e) (room_or_joined (first + b) ps (numbers first bs) room)

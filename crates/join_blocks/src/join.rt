@@ -4,7 +4,7 @@ ghost use Rattle.blk_device.specs.Causes.{HasCause, any_error};
 ghost use Rattle.blk_device.specs.Reading.{OnlyRead};
 ghost use Rattle.blk_device.specs.declared.device.Region.TheVariants.{Image};
 ghost use Rattle.meta_txn.specs.Joined.{bytes_at, with_block, Finds, WouldBe};
-ghost use Rattle.join_blocks.specs.Joins.{is_joined, count_of, with_all, placed_in, LieBelow, AreFound};
+ghost use Rattle.join_blocks.specs.Joins.{is_joined, count_of, with_all, placed_in, LieBelow, AreFound, OnlyThese, ReadsNew, CountsAll};
 ghost use Rattle.join_blocks.specs.Causes.{is_device};
 
 use blk_cache::BlkCache;
@@ -30,6 +30,9 @@ fn put_one<D: Device, L: Ledger>(
     ensures marked { txn.new.marked ≡ txn.old.marked }
     ensures kind { length txn.old.blocks < MAX_BATCH → IfErr result (λ fault. fault ≡ TxnFault.Failed) }
     ensures kind_joined { is_joined txn.old.blocks at ≡ true → IfErr result (λ fault. fault ≡ TxnFault.Failed) }
+    ensures ticks { OnOk result (ReadsNew steps.old steps.new txn.old.blocks txn.new.blocks) }
+    ensures few { steps.new.reads ≤ steps.old.reads + 1 }
+    ensures kept { OnErr result (txn.new ≡ txn.old) }
     ensures reading { OnlyRead D.Device dev.old dev.new steps.old steps.new }
     ensures cause { HasCause is_device (D.faults dev.old) (D.faults dev.new) result }
     ensures agrees { AgreesTold cache.new (D.content dev.new) }
@@ -55,6 +58,9 @@ fn find_one<D: Device, L: Ledger>(
     ensures marked { txn.new.marked ≡ txn.old.marked }
     ensures kind { length txn.old.blocks < MAX_BATCH → IfErr result (λ fault. fault ≡ TxnFault.Failed) }
     ensures kind_joined { is_joined txn.old.blocks at ≡ true → IfErr result (λ fault. fault ≡ TxnFault.Failed) }
+    ensures ticks { OnOk result (ReadsNew steps.old steps.new txn.old.blocks txn.new.blocks) }
+    ensures few { steps.new.reads ≤ steps.old.reads + 1 }
+    ensures kept { OnErr result (txn.new ≡ txn.old) }
     ensures reading { OnlyRead D.Device dev.old dev.new steps.old steps.new }
     ensures cause { HasCause is_device (D.faults dev.old) (D.faults dev.new) result }
     ensures agrees { AgreesTold cache.new (D.content dev.new) }
@@ -65,8 +71,9 @@ fn find_one<D: Device, L: Ledger>(
 }
 
 /// Joins these blocks of a group, each with the bytes beside it; `first` is the image's number of the
-/// group's block 0. The condition is that the transaction has room for them. Answers Failed alone,
-/// only where the device failed, and then some of them may be joined; the mark stays.
+/// group's block 0. The condition is that the transaction has room for them. Each that wasn't joined
+/// is counted as read. Answers Failed alone, only where the device failed, and then some of them may
+/// be joined; every other block and the mark stay.
 pub fn join_put<D: Device, L: Ledger>(
     dev: &mut D,
     cache: &mut BlkCache,
@@ -80,8 +87,11 @@ pub fn join_put<D: Device, L: Ledger>(
     requires room { count_of txn.old.blocks first (placed_in placed.now) ≤ MAX_BATCH }
     requires agreed { AgreesTold cache.old (D.content dev.old) }
     ensures put { OnOk result (txn.new.blocks ≡ with_all first placed.now txn.old.blocks) }
-    ensures count { OnOk result ((bs : List ℕ) → count_of txn.new.blocks first bs ≡ count_of txn.old.blocks first (placed_in placed.now ++ bs)) }
+    ensures count { OnOk result (CountsAll first (placed_in placed.now) txn.old.blocks txn.new.blocks) }
+    ensures others { OnlyThese first (placed_in placed.now) txn.old.blocks txn.new.blocks }
     ensures marked { txn.new.marked ≡ txn.old.marked }
+    ensures ticks { OnOk result (ReadsNew steps.old steps.new txn.old.blocks txn.new.blocks) }
+    ensures few { steps.new.reads ≤ steps.old.reads + length placed.now }
     ensures kind { IfErr result (λ fault. fault ≡ TxnFault.Failed) }
     ensures reading { OnlyRead D.Device dev.old dev.new steps.old steps.new }
     ensures cause { HasCause is_device (D.faults dev.old) (D.faults dev.new) result }
@@ -110,7 +120,11 @@ pub fn join_found<D: Device, L: Ledger>(
     requires room { count_of txn.old.blocks first blocks.now ≤ MAX_BATCH }
     requires agreed { AgreesTold cache.old (D.content dev.old) }
     ensures found { OnOk result (AreFound (D.content dev.old) first blocks.now txn.old.blocks txn.new.blocks) }
+    ensures count { OnOk result (CountsAll first blocks.now txn.old.blocks txn.new.blocks) }
+    ensures others { OnlyThese first blocks.now txn.old.blocks txn.new.blocks }
     ensures marked { txn.new.marked ≡ txn.old.marked }
+    ensures ticks { OnOk result (ReadsNew steps.old steps.new txn.old.blocks txn.new.blocks) }
+    ensures few { steps.new.reads ≤ steps.old.reads + length blocks.now }
     ensures kind { IfErr result (λ fault. fault ≡ TxnFault.Failed) }
     ensures reading { OnlyRead D.Device dev.old dev.new steps.old steps.new }
     ensures cause { HasCause is_device (D.faults dev.old) (D.faults dev.new) result }

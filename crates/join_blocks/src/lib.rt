@@ -8,4 +8,4 @@ mod laws;
 
 pub use count::count_with;
 pub use join::{join_found, join_put};
-pub use laws::{count_grows, joins_these_alone, puts_each};
+pub use laws::{count_grows, joins_each, joins_these_alone, puts_each};

@@ -1,6 +1,6 @@
 -- Pieces that were written, one behind the other.
-use Rattle.std.proofs.Common.{◌≡◌, ℕ, suc, ◌+◌, ◌<◌, ◌≤◌, Bool, true, false, List, [], ◌∷◌, ◌++◌, length, refl, sym, ap, subst, ◌∙◌, arith, append_assoc, length-append}
-use Rattle.std.specs.Prelude.{nat_lt, slice_index}
+use Rattle.std.proofs.Common.{◌≡◌, ℕ, suc, ◌+◌, ◌<◌, ◌≤◌, Bool, true, false, List, [], ◌∷◌, ◌++◌, length, refl, sym, ap, subst, ◌∙◌, arith, append_assoc, length-append, Result, Ok, Err}
+use Rattle.std.specs.Prelude.{nat_lt, slice_index, OnErr}
 use Rattle.byte_fields.specs.Steps.{StepCount}
 use Rattle.byte_fields.specs.declared.block.Block.{Block}
 use Rattle.sblock.specs.Form.{Form}
@@ -9,6 +9,7 @@ use Rattle.bulk_load.specs.Loaded.{at_level, IsLaid, AreLaid, IsLoaded}
 use Rattle.bulk_load.specs.Shapes.{width, start}
 use Rattle.bulk_load.proofs.Numbers.{lt_true, lt_false}
 use Rattle.bulk_load.proofs.ShapeLemmas.{start_on, start_up}
+use Rattle.load_trees.specs.Fit.{WritesSome}
 use Rattle.load_trees.specs.Written.{AreWritten, StandBetween, PiecesStand, PiecesJoin, AllStand}
 
 module _ {R K : Type 0} (form : Form R K) (list : List R) (claimed : List ℕ) (frame : Frame) where
@@ -65,3 +66,13 @@ more_steps s t u a b i h =
     let w : t.writes + b ≡ s.writes + (a + b) = omega (arith, v) in
     let p : ◌≡◌ {A = StepCount} (record { reads = t.reads; writes = t.writes + b; moves = t.moves }) (record { reads = s.reads; writes = s.writes + (a + b); moves = s.moves }) = λ j. record { reads = r j; writes = w j; moves = m j } in
     h ∙ p
+
+-- no step was counted
+pub no_steps : (most : ℕ) (s : StepCount) → WritesSome most s s
+no_steps most s =
+    let w : s.writes ≡ s.writes + 0 = omega arith in
+    (0, omega arith, (λ j. record { reads = s.reads; writes = w j; moves = s.moves }))
+
+pub on_err : {T E : Type 0} {P : Type 0} (result : Result T E) → P → OnErr result P
+on_err (Ok done) p = tt
+on_err (Err fault) p = p

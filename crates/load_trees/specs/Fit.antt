@@ -1,5 +1,6 @@
 -- What can be loaded as a whole tree, and why it can't be.
-use Rattle.std.specs.Prelude.{◌≡◌, ⊤, ℕ, List, length}
+use Rattle.std.specs.Prelude.{◌≡◌, ⊤, ℕ, ◌+◌, ◌≤◌, List, length}
+use Rattle.byte_fields.specs.Steps.{StepCount}
 use Rattle.sblock.specs.Blocks.{IsRising, AllInside, AreBlocks}
 use Rattle.sblock.specs.Form.{Form}
 use Rattle.sblock.specs.declared.block.Frame.{Frame}
@@ -32,3 +33,7 @@ module _ {R K : Type 0} (form : Form R K) (site : Site) (list : List R) (claimed
   IsUnfit Range = IsRising form list × ¬ AllInside form site.bounds list
   IsUnfit Blocks = IsRising form list × AllInside form site.bounds list × ¬ AreClaimed form.kind (length list) site.bounds.length claimed
   IsUnfit Memory = ⊤
+
+-- so many blocks at most were counted as written, and nothing else
+abbrev pub WritesSome : ℕ → StepCount → StepCount → Type 0
+WritesSome most before after = (n : ℕ) × (n ≤ most) × (after ≡ record before { writes = before.writes + n })

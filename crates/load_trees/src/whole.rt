@@ -1,7 +1,7 @@
-ghost use Rattle.std.specs.Prelude.{◌≡◌, ◌+◌, ◌*◌, ◌^◌, ◌<◌, [], true, All, length, IfOk, IfErr, OnOk};
+ghost use Rattle.std.specs.Prelude.{◌≡◌, ◌≢◌, ◌+◌, ◌*◌, ◌^◌, ◌<◌, [], true, All, length, IfOk, IfErr, OnOk, OnErr};
 ghost use Rattle.bulk_load.specs.Loaded.{IsLoaded};
 ghost use Rattle.bulk_load.specs.Shapes.{IsShape};
-ghost use Rattle.load_trees.specs.Fit.{frame_of, IsFit, IsUnfit};
+ghost use Rattle.load_trees.specs.Fit.{frame_of, IsFit, IsUnfit, WritesSome};
 
 use crate::given::{are_claims, are_in_range, is_rising};
 use crate::unfit::Unfit;
@@ -40,7 +40,8 @@ fn tested<K: RecKind>(
 
 /// All blocks of a new tree of this list, each with the claimed block that it is for, in the order of
 /// their numbers: leaves from left to right, then upwards, the root last. Refused with the first that
-/// doesn't fit, in the order of [`Unfit`]; want of memory aside, nothing else is refused
+/// doesn't fit, in the order of [`Unfit`]; want of memory aside, nothing else is refused. Each block is
+/// counted as written, and before a refusal for want of memory some of them
 /// (XFS Algorithms and Data Structures, "Short Format B+trees").
 pub fn load_tree<K: RecKind, L: Ledger>(
     alloc: Global,
@@ -56,6 +57,8 @@ pub fn load_tree<K: RecKind, L: Ledger>(
     ensures fit { OnOk result (IsFit K.form site.now list.now claimed.now) }
     ensures unfit { IfErr result (IsUnfit K.form site.now list.now claimed.now) }
     ensures written { OnOk result (steps.new ≡ record steps.old { writes = steps.old.writes + length claimed.now }) }
+    ensures unwritten { IfErr result (λ unfit. unfit ≢ Unfit.Memory → steps.new ≡ steps.old) }
+    ensures stopped { OnErr result (WritesSome (length claimed.now) steps.old steps.new) }
 {
     let form = tested::<K>(alloc, list, site, claimed)?;
     let frame = Frame {

@@ -5,3 +5,17 @@
 mod build;
 #[cfg(test)]
 mod edits;
+#[cfg(test)]
+mod kind_rows;
+#[cfg(test)]
+mod kinds;
+#[cfg(test)]
+mod play;
+#[cfg(test)]
+mod refusals;
+#[cfg(test)]
+mod sequences;
+#[cfg(test)]
+mod shared_list;
+#[cfg(test)]
+mod stops;

@@ -1,14 +1,48 @@
 -- Which blocks an edited tree has and leaves.
-use Rattle.std.proofs.Common.{◌≡◌, ◌≤◌, ◌<◌, ◌-◌, ℕ, zero, suc, ◌+◌, Bool, true, false, List, [], ◌∷◌, ◌++◌, length, take, drop, refl, sym, ap, subst, ◌∙◌, inl, inr, arith, length-drop, take-append-drop, eqb-true}
-use Rattle.std.specs.Prelude.{◌⊎◌, ◌==◌, ◌&&◌, nat_le, nat_lt, if◌then◌else◌}
+use Rattle.std.proofs.Common.{◌≡◌, ◌≤◌, ◌<◌, ◌-◌, ℕ, zero, suc, ◌+◌, Bool, true, false, List, [], ◌∷◌, ◌++◌, length, take, drop, refl, sym, ap, subst, ◌∙◌, inl, inr, arith, append_assoc, Result, Ok, Err, length-drop, take-append-drop, eqb-true}
+use Rattle.std.specs.Prelude.{OnOk, ◌⊎◌, ◌==◌, ◌&&◌, nat_le, nat_lt, if◌then◌else◌}
 use Rattle.std.proofs.lemmas.Bool.Decides.{nat_tests}
 use Rattle.sblock.specs.Blocks.{AreBlocks}
 use Rattle.sblock.specs.Lists.{Each}
 use Rattle.tree_defs.specs.Lists.{In, times, AllDiffer}
 use Rattle.edit_blocks.specs.Choice.{chosen, taken, freed}
 use Rattle.edit_blocks.proofs.ChoiceLemmas.{times_append, each_once}
-use Rattle.join_blocks.specs.Joins.{LieBelow}
+use Rattle.redo_area.specs.Area.{Batch}
+use Rattle.join_blocks.specs.Joins.{LieBelow, OnlyThese, CountsAll, count_of}
 use Rattle.tree_edit.specs.Anew.{AreChosen}
+
+-- a block of two lists is one of either
+pub in_either : (b : ℕ) (xs ys : List ℕ) → In b (xs ++ ys) → In b xs ⊎ In b ys
+in_either b [] ys there = inr there
+in_either b (x ∷ xs) ys (inl same) = inl (inl same)
+in_either b (x ∷ xs) ys (inr there) = on (in_either b xs ys there) where
+  on : In b xs ⊎ In b ys → In b (x ∷ xs) ⊎ In b ys
+  on (inl mine) = inl (inr mine)
+  on (inr other) = inr other
+
+pub in_first : (b : ℕ) (xs ys : List ℕ) → In b xs → In b (xs ++ ys)
+in_first b [] ys there = absurd there
+in_first b (x ∷ xs) ys (inl same) = inl same
+in_first b (x ∷ xs) ys (inr there) = inr (in_first b xs ys there)
+
+pub in_rest : (b : ℕ) (xs ys : List ℕ) → In b ys → In b (xs ++ ys)
+in_rest b [] ys there = there
+in_rest b (x ∷ xs) ys there = inr (in_rest b xs ys there)
+
+-- where only some blocks were joined, and then only others, only these were
+pub only_more : (first : ℕ) (xs ys : List ℕ) (old new : Batch) → OnlyThese first xs old new → OnlyThese first (xs ++ ys) old new
+only_more first xs ys old new only at none = only at (λ b there. none b (in_first b xs ys there))
+
+pub only_then : (first : ℕ) (xs ys : List ℕ) (old mid new : Batch) → OnlyThese first xs old mid → OnlyThese first ys mid new → OnlyThese first (xs ++ ys) old new
+only_then first xs ys old mid new only more at none = more at (λ b there. none b (in_rest b xs ys there)) ∙ only at (λ b there. none b (in_first b xs ys there))
+
+-- two rows of blocks are counted as one
+pub counts_both : (first : ℕ) (xs ys : List ℕ) (old mid new : Batch) → CountsAll first xs old mid → CountsAll first ys mid new → CountsAll first (xs ++ ys) old new
+counts_both first xs ys old mid new one two bs = two bs ∙ one (ys ++ bs) ∙ ap (count_of old first) (sym (append_assoc xs ys bs))
+
+pub on_ok : {T E : Type 0} {P Q : Type 0} (result : Result T E) → (P → Q) → OnOk result P → OnOk result Q
+on_ok (Ok x) f p = f p
+on_ok (Err e) f p = tt
 
 met : (x : ℕ) → ◌≡◌ {A = ℕ} (if x == x then 1 else 0) 1
 met x = grind arith

@@ -3,3 +3,4 @@ pub mod EditLemmas
 pub mod MakeLemmas
 pub mod PrepareLemmas
 pub mod ReadLemmas
+pub mod StampLemmas

@@ -1,5 +1,7 @@
 -- What walks and layings that are refused say.
-use Rattle.std.proofs.Common.{◌≡◌, ◌≤◌, ◌-◌, ℕ, suc, true, List, length, refl, Result, Ok, arith}
+use Rattle.std.proofs.Common.{◌≡◌, ◌≤◌, ◌-◌, ◌+◌, ℕ, suc, true, List, length, refl, ap, subst, Result, Ok, arith}
+use Rattle.byte_fields.specs.Steps.{StepCount}
+use Rattle.byte_fields.specs.declared.block.Block.{Block}
 use Rattle.sblock.specs.Blocks.{IsRising, AllInside}
 use Rattle.sblock.specs.Form.{Form, IsLawful}
 use Rattle.sblock.specs.declared.block.BlockFault.{BlockFault}
@@ -19,6 +21,8 @@ use Rattle.load_trees.specs.declared.unfit.Unfit.TheVariants.{Order, Range, Bloc
 use Rattle.tree_blocks.specs.Meets.{Refuses}
 use Rattle.tree_blocks.specs.declared.tree.WalkFault.{WalkFault}
 use Rattle.tree_blocks.specs.declared.tree.WalkFault.TheVariants.{Bad as BadBlock, Failed as WalkFailed, Memory as WalkMemory}
+use Rattle.tree_edit.specs.Anew.{IsMade}
+use Rattle.tree_edit.specs.Device.{OnlyWrites}
 use Rattle.tree_edit.specs.Making.{AreApart}
 use Rattle.tree_edit.specs.Reads.{met_as, RefusesWalk, IsOfWalk}
 
@@ -31,6 +35,26 @@ pub is_met : (fault : WalkFault) → IsOfWalk (met_as fault)
 is_met (BadBlock block fault) = tt
 is_met WalkFailed = tt
 is_met WalkMemory = tt
+
+-- nothing but blocks was counted, and these as written
+pub only_writes : (n : ℕ) (before after : StepCount) → after ≡ record before { writes = before.writes + n } → OnlyWrites before after
+only_writes n before after same =
+    let w = ap (λ (s : StepCount). s.writes) same in
+    record { reads = ap (λ (s : StepCount). s.reads) same; writes = omega (arith, w); moves = ap (λ (s : StepCount). s.moves) same }
+
+pub writes_none : (s : StepCount) → OnlyWrites s s
+writes_none s = record { reads = refl; writes = omega arith; moves = refl }
+
+-- as many blocks were placed as are claimed
+pub placed_many : {R K : Type 0} (form : Form R K) (site : Site) (lsn levels : ℕ) (recs : List R) (claimed : List ℕ) (placed : List (ℕ × Block)) → IsMade form site lsn levels recs claimed placed → length placed ≡ length claimed
+placed_many form site lsn levels recs claimed placed made =
+    let same = ap length made.loaded.behind in
+    let many = made.loaded.many in
+    omega (arith, same, many)
+
+-- the steps of a tree that is laid, by the blocks that are placed
+pub by_placed : (n m : ℕ) (before after : StepCount) → n ≡ m → after ≡ record before { writes = before.writes + n } → after ≡ record before { writes = before.writes + m }
+by_placed n m before after same is = subst (λ (k : ℕ). ◌≡◌ {A = StepCount} after (record { reads = before.reads; writes = before.writes + k; moves = before.moves })) same is
 
 -- records that rise and are in range, in as many blocks as they need, are refused for the blocks alone
 pub not_apart : {R K : Type 0} (form : Form R K) (site : Site) (levels : ℕ) (recs : List R) (claimed : List ℕ) (unfit : Unfit) → (unfit ≡ Memory → ⊥) → IsUnfit form site recs claimed unfit → IsShape form.kind (length recs) levels (length claimed) → IsRising form recs → AllInside form site.bounds recs → ¬ AreApart site.bounds.length claimed

@@ -1,5 +1,6 @@
 -- Why an edit isn't prepared.
-use Rattle.std.proofs.Common.{◌≡◌, ℕ, List, length, Ok, Err, subst, inl, inr}
+use Rattle.std.proofs.Common.{◌≡◌, ◌+◌, ◌∙◌, ℕ, List, length, Ok, Err, ap, subst, inl, inr}
+use Rattle.byte_fields.specs.Steps.{StepCount}
 use Rattle.std.specs.Prelude.{Option, Some, None, IfSome, Result, IfOk}
 use Rattle.blk_device.specs.Contents.{Contents}
 use Rattle.sblock.specs.Form.{Form}
@@ -55,9 +56,10 @@ module _ {R K : Type 0} (form : Form R K) (site : Site) (how : Edit) (rec : R) (
 
 -- what was made is ready
 pub is_prepared : {R K : Type 0} (form : Form R K) (site : Site) (how : Edit) (rec : R) (lsn : ℕ) (told : Option Contents) (h : Held) (recs records : List R) (before : List ℕ) (made_of : List R) (blocks : List ℕ) → made_of ≡ records → blocks ≡ before → IfSome told (λ c. ReadsTo form site c h recs before) → edited form how rec recs ≡ Ok records
-    → AreSound form site.bounds records → LieInside site.bounds.length before → (result : Result Made EditFault) → IfOk result (IsReady form site lsn made_of blocks h.listed) → IfOk result (IsPrepared form site how rec lsn told h)
-is_prepared form site how rec lsn told h recs records before made_of blocks same_recs same_blocks was edits sound lie (Err fault) ready = tt
-is_prepared {R} form site how rec lsn told h recs records before made_of blocks same_recs same_blocks was edits sound lie (Ok made) ready = record {
+    → AreSound form site.bounds records → LieInside site.bounds.length before → (start mid end : StepCount) → mid.reads ≡ start.reads + length before → mid.writes ≡ start.writes → mid.moves ≡ start.moves
+    → (result : Result Made EditFault) → IfOk result (IsReady form site lsn made_of blocks h.listed) → IfOk result (λ made. end ≡ record mid { writes = mid.writes + length made.placed.items }) → IfOk result (IsPrepared form site how rec lsn told h start end)
+is_prepared form site how rec lsn told h recs records before made_of blocks same_recs same_blocks was edits sound lie start mid end each unwritten unmoved (Err fault) ready counted = tt
+is_prepared {R} form site how rec lsn told h recs records before made_of blocks same_recs same_blocks was edits sound lie start mid end each unwritten unmoved (Ok made) ready counted = record {
   recs = recs;
   records = records;
   before = before;
@@ -66,4 +68,7 @@ is_prepared {R} form site how rec lsn told h recs records before made_of blocks 
   sound = sound;
   lie = lie;
   ready = subst (λ (bs : List ℕ). IsReady form site lsn records bs h.listed made) same_blocks (subst (λ (rs : List R). IsReady form site lsn rs blocks h.listed made) same_recs ready);
+  reads = ap (λ (s : StepCount). s.reads) counted ∙ each;
+  writes = ap (λ (s : StepCount). s.writes) counted ∙ ap (λ (n : ℕ). n + length made.placed.items) unwritten;
+  moves = ap (λ (s : StepCount). s.moves) counted ∙ unmoved;
 }

@@ -1,4 +1,5 @@
 pub mod Anew
+pub mod Calls
 pub mod Device
 pub mod Edited
 pub mod Faults

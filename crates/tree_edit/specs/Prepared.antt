@@ -1,5 +1,6 @@
 -- An edit of a tree before anything is changed.
-use Rattle.std.specs.Prelude.{◌≡◌, ⊤, ◌⊎◌, ℕ, List, length, Option, IfSome, Result, Ok, Err}
+use Rattle.std.specs.Prelude.{◌≡◌, ⊤, ◌⊎◌, ℕ, ◌+◌, List, length, Option, IfSome, Result, Ok, Err}
+use Rattle.byte_fields.specs.Steps.{StepCount}
 use Rattle.blk_device.specs.Contents.{Contents}
 use Rattle.blk_device.specs.declared.device.Region.TheVariants.{Image}
 use Rattle.ag_headers.specs.Ring.{FreeRing, entries}
@@ -45,7 +46,7 @@ module _ {R K : Type 0} (form : Form R K) (site : Site) where
   FailsAt c h Memory = ⊥
 
   module _ (how : Edit) (rec : R) where
-    pub record IsPrepared (lsn : ℕ) (told : Option Contents) (h : Held) (made : Made) : Type 0 where
+    pub record IsPrepared (lsn : ℕ) (told : Option Contents) (h : Held) (start end : StepCount) (made : Made) : Type 0 where
       pub recs : List R
       pub records : List R
       pub before : List ℕ
@@ -54,6 +55,9 @@ module _ {R K : Type 0} (form : Form R K) (site : Site) where
       pub sound : AreSound form site.bounds records
       pub lie : LieInside site.bounds.length before
       pub ready : IsReady form site lsn records before h.listed made
+      pub reads : end.reads ≡ start.reads + length before
+      pub writes : end.writes ≡ start.writes + length made.placed.items
+      pub moves : end.moves ≡ start.moves
 
     -- the tree is read, and its list isn't edited, or its blocks can't be made
     abbrev pub RefusesRead : Contents → Held → EditFault → Type 0

@@ -1,5 +1,5 @@
 // The three edits of a tree.
-ghost use Rattle.std.specs.Prelude.{◌≡◌, ◌<◌, ◌≤◌, true, OnOk, IfErr};
+ghost use Rattle.std.specs.Prelude.{◌≡◌, ◌≢◌, ◌<◌, ◌≤◌, true, OnOk, OnErr, IfErr};
 ghost use Rattle.blk_cache.specs.Cache.{AgreesTold};
 ghost use Rattle.blk_device.specs.Causes.{HasCause};
 ghost use Rattle.blk_device.specs.declared.device.Region.TheVariants.{Image};
@@ -8,9 +8,9 @@ ghost use Rattle.geom.specs.Places.{layout};
 ghost use Rattle.meta_txn.specs.Joined.{AreBelow};
 ghost use Rattle.tree_defs.specs.Sites.{site_of};
 ghost use Rattle.tree_edit.specs.Device.{IsLeft};
-ghost use Rattle.tree_edit.specs.Edited.{IsEdited, IsSameTree, RefusesEdit};
+ghost use Rattle.tree_edit.specs.Calls.{Inserts, Removes, Changes, CountsInsert, CountsRemove, CountsChange, RefusesInsert, RefusesRemove, RefusesChange, Stops};
+ghost use Rattle.tree_edit.specs.Edited.{IsSameTree};
 ghost use Rattle.tree_edit.specs.Faults.{is_devices};
-ghost use Rattle.tree_edit.specs.Prepared.{held};
 
 use crate::fault::EditFault;
 use crate::rewrite::rewrite;
@@ -30,8 +30,9 @@ use tree_defs::Site;
 /// Puts a record into a tree, as one change of the transaction. Refused, in this order, with the first
 /// bad block of the tree, Overlap where a record of it can't be beside the new one, Short where the free
 /// list has fewer blocks than the edit needs, TooLarge where the transaction would have more than 160;
-/// Failed only where the device failed. After a refusal what the transaction has joined, the tree, the
-/// list and limbo are for the caller to take back; the mark stays
+/// Failed only where the device failed; want of memory before anything is joined. After a refusal the
+/// tree, the list, limbo and the mark are as they were, and so is what is joined, but after Failed:
+/// then blocks of the tree and the list's first ones may be joined
 /// (XFS Algorithms and Data Structures, "Short Format B+trees").
 pub fn insert<K: RecKind, D: Device, L: Ledger>(
     alloc: Global,
@@ -51,15 +52,19 @@ pub fn insert<K: RecKind, D: Device, L: Ledger>(
     requires inside { K.form.is_in_range (site_of (layout geo.now) tree.old.group).bounds rec ≡ true }
     requires supported { K.form.is_supported rec ≡ true }
     requires agreed { AgreesTold cache.old (D.content dev.old) }
-    ensures edited { OnOk result (IsEdited K.form (site_of (layout geo.now) tree.old.group) Edit.Insert rec (D.content dev.old)
-        (held tree.old txn.old list.old limbo.old.items) (held tree.new txn.new list.new limbo.new.items)) }
-    ensures refused { IfErr result (RefusesEdit K.form (site_of (layout geo.now) tree.old.group) Edit.Insert rec (D.content dev.old)
-        (held tree.old txn.old list.old limbo.old.items)) }
+    ensures edited { OnOk result (Inserts K.form geo.now rec (D.content dev.old) tree.old txn.old list.old limbo.old tree.new txn.new list.new limbo.new) }
+    ensures counted { OnOk result (CountsInsert K.form geo.now rec (D.content dev.old) tree.old txn.old txn.new steps.old steps.new) }
+    ensures refused { IfErr result (RefusesInsert K.form geo.now rec (D.content dev.old) tree.old txn.old list.old limbo.old) }
+    ensures kept { IfErr result (λ fault. fault ≢ EditFault.Failed → txn.new ≡ txn.old) }
+    ensures stops { OnErr result (Stops K.form geo.now (D.content dev.old) tree.old txn.old list.old txn.new) }
+    ensures kept_tree { OnErr result (tree.new ≡ tree.old) }
+    ensures kept_list { OnErr result (list.new ≡ list.old) }
+    ensures kept_limbo { OnErr result (limbo.new.items ≡ limbo.old.items) }
     ensures below { AreBelow (D.blocks dev.old Image) txn.old.blocks → OnOk result (AreBelow (D.blocks dev.old Image) txn.new.blocks) }
     ensures marked { txn.new.marked ≡ txn.old.marked }
     ensures tree { IsSameTree tree.old tree.new }
     ensures list { IsSameList list.old list.new }
-    ensures left { IsLeft D.Device dev.old dev.new }
+    ensures left { IsLeft D.Device dev.old dev.new steps.old steps.new }
     ensures cause { HasCause is_devices (D.faults dev.old) (D.faults dev.new) result }
     ensures agrees { AgreesTold cache.new (D.content dev.new) }
 {
@@ -96,15 +101,19 @@ pub fn remove<K: RecKind, D: Device, L: Ledger>(
     requires group { tree.old.group < geo.now.agcount }
     requires room { geo.now.dblocks ≤ D.blocks dev.old Image }
     requires agreed { AgreesTold cache.old (D.content dev.old) }
-    ensures edited { OnOk result (IsEdited K.form (site_of (layout geo.now) tree.old.group) Edit.Remove rec (D.content dev.old)
-        (held tree.old txn.old list.old limbo.old.items) (held tree.new txn.new list.new limbo.new.items)) }
-    ensures refused { IfErr result (RefusesEdit K.form (site_of (layout geo.now) tree.old.group) Edit.Remove rec (D.content dev.old)
-        (held tree.old txn.old list.old limbo.old.items)) }
+    ensures edited { OnOk result (Removes K.form geo.now rec (D.content dev.old) tree.old txn.old list.old limbo.old tree.new txn.new list.new limbo.new) }
+    ensures counted { OnOk result (CountsRemove K.form geo.now rec (D.content dev.old) tree.old txn.old txn.new steps.old steps.new) }
+    ensures refused { IfErr result (RefusesRemove K.form geo.now rec (D.content dev.old) tree.old txn.old list.old limbo.old) }
+    ensures kept { IfErr result (λ fault. fault ≢ EditFault.Failed → txn.new ≡ txn.old) }
+    ensures stops { OnErr result (Stops K.form geo.now (D.content dev.old) tree.old txn.old list.old txn.new) }
+    ensures kept_tree { OnErr result (tree.new ≡ tree.old) }
+    ensures kept_list { OnErr result (list.new ≡ list.old) }
+    ensures kept_limbo { OnErr result (limbo.new.items ≡ limbo.old.items) }
     ensures below { AreBelow (D.blocks dev.old Image) txn.old.blocks → OnOk result (AreBelow (D.blocks dev.old Image) txn.new.blocks) }
     ensures marked { txn.new.marked ≡ txn.old.marked }
     ensures tree { IsSameTree tree.old tree.new }
     ensures list { IsSameList list.old list.new }
-    ensures left { IsLeft D.Device dev.old dev.new }
+    ensures left { IsLeft D.Device dev.old dev.new steps.old steps.new }
     ensures cause { HasCause is_devices (D.faults dev.old) (D.faults dev.new) result }
     ensures agrees { AgreesTold cache.new (D.content dev.new) }
 {
@@ -144,15 +153,19 @@ pub fn change<K: RecKind, D: Device, L: Ledger>(
     requires inside { K.form.is_in_range (site_of (layout geo.now) tree.old.group).bounds rec ≡ true }
     requires supported { K.form.is_supported rec ≡ true }
     requires agreed { AgreesTold cache.old (D.content dev.old) }
-    ensures edited { OnOk result (IsEdited K.form (site_of (layout geo.now) tree.old.group) Edit.Change rec (D.content dev.old)
-        (held tree.old txn.old list.old limbo.old.items) (held tree.new txn.new list.new limbo.new.items)) }
-    ensures refused { IfErr result (RefusesEdit K.form (site_of (layout geo.now) tree.old.group) Edit.Change rec (D.content dev.old)
-        (held tree.old txn.old list.old limbo.old.items)) }
+    ensures edited { OnOk result (Changes K.form geo.now rec (D.content dev.old) tree.old txn.old list.old limbo.old tree.new txn.new list.new limbo.new) }
+    ensures counted { OnOk result (CountsChange K.form geo.now rec (D.content dev.old) tree.old txn.old txn.new steps.old steps.new) }
+    ensures refused { IfErr result (RefusesChange K.form geo.now rec (D.content dev.old) tree.old txn.old list.old limbo.old) }
+    ensures kept { IfErr result (λ fault. fault ≢ EditFault.Failed → txn.new ≡ txn.old) }
+    ensures stops { OnErr result (Stops K.form geo.now (D.content dev.old) tree.old txn.old list.old txn.new) }
+    ensures kept_tree { OnErr result (tree.new ≡ tree.old) }
+    ensures kept_list { OnErr result (list.new ≡ list.old) }
+    ensures kept_limbo { OnErr result (limbo.new.items ≡ limbo.old.items) }
     ensures below { AreBelow (D.blocks dev.old Image) txn.old.blocks → OnOk result (AreBelow (D.blocks dev.old Image) txn.new.blocks) }
     ensures marked { txn.new.marked ≡ txn.old.marked }
     ensures tree { IsSameTree tree.old tree.new }
     ensures list { IsSameList list.old list.new }
-    ensures left { IsLeft D.Device dev.old dev.new }
+    ensures left { IsLeft D.Device dev.old dev.new steps.old steps.new }
     ensures cause { HasCause is_devices (D.faults dev.old) (D.faults dev.new) result }
     ensures agrees { AgreesTold cache.new (D.content dev.new) }
 {

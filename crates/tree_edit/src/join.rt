@@ -1,10 +1,10 @@
-ghost use Rattle.std.specs.Prelude.{◌≡◌, ◌+◌, ◌^◌, ◌<◌, ◌≤◌, ◌++◌, length, IfErr, OnOk};
+ghost use Rattle.std.specs.Prelude.{◌≡◌, ◌≢◌, ◌+◌, ◌^◌, ◌<◌, ◌≤◌, ◌++◌, length, IfErr, OnOk};
 ghost use Rattle.blk_cache.specs.Cache.{AgreesTold};
 ghost use Rattle.blk_device.specs.Causes.{HasCause};
 ghost use Rattle.blk_device.specs.Reading.{OnlyRead};
 ghost use Rattle.blk_device.specs.declared.device.Region.TheVariants.{Image};
 ghost use Rattle.join_blocks.specs.Causes.{is_device};
-ghost use Rattle.join_blocks.specs.Joins.{count_of, placed_in, LieBelow};
+ghost use Rattle.join_blocks.specs.Joins.{count_of, placed_in, LieBelow, OnlyThese, ReadsNew, CountsAll};
 ghost use Rattle.tree_edit.specs.Anew.{AreJoined};
 ghost use Rattle.tree_edit.specs.Faults.{is_devices, RefusesJoin};
 
@@ -33,6 +33,9 @@ fn join_both<D: Device, L: Ledger>(
     requires room { count_of txn.old.blocks first (placed_in placed.now ++ left.now) ≤ MAX_BATCH }
     requires agreed { AgreesTold cache.old (D.content dev.old) }
     ensures joined { OnOk result (AreJoined (D.content dev.old) first placed.now left.now txn.old.blocks txn.new.blocks) }
+    ensures count { OnOk result (CountsAll first (placed_in placed.now ++ left.now) txn.old.blocks txn.new.blocks) }
+    ensures others { OnlyThese first (placed_in placed.now ++ left.now) txn.old.blocks txn.new.blocks }
+    ensures ticks { OnOk result (ReadsNew steps.old steps.new txn.old.blocks txn.new.blocks) }
     ensures marked { txn.new.marked ≡ txn.old.marked }
     ensures kind { IfErr result (λ fault. fault ≡ TxnFault.Failed) }
     ensures reading { OnlyRead D.Device dev.old dev.new steps.old steps.new }
@@ -48,7 +51,7 @@ fn join_both<D: Device, L: Ledger>(
 /// Joins a tree's new blocks, and as they are those that it leaves. `touched` are all of them, counted
 /// from the group's block 0, which is `first` of the image. Answers TooLarge with the number of blocks
 /// that the transaction would have then, exactly where that is above 160, and nothing is joined;
-/// Failed only where the device failed, and then some may be joined.
+/// Failed only where the device failed, and then some may be joined. What else is joined stays.
 pub fn join_tree<D: Device, L: Ledger>(
     alloc: Global,
     dev: &mut D,
@@ -68,7 +71,11 @@ pub fn join_tree<D: Device, L: Ledger>(
     ensures joined { OnOk result (AreJoined (D.content dev.old) first placed.now left.now txn.old.blocks txn.new.blocks) }
     ensures room { OnOk result (count_of txn.old.blocks first touched.now ≤ MAX_BATCH) }
     ensures refused { IfErr result (RefusesJoin (count_of txn.old.blocks first touched.now)) }
+    ensures count { OnOk result (length txn.new.blocks ≡ count_of txn.old.blocks first touched.now) }
+    ensures ticks { OnOk result (ReadsNew steps.old steps.new txn.old.blocks txn.new.blocks) }
     ensures kept { MAX_BATCH < count_of txn.old.blocks first touched.now → txn.new ≡ txn.old }
+    ensures kept_early { IfErr result (λ fault. fault ≢ EditFault.Failed → txn.new ≡ txn.old) }
+    ensures others { OnlyThese first touched.now txn.old.blocks txn.new.blocks }
     ensures marked { txn.new.marked ≡ txn.old.marked }
     ensures reading { OnlyRead D.Device dev.old dev.new steps.old steps.new }
     ensures cause { HasCause is_devices (D.faults dev.old) (D.faults dev.new) result }

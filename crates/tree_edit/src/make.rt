@@ -1,10 +1,11 @@
 // The blocks of an edited tree, made before anything is changed.
-ghost use Rattle.std.specs.Prelude.{◌≡◌, ◌+◌, ◌*◌, ◌^◌, ◌<◌, ◌≤◌, ◌++◌, IfOk, IfErr, length};
+ghost use Rattle.std.specs.Prelude.{◌≡◌, ◌+◌, ◌*◌, ◌^◌, ◌<◌, ◌≤◌, ◌++◌, IfOk, IfErr, OnOk, length};
 ghost use Rattle.ag_headers.specs.Ring.{entries};
 ghost use Rattle.bulk_load.specs.Shapes.{IsShape};
 ghost use Rattle.sblock.specs.Blocks.{IsRising, AllInside};
 ghost use Rattle.edit_blocks.specs.Choice.{freed};
 ghost use Rattle.tree_edit.specs.Anew.{root_of, IsMade};
+ghost use Rattle.tree_edit.specs.Device.{OnlyWrites};
 ghost use Rattle.tree_edit.specs.Making.{IsReady, RefusesLaying, RefusesMaking};
 
 use crate::fault::EditFault;
@@ -47,6 +48,8 @@ fn lay<K: RecKind, L: Ledger>(
     requires rising { IsRising K.form recs.now }
     requires inside { AllInside K.form site.now.bounds recs.now }
     ensures made { IfOk result (λ placed. IsMade K.form site.now tree.now.lsn levels recs.now claimed.now placed.items) }
+    ensures counted { OnOk result (steps.new ≡ record steps.old { writes = steps.old.writes + length claimed.now }) }
+    ensures steps { OnlyWrites steps.old steps.new }
     ensures refused { IfErr result (RefusesLaying site.now.bounds.length claimed.now) }
 {
     match load_tree::<K, L>(alloc, recs, site, tree.lsn, claimed, steps) {
@@ -98,6 +101,8 @@ pub(crate) fn make<K: RecKind, L: Ledger>(
     requires rising { IsRising K.form recs.now }
     requires inside { AllInside K.form site.now.bounds recs.now }
     ensures ready { IfOk result (IsReady K.form site.now tree.now.lsn recs.now before.now (entries list.now)) }
+    ensures counted { IfOk result (λ made. steps.new ≡ record steps.old { writes = steps.old.writes + length made.placed.items }) }
+    ensures steps { OnlyWrites steps.old steps.new }
     ensures refused { IfErr result (RefusesMaking K.form site.now.bounds.length (length recs.now) before.now (entries list.now)) }
 {
     let form = shape(recs.len() as u64, K::kind());

@@ -41,10 +41,10 @@ pub(crate) fn prepare<K: RecKind, D: Device, L: Ledger>(
     requires fits { 8 * (site.now.first + site.now.bounds.length) < 2 ^ 64 }
     requires given { IsPut how → (K.form.is_in_range site.now.bounds rec.now ≡ true) × (K.form.is_supported rec.now ≡ true) }
     requires agreed { AgreesTold cache.old (D.content dev.old) }
-    ensures prepared { IfOk result (IsPrepared K.form site.now how rec.now tree.now.lsn (D.content dev.old) (held tree.now txn.old list.now [])) }
+    ensures prepared { IfOk result (IsPrepared K.form site.now how rec.now tree.now.lsn (D.content dev.old) (held tree.now txn.old list.now []) steps.old steps.new) }
     ensures refused { IfErr result (RefusesPrepared K.form site.now how rec.now (D.content dev.old) (held tree.now txn.old list.now [])) }
     ensures txn { txn.new ≡ txn.old }
-    ensures left { IsLeft D.Device dev.old dev.new }
+    ensures left { IsLeft D.Device dev.old dev.new steps.old steps.new }
     ensures cause { HasCause is_devices (D.faults dev.old) (D.faults dev.new) result }
     ensures agrees { AgreesTold cache.new (D.content dev.new) }
 {

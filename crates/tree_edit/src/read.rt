@@ -1,5 +1,5 @@
 // A tree's records and blocks as a transaction has them.
-ghost use Rattle.std.specs.Prelude.{◌≡◌, ◌+◌, ◌*◌, ◌^◌, ◌<◌, ◌≤◌, IfOk, IfErr};
+ghost use Rattle.std.specs.Prelude.{◌≡◌, ◌+◌, ◌*◌, ◌^◌, ◌<◌, ◌≤◌, length, IfOk, IfErr};
 ghost use Rattle.blk_cache.specs.Cache.{AgreesTold};
 ghost use Rattle.blk_device.specs.Causes.{HasCause};
 ghost use Rattle.blk_device.specs.Reading.{OnlyRead};
@@ -51,6 +51,7 @@ pub(crate) fn walked<K: RecKind, D: Device, L: Ledger>(
     ensures lie { IfOk result (λ read. LieInside site.now.bounds.length read.blocks.items) }
     ensures kind { IfErr result IsOfWalk }
     ensures txn { txn.new ≡ txn.old }
+    ensures each { IfOk result (λ read. steps.new.reads ≡ steps.old.reads + length read.blocks.items) }
     ensures reading { OnlyRead D.Device dev.old dev.new steps.old steps.new }
     ensures cause { HasCause is_devices (D.faults dev.old) (D.faults dev.new) result }
     ensures agrees { AgreesTold cache.new (D.content dev.new) }

@@ -1,29 +1,20 @@
 // What an edit takes from the free list and gives back.
-ghost use Rattle.std.specs.Prelude.{◌≡◌, ◌≤◌, ◌++◌, length, drop, IfErr, OnOk};
+ghost use Rattle.std.specs.Prelude.{◌≡◌, ◌≤◌, ◌++◌, length, drop};
 ghost use Rattle.ag_headers.specs.Ring.{entries};
-ghost use Rattle.edit_blocks.specs.Choice.{for_list, for_limbo, IsSameList};
+ghost use Rattle.edit_blocks.specs.Choice.{for_list, for_limbo, IsSameList, HasRoomFor};
 
-use crate::fault::EditFault;
 use ag_headers::Agfl;
 use edit_blocks::{give_back, take_from};
 
 // Takes so many of the list's first blocks off it, and puts these at its end, or into limbo where it is
 // full.
-pub(crate) fn settle(
-    list: &mut Agfl,
-    limbo: &mut Vec<u32>,
-    need: u32,
-    left: &[u32],
-) -> Result<(), EditFault>
-    requires { need ≤ length (entries list.old) }
-    ensures list { OnOk result (entries list.new ≡ drop need (entries list.old) ++ for_list (drop need (entries list.old)) left.now) }
-    ensures limbo { OnOk result (limbo.new.items ≡ limbo.old.items ++ for_limbo (drop need (entries list.old)) left.now) }
+pub(crate) fn settle(list: &mut Agfl, limbo: &mut Vec<u32>, need: u32, left: &[u32])
+    requires enough { need ≤ length (entries list.old) }
+    requires room { HasRoomFor limbo.old (for_limbo (drop need (entries list.old)) left.now) }
+    ensures list { entries list.new ≡ drop need (entries list.old) ++ for_list (drop need (entries list.old)) left.now }
+    ensures limbo { limbo.new.items ≡ limbo.old.items ++ for_limbo (drop need (entries list.old)) left.now }
     ensures same { IsSameList list.old list.new }
-    ensures kind { IfErr result (λ fault. fault ≡ EditFault.Memory) }
 {
     take_from(list, need);
-    match give_back(list, limbo, left) {
-        Ok(()) => Ok(()),
-        Err(_) => Err(EditFault::Memory),
-    }
+    give_back(list, limbo, left);
 }

@@ -1,8 +1,7 @@
-use Rattle.std.proofs.Common.{◌≡◌, ◌^◌, ℕ, List, length, ap, subst, arith}
+use Rattle.std.proofs.Common.{◌^◌, subst, arith}
 use Rattle.std.specs.BTreeSet.{contains}
 use Rattle.std.specs.Ordering.{nat_cmp}
 use Rattle.join_blocks.specs.Joins.{is_joined, LieBelow}
-use Rattle.join_blocks.specs.Joins.{fresh, numbers}
 use Rattle.std.specs.Prelude.{◌||◌}
 use Rattle.join_blocks.proofs.CountLemmas.{counted_new, counted_old, none_more}
 use Rattle.join_blocks.proofs.count.count_with.Goals as goal

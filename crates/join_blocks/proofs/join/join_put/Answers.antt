@@ -1,13 +1,11 @@
-use Rattle.std.proofs.Common.{◌≡◌, ◌<◌, ◌^◌, ◌+◌, ◌≤◌, ◌++◌, ◌∙◌, ℕ, List, sym, ap, subst, arith, IfErr}
+use Rattle.std.proofs.Common.{◌≡◌, ◌^◌, ◌≤◌, ◌++◌, ◌∙◌, ℕ, List, length, sym, ap, subst, arith, IfErr}
 use Rattle.byte_fields.specs.declared.block.Block.{Block}
-use Rattle.blk_device.specs.Causes.{MovesOnly, HasCause}
 use Rattle.blk_device.specs.ReadingLaws.{read_on}
-use Rattle.blk_device.specs.declared.device.Region.{Region}
 use Rattle.blk_device.specs.declared.device.Region.TheVariants.{Image}
 use Rattle.meta_txn.specs.declared.fault.TxnFault.TheVariants.{Failed}
-use Rattle.join_blocks.specs.Joins.{count_of, with_all, placed_in, numbers, LieBelow}
+use Rattle.join_blocks.specs.Joins.{count_of, placed_in, LieBelow}
 use Rattle.join_blocks.proofs.CountLemmas.{with_err, counts_on, none_counted, room_on, free_room, by_either}
-use Rattle.join_blocks.proofs.PutLemmas.{none_left, one_less}
+use Rattle.join_blocks.proofs.PutLemmas.{none_left, one_less, others_on, among_on}
 use Rattle.join_blocks.proofs.join.join_put.Goals as goal
 
 pub overflow_add-first : goal.overflow_add-first
@@ -45,6 +43,10 @@ loop-block-preserved g c =
       room = room_on c.args.first e.0 c.from.result e.1.bytes s.txn.blocks c.put_one.new.txn.blocks (placed_in c.in-Some.later.now) c.from.ensures done.put done.count room;
       put = one_less c.args.first c.from.result e c.in-Some.later.now s.rest.now c.args.placed.now s.txn.blocks c.put_one.new.txn.blocks c.args.txn.now.blocks c.from.ensures is done.put s.invariant.put;
       count = λ bs. counts_on c.args.first e.0 c.from.result e.1.bytes s.txn.blocks c.put_one.new.txn.blocks (placed_in c.in-Some.later.now) bs c.from.ensures done.put done.count ∙ sym (ap (λ (l : List (ℕ × Block)). count_of s.txn.blocks c.args.first (placed_in l ++ bs)) is) ∙ s.invariant.count bs;
+      among = among_on e.0 (placed_in c.in-Some.later.now) (placed_in s.rest.now) (placed_in c.args.placed.now) (ap placed_in is) s.invariant.among;
+      others = others_on c.args.first e.0 c.from.result e.1.bytes (placed_in c.in-Some.later.now) (placed_in s.rest.now) (placed_in c.args.placed.now) c.args.txn.now.blocks s.txn.blocks c.put_one.new.txn.blocks c.from.ensures (ap placed_in is) done.put s.invariant.among s.invariant.others;
+      ticks = omega (arith, done.ticks, s.invariant.ticks);
+      few = let one = ap length is in omega (arith, done.few, s.invariant.few, one);
       marked = done.marked ∙ s.invariant.marked;
       reading = read_on g.D.Device met.only_now met.counts_now c.args.dev.now s.dev c.put_one.new.dev c.args.steps.now s.steps c.put_one.new.steps s.invariant.reading done.reading;
       calm = done.cause ∙ s.invariant.calm;

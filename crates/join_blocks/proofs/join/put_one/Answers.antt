@@ -1,6 +1,7 @@
-use Rattle.std.proofs.Common.{◌≡◌, IfErr}
+use Rattle.std.proofs.Common.{◌≡◌, length, IfErr}
 use Rattle.meta_txn.specs.declared.fault.TxnFault.TheVariants.{Failed}
-use Rattle.join_blocks.proofs.CountLemmas.{count_joined, with_err, is_failed, is_failed_joined}
+use Rattle.meta_txn.specs.Joined.{with_block}
+use Rattle.join_blocks.proofs.CountLemmas.{count_joined, with_err, is_failed, is_failed_joined, one_read}
 use Rattle.join_blocks.proofs.join.put_one.Goals as goal
 
 pub returns-in_err-found-clause-kind : goal.returns-in_err-found-clause-kind
@@ -15,3 +16,9 @@ returns-in_err-found-clause-kind_joined g c = λ there.
 
 pub returns-clause-count : goal.returns-clause-count
 returns-clause-count g c = count_joined c.args.at c.args.block.now.bytes c.args.txn.now.blocks c.len.ensures.batch
+
+pub returns-clause-ticks : goal.returns-clause-ticks
+returns-clause-ticks g c =
+    let ps = c.args.txn.now.blocks in
+    one_read c.in_ok-found.found c.args.at (length (with_block c.args.at c.args.block.now.bytes ps)) ps c.args.steps.now c.join.new.steps (λ none. (c.join.ensures.untouched none).2) c.join.ensures.ticks c.in_ok-found.ensures.too_many
+    (count_joined c.args.at c.args.block.now.bytes ps c.len.ensures.batch)

@@ -1,5 +1,5 @@
-use Rattle.join_blocks.proofs.CountLemmas.{count_grows}
+use Rattle.join_blocks.proofs.CountLemmas.{counts_joined, count_grows}
 use Rattle.join_blocks.proofs.laws.count_grows.Goals as goal
 
 pub returns : goal.returns
-returns c = count_grows
+returns c = record { joined = counts_joined; grows = count_grows }

@@ -1,8 +1,8 @@
-use Rattle.std.proofs.Common.{◌≡◌, ◌+◌, ◌-◌, ℕ, [], subst, arith}
+use Rattle.std.proofs.Common.{◌≡◌, ◌+◌, ◌-◌, ◌≤◌, ℕ, [], length, ◌∙◌, subst, arith}
 use Rattle.byte_fields.specs.Steps.{StepCount}
-use Rattle.load_trees.specs.Fit.{frame_of}
+use Rattle.load_trees.specs.Fit.{frame_of, WritesSome}
 use Rattle.load_trees.proofs.GivenLemmas.{blocks_below}
-use Rattle.load_trees.proofs.WrittenLemmas.{loaded_join, more_steps}
+use Rattle.load_trees.proofs.WrittenLemmas.{loaded_join, more_steps, no_steps, on_err}
 use Rattle.load_trees.proofs.whole.load_tree.Goals as goal
 
 pub load_piece-requires-clause-places : goal.load_piece-requires-clause-places
@@ -21,3 +21,12 @@ loop-from-preserved g c =
       steps = subst (λ (n : ℕ). ◌≡◌ {A = StepCount} c.load_piece.new.steps (record { reads = start.reads; writes = start.writes + n; moves = start.moves })) more
           (more_steps start l.steps c.load_piece.new.steps l.from (next - l.from) l.invariant.steps c.in_ok-from.ensures.written);
     }
+
+pub returns-in_err-form-clause-stopped : goal.returns-in_err-form-clause-stopped
+returns-in_err-form-clause-stopped g c = on_err c.from_residual.result (no_steps (length c.args.claimed.now) c.args.steps.now)
+
+pub returns-in_err-from-clause-stopped : goal.returns-in_err-from-clause-stopped
+returns-in_err-from-clause-stopped g c =
+    let l = c.loop-from in
+    let some : WritesSome (length c.args.claimed.now) c.args.steps.now c.load_piece.new.steps = (l.from, omega (arith, l.invariant.within, c.in_ok-form.ensures.claimed), c.in_err-from.ensures.unwritten ∙ l.invariant.steps) in
+    on_err c.from_residual-in_err-from.result some

@@ -1,10 +1,11 @@
-use Rattle.std.proofs.Common.{◌^◌, ◌++◌, ℕ, List, ap, sym, subst, arith}
+use Rattle.std.proofs.Common.{◌≡◌, ◌^◌, ◌+◌, ◌++◌, ℕ, List, length, ap, sym, subst, arith}
 use Rattle.blk_device.specs.ReadingLaws.{read_on}
 use Rattle.blk_device.specs.declared.device.Region.{Region}
 use Rattle.blk_device.specs.declared.device.Region.TheVariants.{Image}
-use Rattle.join_blocks.specs.Joins.{placed_in, LieBelow}
+use Rattle.join_blocks.specs.Joins.{placed_in, LieBelow, CountsAll, ReadsNew}
 use Rattle.join_blocks.proofs.CountLemmas.{count_grows}
-use Rattle.tree_edit.proofs.BlockLemmas.{lie_first, lie_rest}
+use Rattle.redo_area.specs.Area.{Batch}
+use Rattle.tree_edit.proofs.BlockLemmas.{lie_first, lie_rest, only_more, only_then, counts_both, on_ok}
 use Rattle.tree_edit.proofs.join.join_both.Goals as goal
 
 pub join_put-requires-clause-inside : goal.join_put-requires-clause-inside
@@ -30,3 +31,17 @@ pub returns-in-Ok-clause-reading : goal.returns-in-Ok-clause-reading
 returns-in-Ok-clause-reading g c =
     let met = g.met.D.Device in
     read_on g.D.Device met.only_now met.counts_now c.args.dev.now c.join_put.new.dev c.join_found.new.dev c.args.steps.now c.join_put.new.steps c.join_found.new.steps c.join_put.ensures.reading c.join_found.ensures.reading
+
+pub returns-in-Ok-clause-count : goal.returns-in-Ok-clause-count
+returns-in-Ok-clause-count g c =
+    let placed = placed_in c.args.placed.now in
+    on_ok c.join_found.result (λ found. counts_both c.args.first placed c.args.left.now c.args.txn.now.blocks c.join_put.new.txn.blocks c.join_found.new.txn.blocks c.in-Ok.ensures.count found) c.join_found.ensures.count
+
+pub returns-in-Ok-clause-ticks : goal.returns-in-Ok-clause-ticks
+returns-in-Ok-clause-ticks g c = on_ok c.join_found.result (λ found. omega (arith, found, c.in-Ok.ensures.ticks)) c.join_found.ensures.ticks
+
+pub returns-in-Ok-clause-others : goal.returns-in-Ok-clause-others
+returns-in-Ok-clause-others g c = only_then c.args.first (placed_in c.args.placed.now) c.args.left.now c.args.txn.now.blocks c.join_put.new.txn.blocks c.join_found.new.txn.blocks c.join_put.ensures.others c.join_found.ensures.others
+
+pub returns-in-Err-clause-others : goal.returns-in-Err-clause-others
+returns-in-Err-clause-others g c = only_more c.args.first (placed_in c.args.placed.now) c.args.left.now c.args.txn.now.blocks c.join_put.new.txn.blocks c.join_put.ensures.others

@@ -1,6 +1,7 @@
 use Rattle.std.proofs.Common.{List, sym, subst}
 use Rattle.ag_headers.specs.Ring.{entries}
 use Rattle.sblock.specs.Blocks.{IsRising, AllInside}
+use Rattle.tree_edit.proofs.EditLemmas.{left_of_read, left_writes}
 use Rattle.tree_edit.proofs.MakeLemmas.{sound_after}
 use Rattle.tree_edit.proofs.PrepareLemmas.{is_prepared}
 use Rattle.tree_edit.proofs.prepare.prepare.Goals as goal
@@ -22,4 +23,8 @@ returns-clause-prepared g c =
     let form = g.K.RecKind.form in
     let sound = sound_after form g.met.K.RecKind.lawful c.args.site.now.bounds c.args.how c.args.rec.now c.in-Ok.read.recs.items c.plan_records.new.recs.items c.requires.given c.in-Ok.ensures.sound c.in-Ok-plan_records.ensures.edits in
     is_prepared form c.args.site.now c.args.how c.args.rec.now c.args.tree.now.lsn (g.D.Device.content c.args.dev.now) _ c.in-Ok.read.recs.items c.plan_records.new.recs.items c.in-Ok.read.blocks.items c.deref.result.now c.deref-2.result.now
-    c.deref.ensures.value c.deref-2.ensures.value c.in-Ok.ensures.read c.in-Ok-plan_records.ensures.edits sound c.in-Ok.ensures.lie c.make.result c.make.ensures.ready
+    c.deref.ensures.value c.deref-2.ensures.value c.in-Ok.ensures.read c.in-Ok-plan_records.ensures.edits sound c.in-Ok.ensures.lie
+    c.args.steps.now c.walked.new.steps c.make.new.steps c.in-Ok.ensures.each c.walked.ensures.reading.writes c.walked.ensures.reading.moves c.make.result c.make.ensures.ready c.make.ensures.counted
+
+pub returns-clause-left : goal.returns-clause-left
+returns-clause-left g c = left_writes g.D.Device c.args.dev.now c.walked.new.dev c.args.steps.now c.walked.new.steps c.make.new.steps (left_of_read g.D.Device c.args.dev.now c.walked.new.dev c.args.steps.now c.walked.new.steps c.walked.ensures.reading) c.make.ensures.steps
