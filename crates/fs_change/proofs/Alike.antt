@@ -33,7 +33,7 @@ same_recs : {R : Type 0} (blocks : List ℕ) (r : Reading R) → recs_of (in_blo
 same_recs blocks (Readable recs old) = refl
 same_recs blocks (Unreadable block fault claims) = refl
 
-recs_at : (j k : Kind) (i : Index (RecOf j)) (f : (l : Kind) → Index (RecOf l)) → recs_of i.reading ≡ recs_of (f j).reading → recs_of (tree_only j i f k).reading ≡ recs_of (f k).reading
+pub recs_at : (j k : Kind) (i : Index (RecOf j)) (f : (l : Kind) → Index (RecOf l)) → recs_of i.reading ≡ recs_of (f j).reading → recs_of (tree_only j i f k).reading ≡ recs_of (f k).reading
 recs_at Bno Bno i f e = e
 recs_at Cnt Cnt i f e = e
 recs_at Rmap Rmap i f e = e
@@ -243,7 +243,7 @@ module _ (a : State) (g : ℕ) (blocks : Kind → List ℕ) where
   same_mappings : records_in ((switched a g units.Inode blocks).group g) Rmap ≡ records_in ((moved a g units.Inode blocks).group g) Rmap
   same_mappings = ap (λ (p : Group). records_in p Rmap) held
 
-  chunk_again : (u : ℕ) → is_chunk (switched a g units.Inode blocks) g u ≡ is_chunk (moved a g units.Inode blocks) g u
+  pub chunk_again : (u : ℕ) → is_chunk (switched a g units.Inode blocks) g u ≡ is_chunk (moved a g units.Inode blocks) g u
   unfolding is_chunk is_listed rmap_lists has_unit switched moved
   chunk_again u =
       let m : State = moved a g units.Inode blocks in

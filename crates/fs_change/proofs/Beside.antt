@@ -199,7 +199,7 @@ by_reaped left owner e a = record {
 as_is : (a : State) (e : Entry) (x y : State) → x ≡ y → StaysBeside a e y → StaysBeside a e x
 as_is a e x y same s = subst (StaysBeside a e) (sym same) s
 
-decided : (a x : State) (left : List Kind) (e : Entry) → Row a left e x → StaysBeside a e x
+pub decided : (a x : State) (left : List Kind) (e : Entry) → Row a left e x → StaysBeside a e x
 decided a x left (entries.Mapped m) r = as_is a _ x _ r.1 (by_mapped m a)
 decided a x left (entries.Unmapped m) r = as_is a _ x _ r.1 (by_unmapped m a)
 decided a x left (entries.Converted m) r = as_is a _ x _ r.1 (by_converted m a)

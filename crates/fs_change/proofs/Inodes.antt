@@ -44,13 +44,13 @@ rest_false : (a b : Bool) → (a || b) ≡ false → b ≡ false
 rest_false true b h = absurd (true≢false h)
 rest_false false b h = h
 
-data_beside : (i : ℕ) (f : List Mapping → List Mapping) (s : State) (ino : ℕ) → (ino == i) ≡ false → (change_data i f s).fork ino ≡ s.fork ino
+pub data_beside : (i : ℕ) (f : List Mapping → List Mapping) (s : State) (ino : ℕ) → (ino == i) ≡ false → (change_data i f s).fork ino ≡ s.fork ino
 data_beside i f s ino h = elsewhere i (data_only (Ok (changed_fork f (fork_of s i forks.Data))) (s.fork i)) s.fork ino h
 
-core_beside : (i : ℕ) (core : Option CoreState) (s : State) (ino : ℕ) → (ino == i) ≡ false → (set_core i core s).core ino ≡ s.core ino
+pub core_beside : (i : ℕ) (core : Option CoreState) (s : State) (ino : ℕ) → (ino == i) ≡ false → (set_core i core s).core ino ≡ s.core ino
 core_beside i core s ino h = elsewhere i core s.core ino h
 
-cores_beside : (g b n : ℕ) (core : Option CoreState) (s : State) (ino : ℕ) → stands_in s g b n ino ≡ false → SameInode s (set_cores g b n core s) ino
+pub cores_beside : (g b n : ℕ) (core : Option CoreState) (s : State) (ino : ℕ) → stands_in s g b n ino ≡ false → SameInode s (set_cores g b n core s) ino
 cores_beside g b n core s ino h = record { core = ap (λ x. cond x core (s.core ino)) h; fork = ap (λ x. cond x no_forks (s.fork ino)) h }
 
 same_if : (b : Bool) (x y a : State) (ino : ℕ) → SameInode a x ino → SameInode a y ino → SameInode a (if b then x else y) ino
@@ -156,7 +156,7 @@ by_reaped left owner e a ino = record { core = refl; fork = refl }
 as_is : (a x y : State) (ino : ℕ) → x ≡ y → SameInode a y ino → SameInode a x ino
 as_is a x y ino same s = subst (λ (z : State). SameInode a z ino) (sym same) s
 
-decided : (a x : State) (left : List Kind) (e : Entry) → Row a left e x → (ino : ℕ) → changes_inode a e ino ≡ false → SameInode a x ino
+pub decided : (a x : State) (left : List Kind) (e : Entry) → Row a left e x → (ino : ℕ) → changes_inode a e ino ≡ false → SameInode a x ino
 decided a x left (entries.Mapped m) r ino h = as_is a x _ ino r.1 (by_mapped m a ino h)
 decided a x left (entries.Unmapped m) r ino h = as_is a x _ ino r.1 (by_unmapped m a ino h)
 decided a x left (entries.Converted m) r ino h = as_is a x _ ino r.1 (by_converted m a ino h)
@@ -179,11 +179,11 @@ decided a x left (entries.Reply writer line code done refused begun) r ino h = a
 
 -- ---- what is left open
 
-in_same_chunk : (x b : State) → ((h u : ℕ) → is_chunk b h u ≡ is_chunk x h u) → (o : Option (ℕ × ℕ)) → in_chunk b o ≡ in_chunk x o
+pub in_same_chunk : (x b : State) → ((h u : ℕ) → is_chunk b h u ≡ is_chunk x h u) → (o : Option (ℕ × ℕ)) → in_chunk b o ≡ in_chunk x o
 in_same_chunk x b same None = refl
 in_same_chunk x b same (Some p) = same p.0 (p.1 / 8)
 
-same_inodes : (g : ℕ) (left ks : List Kind) (a x b : State) (ino : ℕ) → Loosely g left ks a x b → is_inode b ino ≡ is_inode x ino
+pub same_inodes : (g : ℕ) (left ks : List Kind) (a x b : State) (ino : ℕ) → Loosely g left ks a x b → is_inode b ino ≡ is_inode x ino
 unfolding is_inode
 same_inodes g left ks a x b ino l =
     ap (λ at. in_chunk b (split_of at (ino / 8))) l.geometry ∙ in_same_chunk x b l.inodes.chunks (split_of x.geometry (ino / 8))

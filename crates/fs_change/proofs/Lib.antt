@@ -1,15 +1,15 @@
-mod Again
-mod Alike
-mod Beside
+pub mod Again
+pub mod Alike
+pub mod Beside
 pub mod Compose
 mod Counted
-mod Inodes
-mod Mapped
-mod Owed
+pub mod Inodes
+pub mod Mapped
+pub mod Owed
 mod Pieces
 pub mod Sets
-mod Settled
-mod Shadow
+pub mod Settled
+pub mod Shadow
 pub mod Stays
-mod Taking
-mod Trees
+pub mod Taking
+pub mod Trees

@@ -216,7 +216,7 @@ module _ (a : State) (g : ℕ) (blocks : Kind → List ℕ) (tuples : AreTuples 
       let w = and_parts (has_unit m.geometry g u) (ino_lists m g u || rmap_lists m g u) v.0 in
       ap₂ (λ x z. x && z) (ap₂ (λ x z. x && z) w.0 (or_of_right (ino_lists m g u) (gives_unit u (runs_of (own m g))) (gives_chunk u h w.0))) v.1)
 
-  chunk_again : (h u : ℕ) → is_chunk y h u ≡ is_chunk m h u
+  pub chunk_again : (h u : ℕ) → is_chunk y h u ≡ is_chunk m h u
   unfolding is_chunk is_listed ino_lists rmap_lists switched
   chunk_again h u = (elim (h == g) as (λ b. (h == g) ≡ b → is_chunk y h u ≡ is_chunk m h u) [
     | true ↦ λ e. subst (λ (n : ℕ). is_chunk y n u ≡ is_chunk m n u) (sym (eqb-true h g e)) (chunk_here u)

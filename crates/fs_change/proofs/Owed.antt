@@ -67,7 +67,7 @@ more_owed D E c new other at (n ∷ ns) = (elim (n == c) as (λ b. (n == c) ≡ 
       ∙ sym (or_again (E n) (list_any E ns) (list_any (λ m. m == c) ns && new))
 ]) refl
 
-same_at : {X : Type 0} (k : ℕ) (x : X) (f : ℕ → X) → at_only k x f k ≡ x
+pub same_at : {X : Type 0} (k : ℕ) (x : X) (f : ℕ → X) → at_only k x f k ≡ x
 same_at k x f = ap (λ b. cond b x (f k)) (eq-eqb k k refl)
 
 -- the chain's new intents are owed besides
@@ -79,7 +79,7 @@ owed_more F f h c t new below other at =
     ∙ ap (λ b. list_any (owes F h t) (numbers 0 most_chains) || (b && new)) (in_numbers 0 16 c (omega arith) below)
     ∙ ap (λ b. b || new) (sym (by_chain F h t (numbers 0 most_chains)))
 
-or_none : (b : Bool) → b ≡ (b || false)
+pub or_none : (b : Bool) → b ≡ (b || false)
 or_none true = refl
 or_none false = refl
 

@@ -1,5 +1,5 @@
 -- What an entry decides is a state that it allows: no block has to move.
-use Rattle.std.proofs.Common.{◌≡◌, ℕ, ◌+◌, ◌^◌, ◌<◌, ◌==◌, ◌&&◌, ◌||◌, Bool, true, false, not, List, [], ◌∷◌, ◌++◌, drop, cond, sym, ap, ap₂, refl, ◌∙◌, arith, append-nil, length}
+use Rattle.std.proofs.Common.{◌≡◌, ℕ, ◌+◌, ◌^◌, ◌<◌, ◌==◌, ◌&&◌, ◌||◌, Bool, true, false, not, nat_le, List, [], ◌∷◌, ◌++◌, drop, cond, sym, ap, ap₂, refl, ◌∙◌, arith, append-nil, length}
 use Rattle.std.specs.List.{list_any, list_all}
 use Rattle.std.proofs.Common.{eq-eqb}
 use Rattle.fs_model.specs.declared.fault.Counter.{Counter}
@@ -13,7 +13,7 @@ use Rattle.fs_state.specs.Kinds.{RecOf}
 use Rattle.fs_state.specs.State.{State, Group, Index, Owned, Reading, Readable, Unreadable, ForkList, recs_of, blocks_of}
 use Rattle.fs_change.specs.Changes.{follow}
 use Rattle.fs_change.specs.Laws.{AreWords, DecidedStands}
-use Rattle.fs_change.specs.Loose.{Loosely, Inside, InodesStay, MovesBlocks, may_join, laid_out, owners_follow, owners_in, lost_to, met_by_moves, tree_blocks, block_counter}
+use Rattle.fs_change.specs.Loose.{Loosely, Inside, InodesStay, MovesBlocks, list_room, may_join, laid_out, owners_follow, owners_in, lost_to, met_by_moves, tree_blocks, block_counter}
 use Rattle.fs_change.specs.Met.{is_fault, met_moving, give_each, take_each}
 use Rattle.fs_change.specs.Parts.{tree_only, change_tree, set_blocks, in_trees, in_blocks, with_recs, edit, is_edited, records_in}
 use Rattle.fs_derive.specs.Kinds.{tree_owner}
@@ -128,6 +128,7 @@ nothing_moves kept left ks p h = record {
   is = laid_in_place kept left ks p h;
   limbo_keeps = each_passes (has_owned p.limbo) p.limbo (λ o e. e);
   limbo_gains = each_passes (may_join ks p) p.limbo (joins ks p);
+  limbo_due = ap (λ b. b || nat_le list_room (length p.free_list + 0)) (each_passes (has_owned p.limbo) p.limbo (λ o e. e));
   none_lost = λ b. refl;
   owners_met = and_false (is_edited left p Rmap) (is_fault (met_by_moves p p)) (no_moves p);
 }
@@ -140,8 +141,8 @@ same_fork : (r : Result ForkList ForkFault) → SameFork r r
 same_fork (Ok list) = refl
 same_fork (Err fault) = refl
 
-inodes_stay : (g : ℕ) (ks : List Kind) (a x : State) → InodesStay g ks a x x
-inodes_stay g ks a x = record {
+inodes_stay : (g : ℕ) (used : List ℕ) (a x : State) → InodesStay g used a x x
+inodes_stay g used a x = record {
   untouched = λ ino out. refl;
   chunks = λ h u. refl;
   cores = λ ino is. refl;
@@ -149,7 +150,7 @@ inodes_stay g ks a x = record {
 }
 
 pub stays : (g : ℕ) (left ks : List Kind) (a x : State) → AreWords (x.group g) → Loosely g left ks a x x
-stays g left ks a x h = record { geometry = refl; chains = refl; others = λ k out. refl; inside = inside a.geometry.inobtcount left ks (x.group g) h; inodes = inodes_stay g ks a x }
+stays g left ks a x h = record { geometry = refl; chains = refl; others = λ k out. refl; inside = inside a.geometry.inobtcount left ks (x.group g) h; inodes = inodes_stay g _ a x }
 
 pub decided_stands : DecidedStands
 decided_stands a x left e row leaves met h = record { decided = x; row = row; leaves = leaves; met = met; uncut = λ asked same. refl; loosely = stays (group_of_entry a e) left (edited_in a left e) a x h }

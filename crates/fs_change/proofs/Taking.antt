@@ -17,7 +17,7 @@ use Rattle.fs_change.specs.Parts.{at_only, in_group, with_recs, is_edited, edit,
 use Rattle.fs_change.specs.Records.{has_inode, turned, turn_inode}
 use Rattle.fs_change.specs.Step.{group_of_inode}
 
-free_verifies : (c : Option CoreState) → is_free c ≡ true → verifies c ≡ true
+pub free_verifies : (c : Option CoreState) → is_free c ≡ true → verifies c ≡ true
 free_verifies None h = absurd (false≢true h)
 free_verifies (Some (Broken fault)) h = absurd (false≢true h)
 free_verifies (Some (Whole inode)) h = refl
@@ -65,7 +65,7 @@ same_verifies ino uid core h n = (elim (n == ino) as (λ b. (n == ino) ≡ b →
   | false ↦ λ e. refl
 ]) refl
 
-same_unit : (at : Layout) (c d : ℕ → Option CoreState) → ((n : ℕ) → verifies (d n) ≡ verifies (c n)) → (h u : ℕ) → unit_verifies at d h u ≡ unit_verifies at c h u
+pub same_unit : (at : Layout) (c d : ℕ → Option CoreState) → ((n : ℕ) → verifies (d n) ≡ verifies (c n)) → (h u : ℕ) → unit_verifies at d h u ≡ unit_verifies at c h u
 unfolding unit_verifies block_verifies
 same_unit at c d same h u = λ i. all_below 8 (λ j. all_below 8 (λ s. same (inode_at at h (8 * u + j) s) i))
 

@@ -47,13 +47,13 @@ rest_false true b h = absurd (true≢false h)
 rest_false false b h = h
 
 -- k isn't j
-abbrev Not : Kind → Kind → Type 0
+abbrev pub Not : Kind → Kind → Type 0
 Not j k = (kind_number k == kind_number j) ≡ false
 
-is_first : (j k : Kind) (ks : List Kind) → is_among j (k ∷ ks) ≡ false → Not j k
+pub is_first : (j k : Kind) (ks : List Kind) → is_among j (k ∷ ks) ≡ false → Not j k
 is_first j k ks h = first_false (kind_number k == kind_number j) (is_among j ks) h
 
-in_rest : (j k : Kind) (ks : List Kind) → is_among j (k ∷ ks) ≡ false → is_among j ks ≡ false
+pub in_rest : (j k : Kind) (ks : List Kind) → is_among j (k ∷ ks) ≡ false → is_among j ks ≡ false
 in_rest j k ks h = rest_false (kind_number k == kind_number j) (is_among j ks) h
 
 only : (k j : Kind) (i : Index (RecOf k)) (f : (l : Kind) → Index (RecOf l)) → Not j k → tree_only k i f j ≡ f j
@@ -65,14 +65,14 @@ only Ino Ino i f h = absurd (true≢false h)
 only Fino Fino i f h = absurd (true≢false h)
 only k j i f h = refl
 
-changed : (k j : Kind) (g : Index (RecOf k) → Index (RecOf k)) (p : Group) → Not j k → (change_tree k g p).tree j ≡ p.tree j
+pub changed : (k j : Kind) (g : Index (RecOf k) → Index (RecOf k)) (p : Group) → Not j k → (change_tree k g p).tree j ≡ p.tree j
 changed k j g p h = only k j (g (p.tree k)) p.tree h
 
 by_cond : (j : Kind) (b : Bool) (p q r : Group) → p.tree j ≡ r.tree j → q.tree j ≡ r.tree j → (cond b p q).tree j ≡ r.tree j
 by_cond j true p q r h i = h
 by_cond j false p q r h i = i
 
-edited : (left : List Kind) (k j : Kind) (f : List (RecOf k) → List (RecOf k)) (p : Group) → Not j k → (edit left k f p).tree j ≡ p.tree j
+pub edited : (left : List Kind) (k j : Kind) (f : List (RecOf k) → List (RecOf k)) (p : Group) → Not j k → (edit left k f p).tree j ≡ p.tree j
 edited left k j f p h = by_cond j (is_edited left p k) (change_tree k (λ i. record i { reading = with_recs (f (recs_of i.reading)) i.reading }) p) p p (changed k j (λ i. record i { reading = with_recs (f (recs_of i.reading)) i.reading }) p h) refl
 
 -- ---- several
@@ -81,7 +81,7 @@ in_place : (j : Kind) (blocks : Kind → List ℕ) (ks : List Kind) (p : Group) 
 in_place j blocks [] p h = refl
 in_place j blocks (k ∷ ks) p h = changed k j (λ i. record i { reading = in_blocks (blocks k) i.reading }) (in_trees blocks ks p) (is_first j k ks h) ∙ in_place j blocks ks p (in_rest j k ks h)
 
-trusted : (j : Kind) (t : Trust) (ks : List Kind) (p : Group) → is_among j ks ≡ false → (set_trusts t ks p).tree j ≡ p.tree j
+pub trusted : (j : Kind) (t : Trust) (ks : List Kind) (p : Group) → is_among j ks ≡ false → (set_trusts t ks p).tree j ≡ p.tree j
 trusted j t [] p h = refl
 trusted j t (k ∷ ks) p h = changed k j (λ i. record i { trust = t }) (set_trusts t ks p) (is_first j k ks h) ∙ trusted j t ks p (in_rest j k ks h)
 
@@ -91,20 +91,20 @@ held j recs (k ∷ ks) p h = changed k j (λ i. record { reading = Readable (rec
 
 -- ---- free space and owners
 
-spaced : (left : List Kind) (j : Kind) (e : Extent) (p : Group) → Not j Bno → Not j Cnt → (take_free left e p).tree j ≡ p.tree j
+pub spaced : (left : List Kind) (j : Kind) (e : Extent) (p : Group) → Not j Bno → Not j Cnt → (take_free left e p).tree j ≡ p.tree j
 spaced left j e p b c =
     edited left Cnt j (take_span by_count (known_spans p) (span e.block e.count)) (edit left Bno (take_span by_start (records_in p Bno) (span e.block e.count)) p) c
     ∙ edited left Bno j (take_span by_start (records_in p Bno) (span e.block e.count)) p b
 
-given_space : (left : List Kind) (j : Kind) (e : Extent) (p : Group) → Not j Bno → Not j Cnt → (give_free left e p).tree j ≡ p.tree j
+pub given_space : (left : List Kind) (j : Kind) (e : Extent) (p : Group) → Not j Bno → Not j Cnt → (give_free left e p).tree j ≡ p.tree j
 given_space left j e p b c =
     edited left Cnt j (give_span by_count (known_spans p) (span e.block e.count)) (edit left Bno (give_span by_start (records_in p Bno) (span e.block e.count)) p) c
     ∙ edited left Bno j (give_span by_start (records_in p Bno) (span e.block e.count)) p b
 
-given_owner : (left : List Kind) (owner : ℕ) (e : Extent) (j : Kind) (p : Group) → Not j Rmap → (give_owner left owner e p).tree j ≡ p.tree j
+pub given_owner : (left : List Kind) (owner : ℕ) (e : Extent) (j : Kind) (p : Group) → Not j Rmap → (give_owner left owner e p).tree j ≡ p.tree j
 given_owner left owner e j p h = edited left Rmap j (give_mapping (plain_run owner e)) p h
 
-taken_owner : (left : List Kind) (owner : ℕ) (e : Extent) (j : Kind) (p : Group) → Not j Rmap → (take_owner left owner e p).tree j ≡ p.tree j
+pub taken_owner : (left : List Kind) (owner : ℕ) (e : Extent) (j : Kind) (p : Group) → Not j Rmap → (take_owner left owner e p).tree j ≡ p.tree j
 taken_owner left owner e j p h = edited left Rmap j (take_mapping (plain_run owner e)) p h
 
 followed : (left : List Kind) (p q : Group) (j : Kind) → Not j Rmap → (owners_follow left p q).tree j ≡ q.tree j
@@ -126,7 +126,7 @@ own g f a j keeps = own_here g f a j (keeps (a.group g))
 no_space : (j k : Kind) (ks : List Kind) → is_among j (k ∷ Bno ∷ Cnt ∷ ks) ≡ false → (Not j Bno) × (Not j Cnt)
 no_space j k ks h = let h1 = in_rest j k (Bno ∷ Cnt ∷ ks) h in (is_first j Bno (Cnt ∷ ks) h1, is_first j Cnt ks (in_rest j Bno (Cnt ∷ ks) h1))
 
-abbrev Keeps : State → State → ℕ → Kind → Type 0
+abbrev pub Keeps : State → State → ℕ → Kind → Type 0
 Keeps a x g j = (x.group g).tree j ≡ (a.group g).tree j
 
 by_mapped : (m : Piece) (a : State) (j : Kind) → is_among j (Rmap ∷ Bno ∷ Cnt ∷ []) ≡ false → Keeps a (mapped m a) m.group j
@@ -231,7 +231,7 @@ by_judged g unit verdict a j h = own g (judge verdict unit) a j (λ p. judged_tr
 no_three : (j : Kind) (ks : List Kind) → is_among j (Rmap ∷ Bno ∷ Cnt ∷ ks) ≡ false → (Not j Bno) × (Not j Cnt) × (Not j Rmap)
 no_three j ks h = let n = no_space j Rmap ks h in (n.0, n.1, is_first j Rmap (Bno ∷ Cnt ∷ ks) h)
 
-turned_owner : (left : List Kind) (owner : ℕ) (e : Extent) (j : Kind) (p : Group) → Not j Rmap → (give_owner left owner e (take_owner left (number_of Ag) e (record p { free_list = drop 1 p.free_list }))).tree j ≡ p.tree j
+pub turned_owner : (left : List Kind) (owner : ℕ) (e : Extent) (j : Kind) (p : Group) → Not j Rmap → (give_owner left owner e (take_owner left (number_of Ag) e (record p { free_list = drop 1 p.free_list }))).tree j ≡ p.tree j
 turned_owner left owner e j p h =
     given_owner left owner e j (take_owner left (number_of Ag) e (record p { free_list = drop 1 p.free_list })) h ∙ taken_owner left (number_of Ag) e j (record p { free_list = drop 1 p.free_list }) h
 
@@ -259,7 +259,7 @@ by_released : (g : ℕ) (a : State) (j : Kind) → Keeps a (released g a) g j
 unfolding released
 by_released g a j = own g (λ p. record p { reserve = []; limbo = join_limbo p.reserve p.limbo }) a j (λ p. refl)
 
-by_switched : (g : ℕ) (unit : ScrubUnit) (blocks : Kind → List ℕ) (a : State) (j : Kind) → is_among j (kinds_of unit) ≡ false → Keeps a (switched a g unit blocks) g j
+pub by_switched : (g : ℕ) (unit : ScrubUnit) (blocks : Kind → List ℕ) (a : State) (j : Kind) → is_among j (kinds_of unit) ≡ false → Keeps a (switched a g unit blocks) g j
 unfolding switched moved
 by_switched g unit blocks a j h =
     let m : State = moved a g unit blocks in
@@ -284,7 +284,7 @@ by_reaped left e a j h =
 as_is : (a x y : State) (g : ℕ) (j : Kind) → x ≡ y → Keeps a y g j → Keeps a x g j
 as_is a x y g j same k = subst (λ (s : State). Keeps a s g j) (sym same) k
 
-decided : (a x : State) (left : List Kind) (e : Entry) → Row a left e x → (j : Kind) → is_among j (changed_kinds a e) ≡ false → Keeps a x (group_of_entry a e) j
+pub decided : (a x : State) (left : List Kind) (e : Entry) → Row a left e x → (j : Kind) → is_among j (changed_kinds a e) ≡ false → Keeps a x (group_of_entry a e) j
 decided a x left (entries.Mapped m) r j h = as_is a x _ _ j r.1 (by_mapped m a j h)
 decided a x left (entries.Unmapped m) r j h = as_is a x _ _ j r.1 (by_unmapped m a j)
 decided a x left (entries.Converted m) r j h = as_is a x _ _ j r.1 (by_converted m a j)

@@ -1,6 +1,6 @@
 -- What an entry leaves open: how an edited tree is cut into blocks, and what a block that a tree had or gained, or that
 -- left the reserve, holds as cores.
-use Rattle.std.specs.Prelude.{◌≡◌, ℕ, ◌+◌, ◌/◌, ◌==◌, ◌&&◌, ◌||◌, Bool, true, false, not, List, [], ◌∷◌, ◌++◌, map, flat_map, filter, length, drop, Option, Some, None, if◌then◌else◌}
+use Rattle.std.specs.Prelude.{◌≡◌, ℕ, ◌+◌, ◌/◌, ◌==◌, ◌&&◌, ◌||◌, nat_le, Bool, true, false, not, List, [], ◌∷◌, ◌++◌, map, flat_map, filter, length, take, drop, Option, Some, None, if◌then◌else◌}
 use Rattle.std.specs.List.{list_any, list_all}
 use Rattle.dinode_core.specs.declared.mapping.Fork.{Fork}
 use Rattle.fs_model.specs.declared.fault.Counter.{Counter}
@@ -62,6 +62,14 @@ pool_of p = p.free_list ++ flat_map (tree_blocks p) all_kinds ++ blocks_in p.lim
 abbrev pub may_join : List Kind → Group → Owned → Bool
 may_join ks p o = has_owned p.limbo o || list_any (λ k. (o.owner == tree_owner k) && (is_in o.block (tree_blocks p k) || is_in o.block p.free_list)) ks
 
+-- the free list has room for so many blocks
+abbrev pub list_room : ℕ
+list_room = 119
+
+-- limbo gains a block only where the list had no room: with what edits freed behind its own blocks
+abbrev pub is_limbo_due : Group → List ℕ → List Owned → Bool
+is_limbo_due p freed limbo = list_all (has_owned p.limbo) limbo || nat_le list_room (length p.free_list + length freed)
+
 -- Which blocks may an edit move? From the front of the list into edited trees, and from these to the list's end, or into
 -- limbo, with the owner of their tree; none comes or goes. Reverse mappings that can't follow are left.
 pub record MovesBlocks (kept : Bool) (left ks : List Kind) (p q : Group) : Type 0 where
@@ -72,6 +80,7 @@ pub record MovesBlocks (kept : Bool) (left ks : List Kind) (p q : Group) : Type 
   pub is : q ≡ laid_out kept left ks blocks (drop used p.free_list ++ freed) limbo p
   pub limbo_keeps : list_all (has_owned limbo) p.limbo ≡ true
   pub limbo_gains : list_all (may_join ks p) limbo ≡ true
+  pub limbo_due : is_limbo_due p freed limbo ≡ true
   pub none_lost : (b : ℕ) → times b (pool_of q) ≡ times b (pool_of p)
   pub owners_met : (is_edited left p Rmap && is_fault (met_by_moves p q)) ≡ false
 
@@ -80,20 +89,25 @@ abbrev pub Inside : Bool → List Kind → List Kind → Group → Group → Typ
 Inside kept left [] p q = q ≡ p
 Inside kept left (k ∷ ks) p q = MovesBlocks kept left (k ∷ ks) p q
 
+-- the blocks that edits took from the front of the list, whether or not they gave them back
+abbrev pub used_blocks : (kept : Bool) (left ks : List Kind) (p q : Group) → Inside kept left ks p q → List ℕ
+used_blocks kept left [] p q i = []
+used_blocks kept left (k ∷ ks) p q i = take i.used p.free_list
+
 -- ---- cores
 
 abbrev pub place_in : ℕ → Option (ℕ × ℕ) → (ℕ → Bool) → Bool
 place_in g None test = false
 place_in g (Some p) test = (p.0 == g) && test p.1
 
--- a tree had the block or has it; or one edit had it from the list of x, and another gave it back; or it left the reserve
-abbrev pub is_touched : List Kind → Group → Group → Group → ℕ → Bool
-is_touched ks p x q b = list_any (λ k. is_in b (tree_blocks p k) || is_in b (tree_blocks q k)) all_kinds || list_any (λ k. is_in b x.free_list) ks || (is_in b (blocks_in p.reserve) && not (is_in b (blocks_in q.reserve)))
+-- a tree had the block or has it; or an edit had it from the list; or it left the reserve
+abbrev pub is_touched : List ℕ → Group → Group → ℕ → Bool
+is_touched used p q b = list_any (λ k. is_in b (tree_blocks p k) || is_in b (tree_blocks q k)) all_kinds || is_in b used || (is_in b (blocks_in p.reserve) && not (is_in b (blocks_in q.reserve)))
 
 -- What stays of inodes? All of other blocks, which chunks there are, and all of inodes in chunks; a fork that can't be
 -- read still can't.
-pub record InodesStay (g : ℕ) (ks : List Kind) (a x b : State) : Type 0 where
-  pub untouched : (ino : ℕ) → place_in g (split_of a.geometry (ino / 8)) (is_touched ks (a.group g) (x.group g) (b.group g)) ≡ false → b.core ino ≡ x.core ino
+pub record InodesStay (g : ℕ) (used : List ℕ) (a x b : State) : Type 0 where
+  pub untouched : (ino : ℕ) → place_in g (split_of a.geometry (ino / 8)) (is_touched used (a.group g) (b.group g)) ≡ false → b.core ino ≡ x.core ino
   pub chunks : (h u : ℕ) → is_chunk b h u ≡ is_chunk x h u
   pub cores : (ino : ℕ) → is_inode x ino ≡ true → b.core ino ≡ x.core ino
   pub forks : (ino : ℕ) (f : Fork) → is_inode x ino ≡ true → SameFork (x.fork ino f) (b.fork ino f)
@@ -105,4 +119,4 @@ pub record Loosely (g : ℕ) (left ks : List Kind) (a x b : State) : Type 0 wher
   pub chains : b.chains ≡ x.chains
   pub others : (h : ℕ) → (h ≡ g → ⊥) → b.group h ≡ x.group h
   pub inside : Inside a.geometry.inobtcount left ks (x.group g) (b.group g)
-  pub inodes : InodesStay g ks a x b
+  pub inodes : InodesStay g (used_blocks a.geometry.inobtcount left ks (x.group g) (b.group g) inside) a x b

@@ -1,6 +1,6 @@
 -- Why an index is marked: what an edit of it met, in an entry that stands in the journal or in one that wasn't made; or
 -- what a choice met (Online Fsck Design, "Eventual Consistency").
-use Rattle.std.specs.Prelude.{◌≡◌, ◌⊎◌, ℕ, ◌+◌, ◌*◌, ◌/◌, ◌<◌, ◌==◌, ◌&&◌, ◌||◌, nat_lt, Bool, true, false, not, List, [], ◌∷◌, ◌++◌, map, filter, length, Some, None, if◌then◌else◌}
+use Rattle.std.specs.Prelude.{◌≡◌, ◌⊎◌, ℕ, ◌+◌, ◌*◌, ◌/◌, ◌<◌, ◌≤◌, ◌==◌, ◌&&◌, ◌||◌, nat_lt, Bool, true, false, not, List, [], ◌∷◌, ◌++◌, map, filter, length, Some, None, if◌then◌else◌}
 use Rattle.std.specs.List.{list_any, list_all}
 use Rattle.fs_model.specs.declared.entry.Entry.{Entry}
 use Rattle.fs_model.specs.declared.entry.Entry.TheVariants as entries
@@ -16,9 +16,9 @@ use Rattle.sblock.specs.declared.kind.Kind.TheVariants.{Bno, Cnt, Rmap, Refc, In
 use Rattle.tree_defs.specs.Lists.{AllDiffer, is_in}
 use Rattle.fs_state.specs.Apart.{unit_verifies}
 use Rattle.fs_state.specs.Group.{is_among}
-use Rattle.fs_state.specs.State.{State, Owned, blocks_in, is_readable}
+use Rattle.fs_state.specs.State.{State, Group, Owned, blocks_in, is_readable}
 use Rattle.fs_derive.specs.Derive.{is_free}
-use Rattle.fs_derive.specs.Kinds.{all_kinds}
+use Rattle.fs_derive.specs.Kinds.{all_kinds, tree_owner}
 use Rattle.fs_change.specs.Choice.{chosen, free_inode, chunk_run, inode_of}
 use Rattle.fs_change.specs.Edited.{group_of_inode, group_of_entry, is_asked, edited_in, met_by}
 use Rattle.fs_change.specs.Loose.{tree_blocks, owners_in, lost_to, met_by_moves}
@@ -34,11 +34,13 @@ most_put moved = 3 + 3 * moved
 
 -- the cause says what the edits met, where they put in at most so many records. A list that is too short, or a batch that
 -- is too large, is met between an entry's edits, where no state stands: these numbers are too small, or too great, and only
--- a tree that may outgrow a leaf needs a block. In a tree that can be read no block fails.
+-- a tree that may outgrow a leaf needs a block, of which a whole new tree needs the most. In a tree that can be read no
+-- block fails.
 abbrev pub Explains : State → ℕ → Kind → Met → ℕ → Cause → Type 0
 Explains a g k m most causes.Missing = m.lacks ≡ true
 Explains a g k m most causes.Overlap = (m.meets || m.far) ≡ true
-Explains a g k m most (causes.Short have need) = (have < need) × (1 < need_of k (length (records_in (a.group g) k) + most))
+Explains a g k m most (causes.Short have need) =
+    let whole : ℕ = need_of k (length (records_in (a.group g) k) + most) in (have < need) × (1 < whole) × (need ≤ whole)
 Explains a g k m most (causes.Large n) = (160 < n) × (list_any (λ j. nat_lt 24 (length (tree_blocks (a.group g) j))) all_kinds ≡ true)
 Explains a g k m most (causes.Block block fault) = is_readable ((a.group g).tree k).reading ≡ false
 Explains a g k m most causes.Owner = ⊥
@@ -130,6 +132,16 @@ pub record IsStopped (a : State) (g : ℕ) (k : Kind) (cause : Cause) : Type 0 w
 abbrev pub may_turn : Owned → Bool
 may_turn o = (o.owner == number_of Ag) || (o.owner == number_of Inobt)
 
+-- a block of the list, or of a tree that is edited, has moved from there
+abbrev pub may_move : List Kind → Group → Owned → Bool
+may_move ks p o = ((o.owner == number_of Ag) && is_in o.block p.free_list) || list_any (λ k. (o.owner == tree_owner k) && is_in o.block (tree_blocks p k)) ks
+
+-- these blocks would lose these owners, and get those: each another one
+abbrev pub do_turn : List Kind → Group → List Owned → List Owned → Bool
+do_turn ks p old new =
+    list_all (λ o. may_turn o && (may_move ks p o && is_in o.block (blocks_in new))) old
+    && list_all (λ o. may_turn o && (is_in o.block (blocks_in old) && not (has_owned old o))) new
+
 -- or reverse mappings couldn't follow blocks that it would have moved, into an inode btree or out of one
 pub record IsStuck (a : State) (g : ℕ) (cause : Cause) : Type 0 where
   pub entry : Entry
@@ -139,8 +151,7 @@ pub record IsStuck (a : State) (g : ℕ) (cause : Cause) : Type 0 where
   pub old : List Owned
   pub new : List Owned
   pub some : 0 < length old
-  pub had : list_all (λ o. may_turn o && has_owned (owners_in (record (a.group g) { limbo = [] })) o) old ≡ true
-  pub turned : list_all (λ o. may_turn o && is_in o.block (blocks_in old)) new ≡ true
+  pub turned : do_turn (edited_in a [] entry) (a.group g) old new ≡ true
   pub once : AllDiffer (blocks_in old) × AllDiffer (blocks_in new)
   pub explains : Explains a g Rmap (met_moving old new (records_in (a.group g) Rmap)) (most_put (length old)) cause
 

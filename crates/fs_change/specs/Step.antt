@@ -1,6 +1,6 @@
 -- What an entry of the journal says of the states before and after it (Online Fsck Design, "Eventual Consistency", "Live
 -- Updates"; formats of entries: fs_model).
-use Rattle.std.specs.Prelude.{◌≡◌, ◌⊎◌, ℕ, ◌-◌, ◌*◌, ◌/◌, ◌<◌, ◌≤◌, ◌==◌, ◌&&◌, ◌||◌, nat_lt, Bool, true, false, not, List, [], ◌∷◌, length, slice_get, Option, Some, None, Result, Ok, Err, is_ok, Contains, if◌then◌else◌}
+use Rattle.std.specs.Prelude.{◌≡◌, ◌⊎◌, ℕ, ◌-◌, ◌*◌, ◌/◌, ◌<◌, ◌≤◌, ◌==◌, ◌&&◌, ◌||◌, nat_lt, Bool, true, false, not, List, [], ◌∷◌, length, take, slice_get, Option, Some, None, Result, Ok, Err, is_ok, Contains, if◌then◌else◌}
 use Rattle.std.specs.List.{list_any, list_all}
 use Rattle.dinode_core.specs.declared.mapping.Fork.{Fork}
 use Rattle.dinode_core.specs.declared.mapping.Fork.TheVariants as forks
@@ -161,10 +161,14 @@ pub record MayRefill (a : State) (e : Extent) : Type 0 where
   pub chosen : chosen_of a (filled_list - length (a.group e.group).free_list) (e.group ∷ []) ≡ Some e
   pub unowned : is_owned a e ≡ false
 
+-- the blocks of a long list that may go: so many as it is filled to stay, its last ones
+abbrev pub to_trim : List ℕ → List ℕ
+to_trim list = take (length list - filled_list) list
+
 pub record MayTrim (a : State) (e : Extent) : Type 0 where
   pub some : 0 < e.count
   pub sound : none_sick space_kinds (a.group e.group) ≡ true
-  pub on_list : list_all (λ b. is_in b (a.group e.group).free_list) (numbers e.block e.count) ≡ true
+  pub on_list : list_all (λ b. is_in b (to_trim (a.group e.group).free_list)) (numbers e.block e.count) ≡ true
 
 -- ---- trust
 

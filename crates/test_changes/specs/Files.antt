@@ -126,9 +126,9 @@ MarkedOnce =
     × (edited_kinds (marked 0 Refc owner_gone) (lowered 40 1) ≡ [])
     × (why_left owner_gone lost_one lost_one (lowered 40 1) Rmap ≡ NoEdit)
     × (once_each (Refc ∷ Rmap ∷ Refc ∷ []) ≡ Refc ∷ Rmap ∷ [])
-    -- a block of the list may hold other cores behind an edit, and stays where nothing is edited
-    × (is_touched (Cnt ∷ []) (image_a.group 0) (image_a.group 0) (image_a.group 0) 7 ≡ true)
-    × (is_touched [] (image_a.group 0) (image_a.group 0) (image_a.group 0) 7 ≡ false)
+    -- a block that an edit took from the list may hold other cores behind it, and each other one of the list stays
+    × (is_touched (7 ∷ []) (image_a.group 0) (image_a.group 0) 7 ≡ true)
+    × (is_touched (7 ∷ []) (image_a.group 0) (image_a.group 0) 8 ≡ false)
 
 -- ---- an owner of the block that was there all along is found before it is freed
 

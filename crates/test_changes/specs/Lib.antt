@@ -1,3 +1,4 @@
+pub mod Bounds
 pub mod Crashes
 pub mod Files
 pub mod Lists

@@ -1,3 +1,4 @@
+ghost use Rattle.test_changes.specs.Bounds.{ClosedGates, DoTurn, LimboDue, MarksBounded, TrimsFront, Uncounted};
 ghost use Rattle.test_changes.specs.Crashes.{ClaimsKept, CutReserved, CutRun, CutSwitched, EitherRoot, GivenUpSpace, GivenUpWhole};
 ghost use Rattle.test_changes.specs.Scans.{BehindCursor, HeldInode};
 ghost use Rattle.test_changes.specs.Files.{ConvertedPiece, CutUnmapping, GrowingFile, MappedHalfway, MarkedOnce, OwnerFound, SharedPieceRow, ShrinkingFile};
@@ -188,4 +189,34 @@ pub fn not_to_be_given()
 /// A step of counts that moves no block leaves reverse mappings unmarked, and no tree is marked twice.
 pub fn marked_once()
     ensures { MarkedOnce }
+{}
+
+/// A short list isn't trimmed, and the last blocks of a long one stay.
+pub fn trims_front()
+    ensures { TrimsFront }
+{}
+
+/// Limbo gains a block where the list has no room for it, and not while it has.
+pub fn limbo_due()
+    ensures { LimboDue }
+{}
+
+/// An inode btree takes blocks of the list and gives its own back, and each gets another owner.
+pub fn do_turn()
+    ensures { DoTurn }
+{}
+
+/// What a mark by itself may not say.
+pub fn marks_bounded()
+    ensures { MarksBounded }
+{}
+
+/// Behind closed gates nothing is chosen.
+pub fn closed_gates()
+    ensures { ClosedGates }
+{}
+
+/// A whole step of an image whose heads don't count the blocks of inode btrees.
+pub fn uncounted()
+    ensures { Uncounted }
 {}

@@ -1,0 +1,4 @@
+mod Chunks
+mod Members
+mod Rows
+mod Settled

@@ -1,0 +1,36 @@
+ghost use Rattle.change_laws.specs.Chunks.{StepKeepsChunks};
+ghost use Rattle.change_laws.specs.Settled.{FinishedStepMoves, OtherEntriesKeep, ShadowFollows, ShadowStays};
+ghost use Rattle.change_laws.specs.Owners.{OwnersByInode};
+
+/// A law: of an owner that is no inode forks have no block, and of an inode those of its own forks.
+pub fn owners_by_inode()
+    ensures { OwnersByInode }
+{}
+
+/// A law: all entries but those that make a chunk, reserve a block of one, or give or take blocks of inodes
+/// leave all chunks as they are.
+pub fn step_keeps_chunks()
+    ensures { StepKeepsChunks }
+{}
+
+/// A law: an entry that is neither a first event nor a finished step of reverse mappings leaves the settled
+/// owners of all forks, in every group.
+pub fn other_entries_keep()
+    ensures { OtherEntriesKeep }
+{}
+
+/// A law: a finished step of reverse mappings changes the settled owners by its intent's, and by no others.
+pub fn finished_step_moves()
+    ensures { FinishedStepMoves }
+{}
+
+/// A law: every other such entry leaves what a scan has seen.
+pub fn shadow_stays()
+    ensures { ShadowStays }
+{}
+
+/// A law: a finished step gives a scan what it gives of visited inodes, takes what it takes of these, and
+/// leaves all else.
+pub fn shadow_follows()
+    ensures { ShadowFollows }
+{}

@@ -1,0 +1,22 @@
+use Rattle.test_changes.proofs.Computing.{computing}
+use Rattle.std.specs.Prelude.{refl, length, ◌<◌, ◌≤◌}
+use Rattle.std.proofs.Common.{arith, subst}
+use Rattle.std.proofs.lemmas.Bool.{ltb-true, leb-true}
+use Rattle.test_changes.proofs.rows.marks_bounded.Goals as goal
+
+too_many : 4 ≤ 3 → ⊥
+too_many h = omega arith
+
+none : 0 < 0 → ⊥
+none h = omega arith
+
+pub returns : goal.returns
+unfolding computing
+returns c = (
+  (ltb-true 0 3 refl, ltb-true 1 3 refl, leb-true 3 3 refl),
+  λ l. too_many l.2,
+  λ s e. none (subst (λ os. 0 < length os) e s.some),
+  λ w. w,
+  refl,
+  refl,
+)
