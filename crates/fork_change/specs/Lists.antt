@@ -1,6 +1,6 @@
 -- A fork's list of mappings with one more, or without a piece of one ("Data Extents").
-use Rattle.std.specs.Prelude.{◌≡◌, ◌<◌, ◌≤◌, ℕ, ◌+◌, ◌-◌, ◌/◌, ◌^◌, ◌==◌, ◌&&◌, ◌||◌, nat_lt, nat_le, min, Bool, true, false, not, List, [], ◌∷◌, ◌++◌, filter, find, Option, Some, None, option_to_list, if◌then◌else◌}
-use Rattle.std.specs.List.{flat_map, list_any}
+use Rattle.std.specs.Prelude.{◌<◌, ◌≤◌, ℕ, ◌+◌, ◌-◌, ◌/◌, ◌^◌, ◌==◌, ◌&&◌, ◌||◌, nat_lt, nat_le, min, Bool, true, false, not, List, [], ◌∷◌, ◌++◌, filter, find, Option, Some, None, option_to_list, if◌then◌else◌}
+use Rattle.std.specs.List.{flat_map}
 use Rattle.dinode_core.specs.declared.mapping.Mapping.{Mapping}
 
 -- it has blocks, ends at the greatest offset or before, and its numbers have room in a packed mapping

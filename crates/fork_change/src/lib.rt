@@ -5,6 +5,8 @@
 mod change;
 mod joins;
 mod lists;
+mod written;
 
 pub use change::{ForkChange, add, convert, take};
 pub use joins::MOST_MAPPED;
+pub use written::put_list;

@@ -33,7 +33,7 @@ both_found (Some n) b = refl
 comes_before : (a from : ℕ) → nat_lt a (from - 63) ≡ true → a + 63 < from
 comes_before a from h = grind (arith, nat_tests)
 
-front_none : (from end : ℕ) (rs : List InoRec) → Each (λ r. nat_lt r.startino (from - 63)) rs → first_in from end rs ≡ None
+pub front_none : (from end : ℕ) (rs : List InoRec) → Each (λ r. nat_lt r.startino (from - 63)) rs → first_in from end rs ≡ None
 unfolding first_in
 front_none from end [] passed = refl
 front_none from end (r ∷ rs) passed = let none = passed_none from end r (comes_before r.startino from passed.0) in rw none (front_none from end rs passed.1)
@@ -81,7 +81,7 @@ module _ (site : Site) (m : ℕ → List ℕ) (from end : ℕ) where
         let left : numrecs bytes - i ≡ suc (numrecs bytes - i - 1) = (let lt = at.1 in omega (arith, lt)) in
         rw (one, left) (tail ∙ ap Ok (sym whole))
 
-  finds : (level : ℕ) (root : Bool) (p : ℕ) → IsSound ino_form m site level root p → IsRising ino_form (recs_of ino_form m level p) → Finds level root p
+  pub finds : (level : ℕ) (root : Bool) (p : ℕ) → IsSound ino_form m site level root p → IsRising ino_form (recs_of ino_form m level p) → Finds level root p
   unfolding search_below recs_of IsSound entries_from start_of
   finds zero root p sound rising = rw (opens_right ino_form lawful_ino site m 0 root p sound) refl
   finds (suc level) root p sound rising =

@@ -38,3 +38,8 @@ pub record AreAllGroups (agcount : ℕ) (trees : List TreeAt) : Type 0 where
 -- each of them is readable, with these chunks
 abbrev pub AreReadable : Layout → (ℕ → List ℕ) → (ℕ → List InoRec) → List TreeAt → Type 0
 AreReadable at image chunks trees = (t : TreeAt) → Contains trees t → Holds ino_form (site_of at t.group) (group_blocks (site_of at t.group) image) t.root t.levels (chunks t.group)
+
+-- where all groups' btrees are readable, the answer is the least allocated inode above the cursor
+abbrev pub IsRightNext : Layout → (ℕ → List ℕ) → ℕ → List TreeAt → Result (Option ℕ) WalkFault → Type 0
+IsRightNext at image c trees result =
+    (chunks : ℕ → List InoRec) → AreAllGroups at.agcount trees → AreReadable at image chunks trees → GivesNext at chunks c result

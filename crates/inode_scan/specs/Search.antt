@@ -1,6 +1,6 @@
 -- How a group's inode btree is searched for the lowest allocated inode in a range: chunk by chunk in the order of the tree,
 -- each block read once, from the last entry of each node on that may reach the range.
-use Rattle.std.specs.Prelude.{◌≡◌, ℕ, zero, suc, ◌+◌, ◌-◌, ◌&&◌, nat_le, nat_lt, Bool, true, false, if◌then◌else◌, List, [], ◌∷◌, Option, Some, None, Result, Ok, Err}
+use Rattle.std.specs.Prelude.{◌≡◌, ℕ, zero, suc, ◌+◌, ◌-◌, ◌&&◌, nat_le, nat_lt, Bool, true, false, if◌then◌else◌, List, [], ◌∷◌, Option, Some, None, Result, Ok, Err, OnOk}
 use Rattle.ino_recs.specs.Chunks.{ino_form}
 use Rattle.ino_recs.specs.declared.chunk.InoKey.{InoKey}
 use Rattle.ino_recs.specs.declared.chunk.InoRec.{InoRec}
@@ -12,9 +12,15 @@ use Rattle.sblock.specs.declared.block.BlockFault.TheVariants.{Range}
 use Rattle.tree_defs.specs.Claims.{lone_fault}
 use Rattle.tree_defs.specs.Tree.{Entry, entry_at, tested, top_of}
 use Rattle.tree_defs.specs.declared.site.Site.{Site}
-use Rattle.tree_find.specs.Laws.{Holds}
+use Rattle.tree_blocks.specs.declared.tree.WalkFault.{WalkFault}
+use Rattle.tree_find.specs.Laws.{Holds, WhereHolds}
+use Rattle.tree_find.specs.Meets.{Meets}
 use Rattle.tree_find.specs.Next.{start_of}
 use Rattle.inode_scan.specs.Chunk.{first_in}
+
+-- a call that answers has raised a count by this number
+abbrev pub Rise : {X Y : Type 0} → Result X Y → ℕ → ℕ → ℕ → Type 0
+Rise result old new n = OnOk result (new ≡ old + n)
 
 -- what a search answers: a number, none, or the first block that fails its tests
 abbrev pub Search : Type 0
@@ -70,3 +76,7 @@ module _ (site : Site) (m : ℕ → List ℕ) (from end : ℕ) where
   -- in a readable tree it is the lowest of its records
   abbrev pub FindsFirst : Type 0
   FindsFirst = (root levels : ℕ) (recs : List InoRec) → Holds ino_form site m root levels recs → search_in root levels ≡ Ok (first_in from end recs)
+
+  -- so a call that searches it answers that one
+  abbrev pub IsRightFirst : ℕ → ℕ → Result (Option ℕ) WalkFault → Type 0
+  IsRightFirst root levels result = WhereHolds ino_form site m root levels (λ recs. Meets (Ok (first_in from end recs)) result)

@@ -1,4 +1,4 @@
-ghost use Rattle.std.specs.Prelude.{ℕ, List, ◌≡◌, ◌+◌, ◌^◌, ◌<◌, ◌≤◌, IfOk, IfErr, IfSome, OnOk};
+ghost use Rattle.std.specs.Prelude.{◌≡◌, ◌+◌, ◌^◌, ◌<◌, ◌≤◌, IfOk, IfErr, IfSome, OnOk};
 ghost use Rattle.blk_cache.specs.Cache.{AgreesTold};
 ghost use Rattle.blk_device.specs.Causes.{HasCause};
 ghost use Rattle.blk_device.specs.Reading.{OnlyRead};
@@ -8,8 +8,8 @@ ghost use Rattle.sblock.specs.declared.kind.Kind.TheVariants.{Ino};
 ghost use Rattle.tree_blocks.specs.Meets.{IsNoMemory};
 ghost use Rattle.tree_blocks.specs.Reading.{is_failed};
 ghost use Rattle.tree_find.specs.Meets.{Meets};
-ghost use Rattle.ino_recs.specs.declared.chunk.InoRec.{InoRec as GhostRec};
-ghost use Rattle.inode_scan.specs.NextInode.{AreAllGroups, AreReadable, GivesNext};
+ghost use Rattle.inode_scan.specs.Search.{Rise};
+ghost use Rattle.inode_scan.specs.NextInode.{IsRightNext};
 ghost use Rattle.inode_scan.specs.Cursor.{is_visited, first_number as first_number_of, numbers_in as numbers_of, start_in as start_of, next_in_tree as next_of_tree, next_in_trees, reads_in_tree as reads_of_tree, reads_in_trees, IsInoTree, AllInoTrees};
 
 use crate::tree::next_in_group;
@@ -122,17 +122,14 @@ impl Cursor {
         requires room { geo.now.dblocks ≤ D.blocks dev.old Image }
         requires agreed { AgreesTold cache.old (D.content dev.old) }
         ensures exact { IfSome (D.content dev.old) (λ m. Meets (next_in_trees (layout geo.now) (m Image) self.now.at trees.now) result) }
-        // Where all groups' btrees are readable it is the least allocated inode above the cursor.
-        ensures right { IfSome (D.content dev.old) (λ m. (chunks : ℕ → List GhostRec)
-            → AreAllGroups geo.now.agcount trees.now → AreReadable (layout geo.now) (m Image) chunks trees.now
-            → GivesNext (layout geo.now) chunks self.now.at result) }
+        ensures right { IfSome (D.content dev.old) (λ m. IsRightNext (layout geo.now) (m Image) self.now.at trees.now result) }
         ensures above { IfOk result (λ found. IfSome found (λ ino. self.now.at < ino)) }
         ensures no_memory { IfErr result IsNoMemory }
         ensures reading { OnlyRead D.Device dev.old dev.new steps.old steps.new }
         ensures cause { HasCause is_failed (D.faults dev.old) (D.faults dev.new) result }
         ensures agrees { AgreesTold cache.new (D.content dev.new) }
-        ensures counted { IfSome (D.content dev.old) (λ m. OnOk result
-            (steps.new.reads ≡ steps.old.reads + reads_in_trees (layout geo.now) (m Image) self.now.at trees.now)) }
+        ensures counted { IfSome (D.content dev.old)
+            (λ m. Rise result steps.old.reads steps.new.reads (reads_in_trees (layout geo.now) (m Image) self.now.at trees.now)) }
     {
         let at = self.at;
         let mut rest = trees;

@@ -8,5 +8,5 @@ mod search;
 mod tree;
 
 pub use cursor::Cursor;
-pub use laws::{finds_first, first_is_least};
+pub use laws::{finds_first, first_is_least, reads_few, reads_in_bounds};
 pub use tree::next_in_group;

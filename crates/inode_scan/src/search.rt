@@ -4,7 +4,7 @@ ghost use Rattle.tree_blocks.specs.Calls.{Reads};
 ghost use Rattle.tree_blocks.specs.Meets.{IsNoMemory};
 ghost use Rattle.tree_blocks.specs.Reading.{is_failed};
 ghost use Rattle.tree_find.specs.Meets.{Meets};
-ghost use Rattle.inode_scan.specs.Search.{search_below, reads_below, search_in, reads_in};
+ghost use Rattle.inode_scan.specs.Search.{Rise, search_below, reads_below, search_in, reads_in};
 
 use crate::chunk::{CHUNK_INODES, first_in_leaf};
 use ino_recs::{InoKey, InoKind};
@@ -68,7 +68,8 @@ pub fn search_site<B: Blocks>(
     ensures no_memory { IfErr result IsNoMemory }
     ensures reading { Reads B.Blocks blocks.old blocks.new }
     ensures cause { HasCause is_failed (B.faults blocks.old) (B.faults blocks.new) result }
-    ensures counted { (m : ℕ → List ℕ) → B.told blocks.old ≡ Some m → OnOk result (B.count blocks.new ≡ B.count blocks.old + reads_in site.now m from end tree.now.root tree.now.levels) }
+    ensures counted { (m : ℕ → List ℕ) → B.told blocks.old ≡ Some m
+        → Rise result (B.count blocks.old) (B.count blocks.new) (reads_in site.now m from end tree.now.root tree.now.levels) }
 {
     let root = tree.root;
     if root == 0 || root >= site.bounds.length {

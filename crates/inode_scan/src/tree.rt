@@ -1,18 +1,15 @@
-ghost use Rattle.std.specs.Prelude.{◌≡◌, List, ℕ, ◌+◌, ◌<◌, ◌≤◌, IfOk, IfErr, IfSome, OnOk, Ok};
+ghost use Rattle.std.specs.Prelude.{◌≡◌, ◌<◌, ◌≤◌, IfOk, IfErr, IfSome};
 ghost use Rattle.blk_cache.specs.Cache.{AgreesTold};
 ghost use Rattle.blk_device.specs.Causes.{HasCause};
 ghost use Rattle.blk_device.specs.Reading.{OnlyRead};
 ghost use Rattle.blk_device.specs.declared.device.Region.TheVariants.{Image};
 ghost use Rattle.geom.specs.Places.{layout};
-ghost use Rattle.ino_recs.specs.Chunks.{ino_form};
 ghost use Rattle.sblock.specs.declared.kind.Kind.TheVariants.{Ino};
 ghost use Rattle.tree_blocks.specs.Meets.{IsNoMemory};
 ghost use Rattle.tree_blocks.specs.Reading.{is_failed};
 ghost use Rattle.tree_blocks.specs.Told.{OfTree};
-ghost use Rattle.tree_find.specs.Laws.{WhereHolds};
 ghost use Rattle.tree_find.specs.Meets.{Meets};
-ghost use Rattle.inode_scan.specs.Chunk.{first_in};
-ghost use Rattle.inode_scan.specs.Search.{search_in, reads_in};
+ghost use Rattle.inode_scan.specs.Search.{IsRightFirst, Rise, search_in, reads_in};
 
 use crate::search::search_site;
 use blk_cache::BlkCache;
@@ -42,15 +39,14 @@ pub fn next_in_group<D: Device, L: Ledger>(
     requires room { geo.now.dblocks ≤ D.blocks dev.old Image }
     requires agreed { AgreesTold cache.old (D.content dev.old) }
     ensures exact { OfTree (layout geo.now) tree.now (D.content dev.old) (λ s m r n. Meets (search_in s m from end r n) result) }
-    ensures right { OfTree (layout geo.now) tree.now (D.content dev.old)
-        (λ s m r n. WhereHolds ino_form s m r n (λ recs. Meets (Ok (first_in from end recs)) result)) }
+    ensures right { OfTree (layout geo.now) tree.now (D.content dev.old) (λ s m r n. IsRightFirst s m from end r n result) }
     ensures range { IfOk result (λ found. IfSome found (λ n. (from ≤ n) × (n < end))) }
     ensures no_memory { IfErr result IsNoMemory }
     ensures reading { OnlyRead D.Device dev.old dev.new steps.old steps.new }
     ensures cause { HasCause is_failed (D.faults dev.old) (D.faults dev.new) result }
     ensures agrees { AgreesTold cache.new (D.content dev.new) }
     ensures counted { OfTree (layout geo.now) tree.now (D.content dev.old)
-        (λ s m r n. OnOk result (steps.new.reads ≡ steps.old.reads + reads_in s m from end r n)) }
+        (λ s m r n. Rise result steps.old.reads steps.new.reads (reads_in s m from end r n)) }
 {
     let site = Site::of_group(geo, tree.group);
     let mut blocks = Cached {

@@ -2,7 +2,8 @@
 -- Hooks").
 use Rattle.std.specs.Prelude.{◌≡◌, ◌<◌, ◌≤◌, ◌↔◌, ℕ, Bool, true, false, ◌==◌, nat_le, List, [], ◌∷◌, ◌++◌, Contains, filter}
 use Rattle.std.specs.List.Sorted.{IsPermutation}
-use Rattle.live_hooks.specs.Heard.{Inode, Owned, IsMoved}
+use Rattle.live_hooks.specs.Heard.{Inode, Owned, owned_by, AreApart, AreMoved, IsMoved}
+use Rattle.live_hooks.specs.declared.records.GroupRec.{GroupRec}
 
 -- Has a scan whose cursor is c been at the inode? The cursor is the last number that it has passed.
 abbrev pub is_visited : ℕ → ℕ → Bool
@@ -20,6 +21,26 @@ heard c os given = filter (λ o. is_visited c o.inode.ino) os ++ given
 -- is done or undone.
 abbrev pub KeepsUp : (List Inode → List Owned → Type 0) → ℕ → List Inode → List Owned → List Owned → Type 0
 KeepsUp meaning c vs os given = meaning (visited_inodes c vs) (heard c os given)
+
+-- A meaning before a call and one after it: what the listener stood for as far as the scan had come, it stands for with ..
+
+-- .. a piece more of the inode that the scan holds
+abbrev pub HearsPiece : (List Inode → List Owned → Type 0) → (List Inode → List Owned → Type 0) → Inode → GroupRec → Type 0
+HearsPiece before after v r =
+    (c : ℕ) (vs : List Inode) (os given : List Owned) → AreApart (owned_by v r) (heard c os given)
+    → KeepsUp before c vs os given → KeepsUp after c vs os (owned_by v r ++ given)
+
+-- .. what a finished step gave the inode, or took from it, whether or not the scan has been there
+abbrev pub HearsDelta : (List Inode → List Owned → Type 0) → (List Inode → List Owned → Type 0) → ℕ → Bool → Inode → GroupRec → Type 0
+HearsDelta before after cursor add v r =
+    (vs : List Inode) (os ps given : List Owned) → AreMoved add (owned_by v r) os ps → AreApart (owned_by v r) given
+    → KeepsUp before cursor vs os given → KeepsUp after cursor vs ps given
+
+-- .. an inode that was made or given back
+abbrev pub HearsInode : (List Inode → List Owned → Type 0) → (List Inode → List Owned → Type 0) → ℕ → Bool → Inode → Type 0
+HearsInode before after cursor taken v =
+    (vs ws : List Inode) (os given : List Owned) → IsMoved taken v vs ws
+    → KeepsUp before cursor vs os given → KeepsUp after cursor ws os given
 
 -- ---- the cursor
 
@@ -41,6 +62,12 @@ pub record IsGiven (c : ℕ) (v : Inode) (vs : List Inode) (os given : List Owne
   pub next : (w : Inode) → Contains others w → is_visited v.ino w.ino ≡ is_visited c w.ino
   pub owners : (o : Owned) → Contains os o → is_visited c o.inode.ino ≡ false → is_visited v.ino o.inode.ino ≡ true → o.inode.ino ≡ v.ino
   pub whole : IsPermutation given (filter (λ o. o.inode.ino == v.ino) os)
+
+-- .. the whole inode that the scan holds, whose number is the cursor from now on
+abbrev pub HearsLast : (List Inode → List Owned → Type 0) → (List Inode → List Owned → Type 0) → Inode → Type 0
+HearsLast before after v =
+    (c : ℕ) (vs : List Inode) (os given : List Owned) → IsGiven c v vs os given
+    → KeepsUp before c vs os given → KeepsUp after v.ino vs os []
 
 -- at the end all inodes are visited, and nothing is left out of what they own
 abbrev pub HearsAll : Type 0

@@ -1,8 +1,7 @@
-ghost use Rattle.std.specs.Prelude.{◌≡◌, ◌≤◌, ◌+◌, ◌++◌, ℕ, List, OnOk, OnErr};
+ghost use Rattle.std.specs.Prelude.{◌≡◌, ◌≤◌, ◌+◌, OnOk, OnErr};
 ghost use Rattle.run_edits.specs.Edits.{HasRoom};
-ghost use Rattle.live_hooks.specs.Heard.{Inode, Owned, owned_by, AreApart, AreMoved};
 ghost use Rattle.live_hooks.specs.Meaning.{Stays};
-ghost use Rattle.live_hooks.specs.Scan.{is_visited, heard, KeepsUp};
+ghost use Rattle.live_hooks.specs.Scan.{is_visited, HearsDelta, HearsPiece};
 
 use crate::listener::Listener;
 use crate::records::GroupRec;
@@ -25,8 +24,7 @@ pub fn tell_piece<L: Listener>(
     rec: &GroupRec,
 ) -> Result<(), Memory>
     requires { HasRoom rec.now.rec }
-    ensures heard { OnOk result ((c : ℕ) (vs : List Inode) (os given : List Owned) → let new = owned_by (record { ino = ino; uid = uid }) rec.now in
-        AreApart new (heard c os given) → KeepsUp (L.stands_for listener.old) c vs os given → KeepsUp (L.stands_for listener.new) c vs os (new ++ given)) }
+    ensures heard { OnOk result (HearsPiece (L.stands_for listener.old) (L.stands_for listener.new) (record { ino = ino; uid = uid }) rec.now) }
     ensures refused { OnErr result (Stays (L.stands_for listener.old) (L.stands_for listener.new)) }
     ensures room { L.room_of listener.old ≤ L.room_of listener.new + 1 }
     ensures full { OnErr result (L.room_of listener.old ≡ 0) }
@@ -46,8 +44,7 @@ pub fn tell_delta<L: Listener>(
     add: bool,
 ) -> Result<(), Memory>
     requires { HasRoom rec.now.rec }
-    ensures heard { OnOk result ((vs : List Inode) (os ps given : List Owned) → let new = owned_by (record { ino = ino; uid = uid }) rec.now in
-        AreMoved add new os ps → AreApart new given → KeepsUp (L.stands_for listener.old) cursor vs os given → KeepsUp (L.stands_for listener.new) cursor vs ps given) }
+    ensures heard { OnOk result (HearsDelta (L.stands_for listener.old) (L.stands_for listener.new) cursor add (record { ino = ino; uid = uid }) rec.now) }
     ensures refused { OnErr result (Stays (L.stands_for listener.old) (L.stands_for listener.new)) }
     ensures room { L.room_of listener.old ≤ L.room_of listener.new + 1 }
     ensures full { OnErr result (L.room_of listener.old ≡ 0) }

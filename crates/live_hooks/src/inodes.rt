@@ -1,7 +1,6 @@
-ghost use Rattle.std.specs.Prelude.{◌≡◌, ◌≤◌, ◌+◌, ℕ, List, [], OnOk, OnErr};
-ghost use Rattle.live_hooks.specs.Heard.{Inode, Owned, IsMoved};
+ghost use Rattle.std.specs.Prelude.{◌≡◌, ◌≤◌, ◌+◌, OnOk, OnErr};
 ghost use Rattle.live_hooks.specs.Meaning.{Stays};
-ghost use Rattle.live_hooks.specs.Scan.{IsGiven, KeepsUp};
+ghost use Rattle.live_hooks.specs.Scan.{HearsInode, HearsLast};
 
 use crate::hooks::want;
 use crate::listener::Listener;
@@ -10,8 +9,7 @@ use rmap_recs::Memory;
 /// Tells a listener that all of the inode which the scan holds was given: from now on the cursor is
 /// its number.
 pub fn tell_last<L: Listener>(listener: &mut L, ino: u64, uid: u32) -> Result<(), Memory>
-    ensures heard { OnOk result ((c : ℕ) (vs : List Inode) (os given : List Owned) → IsGiven c (record { ino = ino; uid = uid }) vs os given
-        → KeepsUp (L.stands_for listener.old) c vs os given → KeepsUp (L.stands_for listener.new) ino vs os []) }
+    ensures heard { OnOk result (HearsLast (L.stands_for listener.old) (L.stands_for listener.new) (record { ino = ino; uid = uid })) }
     ensures refused { OnErr result (Stays (L.stands_for listener.old) (L.stands_for listener.new)) }
     ensures room { L.room_of listener.old ≤ L.room_of listener.new + 1 }
     ensures full { OnErr result (L.room_of listener.old ≡ 0) }
@@ -29,8 +27,7 @@ pub fn tell_inode<L: Listener>(
     uid: u32,
     taken: bool,
 ) -> Result<(), Memory>
-    ensures heard { OnOk result ((vs ws : List Inode) (os given : List Owned) → IsMoved taken (record { ino = ino; uid = uid }) vs ws
-        → KeepsUp (L.stands_for listener.old) cursor vs os given → KeepsUp (L.stands_for listener.new) cursor ws os given) }
+    ensures heard { OnOk result (HearsInode (L.stands_for listener.old) (L.stands_for listener.new) cursor taken (record { ino = ino; uid = uid })) }
     ensures refused { OnErr result (Stays (L.stands_for listener.old) (L.stands_for listener.new)) }
     ensures room { L.room_of listener.old ≤ L.room_of listener.new + 1 }
     ensures full { OnErr result (L.room_of listener.old ≡ 0) }

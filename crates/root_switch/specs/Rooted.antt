@@ -1,5 +1,7 @@
 -- What a switch makes of the heads of its group ("AG Free Space Block", "AG Inode Management").
 use Rattle.std.specs.Prelude.{ℕ, Bool, true, false, Option, unwrap_or}
+use Rattle.ag_headers.specs.Tests.{IsOfGroup}
+use Rattle.geom.specs.Layout.{Layout}
 use Rattle.ag_headers.specs.declared.agf.Agf.{Agf}
 use Rattle.ag_headers.specs.declared.agi.Agi.{Agi}
 use Rattle.root_switch.specs.declared.heads.Heads.{Heads}
@@ -30,3 +32,10 @@ rooted_heads (Inode ino fino count freecount counts) h = record h { agi = record
 rooted_heads (Rmap t btreeblks) h = record h { agf = with_rmap t btreeblks h.agf }
 rooted_heads (Free bno cnt freeblks longest btreeblks) h = record h { agf = record (with_free bno cnt btreeblks h.agf) { freeblks = freeblks; longest = longest } }
 rooted_heads (Refc t) h = record h { agf = with_refc t h.agf }
+
+-- a head is one of this group
+abbrev pub IsAgfOf : Layout → ℕ → Agf → Type 0
+IsAgfOf at g a = IsOfGroup at g a.seqno a.length a.uuid
+
+abbrev pub IsAgiOf : Layout → ℕ → Agi → Type 0
+IsAgiOf at g a = IsOfGroup at g a.seqno a.length a.uuid

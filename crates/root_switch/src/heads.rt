@@ -2,9 +2,8 @@ ghost use Rattle.std.specs.Prelude.{◌≡◌, ◌≢◌, ℕ, None};
 ghost use Rattle.ag_headers.specs.Agf.{agf_of, agf_fault};
 ghost use Rattle.ag_headers.specs.Agi.{agi_of, agi_fault};
 ghost use Rattle.ag_headers.specs.Fields.{sector};
-ghost use Rattle.ag_headers.specs.Tests.{IsOfGroup};
 ghost use Rattle.geom.specs.Layout.{Layout};
-ghost use Rattle.root_switch.specs.Rooted.{rooted_heads, with_free, with_inodes, with_refc, with_rmap};
+ghost use Rattle.root_switch.specs.Rooted.{IsAgfOf, IsAgiOf, rooted_heads, with_free, with_inodes, with_refc, with_rmap};
 
 use ag_headers::{Agf, Agi};
 use byte_fields::Block;
@@ -165,10 +164,8 @@ pub fn put_heads(heads: &Heads, block: &mut Block)
     ensures agf { agf_of block.new.bytes ≡ heads.now.agf }
     ensures agi { agi_of block.new.bytes ≡ heads.now.agi }
     ensures elsewhere { (k : ℕ) → k ≢ 1 → k ≢ 2 → sector k block.new.bytes ≡ sector k block.old.bytes }
-    ensures agf_accepted { (at : Layout) (g : ℕ) → IsOfGroup at g heads.now.agf.seqno heads.now.agf.length heads.now.agf.uuid
-        → agf_fault at g block.new.bytes ≡ None }
-    ensures agi_accepted { (at : Layout) (g : ℕ) → IsOfGroup at g heads.now.agi.seqno heads.now.agi.length heads.now.agi.uuid
-        → agi_fault at g block.new.bytes ≡ None }
+    ensures agf_accepted { (at : Layout) (g : ℕ) → IsAgfOf at g heads.now.agf → agf_fault at g block.new.bytes ≡ None }
+    ensures agi_accepted { (at : Layout) (g : ℕ) → IsAgiOf at g heads.now.agi → agi_fault at g block.new.bytes ≡ None }
 {
     heads.agf.encode(block);
     heads.agi.encode(block);

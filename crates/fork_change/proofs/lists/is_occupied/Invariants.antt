@@ -1,4 +1,4 @@
-use Rattle.std.proofs.Common.{◌≡◌, length, find}
+use Rattle.std.proofs.Common.{◌≡◌, length}
 use Rattle.std.specs.List.{list_any}
 use Rattle.fork_change.specs.Lists.{AllFit, overlaps}
 use Rattle.fork_change.proofs.lists.is_occupied.Given as goal
