@@ -1,0 +1,6 @@
+mod Ending
+mod Groups
+mod Keeping
+mod Same
+mod Switches
+mod Units

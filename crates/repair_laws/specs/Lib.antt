@@ -1,0 +1,5 @@
+pub mod Alike
+pub mod Ends
+pub mod Kept
+pub mod Letters
+pub mod Moves

@@ -1,0 +1,6 @@
+//! What a repair keeps: from a unit's verdict on, its indexes hold what they should, until they are marked.
+#![tactic(auto)]
+
+mod laws;
+
+pub use laws::{alike, ends, kept, switched_beside};
