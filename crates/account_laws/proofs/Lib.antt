@@ -1,0 +1,5 @@
+mod Blocks
+mod Follow
+mod First
+mod Spans
+mod Sums

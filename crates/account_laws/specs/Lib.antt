@@ -1,0 +1,4 @@
+pub mod Accounts
+pub mod Chained
+pub mod Firsts
+pub mod Ledger

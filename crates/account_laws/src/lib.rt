@@ -1,0 +1,7 @@
+//! How the accounts of writers balance: at each block the count of its owners, what reverse mappings and free
+//! space say of it, and what chains still owe.
+#![tactic(auto)]
+
+mod laws;
+
+pub use laws::{block_stays_sound, chain_follows, first_keeps};
