@@ -1,31 +1,33 @@
 -- A switch: what it leaves of the other units, and what it makes of its own.
-use Rattle.std.proofs.Common.{◌≡◌, ℕ, ◌==◌, ◌||◌, Bool, true, false, cond, List, [], ◌∷◌, refl, ap, sym, subst, ◌∙◌, inl, inr, eqb-true}
+use Rattle.std.proofs.Common.{◌≡◌, ℕ, ◌==◌, ◌||◌, Bool, true, false, cond, List, [], ◌∷◌, refl, ap, sym, subst, ◌∙◌, inl, inr, eqb-true, Option, Some}
 use Rattle.std.specs.Prelude.{unwrap_or, if◌then◌else◌}
 use Rattle.std.proofs.lemmas.Bool.{cases_Bool, true≢false}
 use Rattle.fs_change.specs.Loose.{Loosely}
-use Rattle.fs_change.specs.Parts.{in_group, in_trees, tree_only}
+use Rattle.fs_change.specs.Parts.{in_group, in_trees, tree_only, records_in}
 use Rattle.fs_change.specs.Switch.{derived_in, exact_counters, hold, move_blocks, moved, sets_counter, switched}
 use Rattle.fs_derive.specs.Derive.{derive}
 use Rattle.fs_derive.specs.Faults.{wanted}
-use Rattle.fs_derive.specs.Kinds.{kinds_of}
+use Rattle.fs_derive.specs.Kinds.{kinds_of, counters_of}
 use Rattle.fs_model.specs.declared.fault.Counter.{Counter}
-use Rattle.fs_model.specs.declared.fault.Counter.TheVariants.{Count, Freecount, Iblocks, Fblocks, Freeblks, Longest, Btreeblks, RefcountBlocks}
+use Rattle.fs_model.specs.declared.fault.Counter.TheVariants.{Count, Freecount, Iblocks, Fblocks, RmapBlocks, Freeblks, Longest, Btreeblks, RefcountBlocks}
 use Rattle.fs_model.specs.declared.unit.Trust.TheVariants.{Good}
 use Rattle.fs_model.specs.declared.unit.Unit.{Unit as ScrubUnit}
 use Rattle.fs_model.specs.declared.unit.Unit.TheVariants as units
 use Rattle.fs_state.specs.Edits.{number_of}
 use Rattle.fs_state.specs.Group.{is_among}
 use Rattle.fs_state.specs.Kinds.{RecOf}
-use Rattle.fs_state.specs.State.{State, Group, Index, recs_of}
+use Rattle.fs_state.specs.State.{State, Group, Index, recs_of, Readable, Reading, Unreadable, blocks_of, is_readable}
 use Rattle.geom.specs.Apart.{Splits}
+use Rattle.fs_derive.specs.Laws.{EachCounter, EachTree, IsGoodCounter, IsGoodTree}
+use Rattle.repair_laws.proofs.Same.{alike_law}
 use Rattle.sblock.specs.declared.kind.Kind.{Kind}
 use Rattle.sblock.specs.declared.kind.Kind.TheVariants.{Bno, Cnt, Rmap, Refc, Ino, Fino}
 use Rattle.repair_laws.specs.Alike.{AlikeGroup, AlikeInodes}
 use Rattle.repair_laws.specs.Letters.{Holds, IsTrusted, Stands}
-use Rattle.repair_laws.specs.Moves.{SameChunks, SpaceKeepsChunks, SwitchedKeeps, is_beside}
-use Rattle.repair_laws.proofs.Groups.{chunk_listed, holds_group, in_own_group, only_same, same_fork}
-use Rattle.repair_laws.proofs.Keeping.{TrustedIn, stands_by}
-use Rattle.repair_laws.proofs.Units.{counts_good, inodes_good, space_good}
+use Rattle.repair_laws.specs.Moves.{SameChunks, SpaceKeepsChunks, SwitchedKeeps, is_beside, SwitchedIsGood}
+use Rattle.repair_laws.proofs.Groups.{chunk_listed, holds_group, in_each, in_own_group, only_same, same_fork}
+use Rattle.repair_laws.proofs.Keeping.{TrustedIn, stands_by, none_moves_from}
+use Rattle.repair_laws.proofs.Units.{counts_good, inodes_good, space_good, wanted_all}
 
 -- ---- trees beside those that change
 
@@ -207,3 +209,71 @@ switched_keeps a b left g own root second h unit splits s chunks where_is stands
         | inr out ↦ elsewhere a g own blocks h unit out splits kept stands trusted
       ]
     ])
+
+-- ---- what a switch makes
+
+reading_of : {R : Type 0} (r : Reading R) → is_readable r ≡ true → r ≡ Readable (recs_of r) (blocks_of r)
+reading_of (Readable recs blocks) h = refl
+reading_of (Unreadable block fault claims) h = absurd (true≢false (sym h))
+
+made_readable : (a : State) (g : ℕ) (own : ScrubUnit) (blocks : Kind → List ℕ) → EachTree (λ k. is_readable (((switched a g own blocks).group g).tree k).reading ≡ true) (kinds_of own)
+made_readable a g units.Inode blocks = (
+  ap (λ (p : Group). is_readable (p.tree Ino).reading) (after_group a g units.Inode blocks ∙ ap (λ (p : Group). record p { counters = exact_counters (laid a g units.Inode blocks) g units.Inode }) (laid_group a g units.Inode blocks)),
+  (ap (λ (p : Group). is_readable (p.tree Fino).reading) (after_group a g units.Inode blocks ∙ ap (λ (p : Group). record p { counters = exact_counters (laid a g units.Inode blocks) g units.Inode }) (laid_group a g units.Inode blocks)), tt),
+)
+made_readable a g units.Rmap blocks = (ap (λ (p : Group). is_readable (p.tree Rmap).reading) (after_group a g units.Rmap blocks ∙ ap (λ (p : Group). record p { counters = exact_counters (laid a g units.Rmap blocks) g units.Rmap }) (laid_group a g units.Rmap blocks)), tt)
+made_readable a g units.Free blocks = (
+  ap (λ (p : Group). is_readable (p.tree Bno).reading) (after_group a g units.Free blocks ∙ ap (λ (p : Group). record p { counters = exact_counters (laid a g units.Free blocks) g units.Free }) (laid_group a g units.Free blocks)),
+  (ap (λ (p : Group). is_readable (p.tree Cnt).reading) (after_group a g units.Free blocks ∙ ap (λ (p : Group). record p { counters = exact_counters (laid a g units.Free blocks) g units.Free }) (laid_group a g units.Free blocks)), tt),
+)
+made_readable a g units.Refc blocks = (ap (λ (p : Group). is_readable (p.tree Refc).reading) (after_group a g units.Refc blocks ∙ ap (λ (p : Group). record p { counters = exact_counters (laid a g units.Refc blocks) g units.Refc }) (laid_group a g units.Refc blocks)), tt)
+
+module _ (a : State) (g : ℕ) (own : ScrubUnit) (blocks : Kind → List ℕ) (splits : Splits a.geometry) where
+  made_trees : (ks : List Kind) → EachTree (λ k. is_readable (((after a g own blocks).group g).tree k).reading ≡ true) ks → EachTree (λ k. records_in ((after a g own blocks).group g) k ≡ derive (after a g own blocks) g k) ks → EachTree (IsGoodTree (after a g own blocks) g) ks
+  made_trees [] r d = tt
+  made_trees (k ∷ ks) r d = (
+    (blocks_of (((after a g own blocks).group g).tree k).reading, reading_of (((after a g own blocks).group g).tree k).reading r.0 ∙ ap (λ (rs : List (RecOf k)). Readable rs (blocks_of (((after a g own blocks).group g).tree k).reading)) d.0),
+    made_trees ks r.1 d.1,
+  )
+
+  same_reading : (h : ℕ) (k : Kind) → (((after a g own blocks).group h).tree k).reading ≡ (((laid a g own blocks).group h).tree k).reading
+  unfolding switched
+  same_reading h k = in_each (λ p q. (q.tree k).reading ≡ (p.tree k).reading) g (λ p. record p { counters = exact_counters (laid a g own blocks) g own }) (laid a g own blocks) h (λ p. refl) (λ p. refl)
+
+  laid_splits : Splits (laid a g own blocks).geometry
+  unfolding moved
+  laid_splits = splits
+
+  same_inodes : AlikeInodes (laid a g own blocks) (after a g own blocks)
+  unfolding switched
+  same_inodes = record {
+    geometry = refl;
+    chunks = chunk_listed (laid a g own blocks) (after a g own blocks) refl refl (λ h. ap recs_of (same_reading h Ino)) (λ h. ap recs_of (same_reading h Rmap));
+    cores = λ ino is. refl;
+    forks = λ ino f i. same_fork ((laid a g own blocks).fork ino f);
+  }
+
+  some_is : (o : Option ℕ) (old n : ℕ) → o ≡ Some n → unwrap_or o old ≡ n
+  some_is o old n e = ap (λ (x : Option ℕ). unwrap_or x old) e
+
+  made_counter : (name : Counter) → sets_counter own name ≡ true → IsGoodCounter (after a g own blocks) g name
+  made_counter name h n e =
+      ap (λ (p : Group). p.counters name) (after_group a g own blocks)
+      ∙ ap (λ t. if t then unwrap_or (wanted (laid a g own blocks) g name) (((laid a g own blocks).group g).counters name) else ((laid a g own blocks).group g).counters name) h
+      ∙ some_is (wanted (laid a g own blocks) g name) (((laid a g own blocks).group g).counters name) n
+      (sym (wanted_all (laid a g own blocks) (after a g own blocks) g laid_splits same_inodes (same_reading g) name) ∙ e)
+
+made_counters : (a : State) (g : ℕ) (own : ScrubUnit) (blocks : Kind → List ℕ) → Splits a.geometry → EachCounter (IsGoodCounter (switched a g own blocks) g) (counters_of own)
+made_counters a g units.Inode blocks splits = (made_counter a g units.Inode blocks splits Count refl, (made_counter a g units.Inode blocks splits Freecount refl, (made_counter a g units.Inode blocks splits Iblocks refl, (made_counter a g units.Inode blocks splits Fblocks refl, tt))))
+made_counters a g units.Rmap blocks splits = (made_counter a g units.Rmap blocks splits RmapBlocks refl, tt)
+made_counters a g units.Free blocks splits = (made_counter a g units.Free blocks splits Freeblks refl, (made_counter a g units.Free blocks splits Longest refl, (made_counter a g units.Free blocks splits Btreeblks refl, tt)))
+made_counters a g units.Refc blocks splits = (made_counter a g units.Refc blocks splits RefcountBlocks refl, tt)
+
+pub switched_is_good : SwitchedIsGood
+switched_is_good a b left g own root second splits s again =
+    let blocks : Kind → List ℕ = s.row.0 in
+    let x : State = switched a g own blocks in
+    let l : Loosely g left [] a x b = subst (λ (y : State). Loosely g left [] a y b) s.row.4 s.loosely in
+    let same = none_moves_from a x b g left l (splits_after a g own blocks splits) in
+    (alike_law x b g (splits_after a g own blocks splits) same.inodes (same.groups g)).good own
+    (made_trees a g own blocks splits (kinds_of own) (made_readable a g own blocks) (again blocks), made_counters a g own blocks splits)

@@ -1,6 +1,7 @@
 -- What each unit is judged by, where its trees and counters are the same.
 use Rattle.std.proofs.Common.{◌≡◌, ℕ, ap}
 use Rattle.fs_derive.specs.Derive.{derive}
+use Rattle.fs_derive.specs.Faults.{wanted}
 use Rattle.fs_derive.specs.Laws.{IsGood}
 use Rattle.fs_derive.specs.Own.{own, rmap_of}
 use Rattle.fs_model.specs.declared.fault.Counter.{Counter}
@@ -76,3 +77,15 @@ module _ (a b : State) (g : ℕ) (splits : Splits a.geometry) (same : AlikeInode
   pub maps_good : own b g ≡ own a g → Reads Rmap → Counts RmapBlocks → IsGood a g units.Rmap → IsGood b g units.Rmap
   maps_good owners maps blocks good =
       good_stays a b g units.Rmap (rmap_tree owners maps, tt) (record { kept = blocks; wanted_same = rmap_blocks a b g same.geometry maps }, tt) good
+
+  -- all that counters should be, where each tree holds the same
+  pub wanted_all : ((k : Kind) → Reads k) → (name : Counter) → wanted b g name ≡ wanted a g name
+  wanted_all reads Count = (inodes_wanted a b splits same g).0
+  wanted_all reads Freecount = (inodes_wanted a b splits same g).1
+  wanted_all reads Iblocks = ino_blocks a b g same.geometry (reads Ino)
+  wanted_all reads Fblocks = fino_blocks a b g same.geometry (reads Fino)
+  wanted_all reads RmapBlocks = rmap_blocks a b g same.geometry (reads Rmap)
+  wanted_all reads Freeblks = (space_wanted a b splits same g (ap recs_of (reads Rmap))).0
+  wanted_all reads Longest = (space_wanted a b splits same g (ap recs_of (reads Rmap))).1
+  wanted_all reads Btreeblks = tree_blocks a b g same.geometry (reads Bno) (reads Cnt) (reads Rmap)
+  wanted_all reads RefcountBlocks = refc_blocks a b g same.geometry (reads Refc)

@@ -1,6 +1,6 @@
 ghost use Rattle.repair_laws.specs.Alike.{AlikeLaw, GoodStays};
 ghost use Rattle.repair_laws.specs.Ends.{EndsWithoutFaults, ForgetsNothing};
-ghost use Rattle.repair_laws.specs.Moves.{SpaceKeepsChunks, SwitchedKeeps};
+ghost use Rattle.repair_laws.specs.Moves.{ReleasedKeeps, SpaceKeepsChunks, SwitchedIsGood, SwitchedKeeps};
 ghost use Rattle.repair_laws.specs.Kept.{FaultKeeps, MarkedKeeps, NoneMoves, ReplyKeeps, VerdictKeeps};
 
 /// A law: states that differ in trust alone, in cores outside of chunks and in forks that can't be read have
@@ -36,4 +36,16 @@ pub fn kept()
 pub fn switched_beside()
     ensures units { SwitchedKeeps }
     ensures chunks { SpaceKeepsChunks }
+{}
+
+/// A law: a unit whose new trees hold what is derived again is good after its switch, counters too
+/// (XFS Online Fsck Design, "Writing the New B+Tree").
+pub fn switched_is_good()
+    ensures { SwitchedIsGood }
+{}
+
+/// A law: a released reserve keeps what is known of each unit, since its blocks have the same owners in limbo
+/// (XFS Online Fsck Design, "Reaping After Repairing Ondisk Metadata").
+pub fn released_keeps()
+    ensures { ReleasedKeeps }
 {}
