@@ -3,3 +3,4 @@ pub mod Ends
 pub mod Kept
 pub mod Letters
 pub mod Moves
+pub mod Rows

@@ -1,6 +1,7 @@
 ghost use Rattle.repair_laws.specs.Alike.{AlikeLaw, GoodStays};
 ghost use Rattle.repair_laws.specs.Ends.{EndsWithoutFaults, ForgetsNothing};
 ghost use Rattle.repair_laws.specs.Moves.{ReleasedKeeps, SpaceKeepsChunks, SwitchedIsGood, SwitchedKeeps};
+ghost use Rattle.repair_laws.specs.Rows.{Rows};
 ghost use Rattle.repair_laws.specs.Kept.{FaultKeeps, MarkedKeeps, NoneMoves, ReplyKeeps, VerdictKeeps};
 
 /// A law: states that differ in trust alone, in cores outside of chunks and in forks that can't be read have
@@ -48,4 +49,10 @@ pub fn switched_is_good()
 /// (XFS Online Fsck Design, "Reaping After Repairing Ondisk Metadata").
 pub fn released_keeps()
     ensures { ReleasedKeeps }
+{}
+
+/// Rows that compute: a file on an old root of free space makes reverse mappings wrong by the switch, and a
+/// run of no blocks that loses its owner cuts a record in two.
+pub fn worked_rows()
+    ensures { Rows }
 {}

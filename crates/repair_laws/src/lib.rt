@@ -3,4 +3,4 @@
 
 mod laws;
 
-pub use laws::{alike, ends, kept, released_keeps, switched_beside, switched_is_good};
+pub use laws::{alike, ends, kept, released_keeps, switched_beside, switched_is_good, worked_rows};
