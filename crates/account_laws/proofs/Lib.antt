@@ -1,5 +1,11 @@
 mod Blocks
-mod Follow
+mod Covers
 mod First
+mod Follow
+mod Free
+mod Holders
+mod Mappings
+mod Runs
+mod Shapes
 mod Spans
 mod Sums

@@ -4,4 +4,7 @@
 
 mod laws;
 
-pub use laws::{block_stays_sound, chain_follows, first_keeps};
+pub use laws::{
+    block_stays_sound, chain_follows, first_keeps, pairs_hold, rmap_done_keeps, runs_keep,
+    space_follows, worked_rows,
+};
