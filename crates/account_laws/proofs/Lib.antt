@@ -1,0 +1,11 @@
+mod Blocks
+mod Covers
+mod First
+mod Follow
+mod Free
+mod Holders
+mod Mappings
+mod Runs
+mod Shapes
+mod Spans
+mod Sums

@@ -1,0 +1,10 @@
+//! How the accounts of writers balance: at each block the count of its owners, what reverse mappings and free
+//! space say of it, and what chains still owe.
+#![tactic(auto)]
+
+mod laws;
+
+pub use laws::{
+    block_stays_sound, chain_follows, first_keeps, pairs_hold, rmap_done_keeps, runs_keep,
+    space_follows, worked_rows,
+};

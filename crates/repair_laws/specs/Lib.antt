@@ -1,0 +1,6 @@
+pub mod Alike
+pub mod Ends
+pub mod Kept
+pub mod Letters
+pub mod Moves
+pub mod Rows

@@ -1,0 +1,6 @@
+//! What a repair keeps: from a unit's verdict on, its indexes hold what they should, until they are marked.
+#![tactic(auto)]
+
+mod laws;
+
+pub use laws::{alike, ends, kept, released_keeps, switched_beside, switched_is_good, worked_rows};
