@@ -2,13 +2,12 @@ ghost use Rattle.std.specs.Prelude.{◌≡◌, ◌%◌, ◌^◌, ◌++◌, ◌�
 ghost use Rattle.fs_derive.specs.Faults.{counter_fault};
 ghost use Rattle.ino_recs.specs.Chunks.{fino_form, ino_form};
 ghost use Rattle.quiet_check.specs.Faults.{blocks_kept, counter_faults, faults_in, inode_faults as inode_faults_of};
-ghost use Rattle.quiet_check.specs.Trees.{RisesIfRead, reading_of};
+ghost use Rattle.group_trees.specs.Trees.{RisesIfRead, reading_of};
 ghost use Rattle.sblock.specs.Blocks.{IsRising};
 
-use crate::group::GroupTrees;
-use crate::reads::TreeSeen;
 use ag_headers::Agi;
 use fs_model::{Counter, Fault};
+use group_trees::{GroupTrees, TreeSeen};
 use index_derive::free_records;
 use ino_recs::{FinoKind, InoKind, InoRec};
 use sblock::BlockFault;
