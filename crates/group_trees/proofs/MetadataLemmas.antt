@@ -145,7 +145,7 @@ ordered_chunks [] n le = tt
 ordered_chunks (u ∷ us) n le = (le, refl, refl, ordered_chunks us 11 (omega arith))
 
 -- the places of these trees rise from one number to another
-abbrev KindsRise : ℕ → List Kind → ℕ → Type 0
+abbrev pub KindsRise : ℕ → List Kind → ℕ → Type 0
 KindsRise n [] m = n ≤ m
 KindsRise n (k ∷ ks) m = (n ≤ place (Tree k)) × KindsRise (place (Tree k)) ks m
 
@@ -163,11 +163,11 @@ ordered_log : (log : Option Run3) (g : ℕ) (rest : List Piece) → Ordered 2 re
 ordered_log None g rest h = lower 0 2 rest (omega arith) h
 ordered_log (Some run) g rest h = ordered_if (run.group == g) run rest h
 
-kinds_rise : KindsRise 2 all_kinds 11
+pub kinds_rise : KindsRise 2 all_kinds 11
 kinds_rise = (omega arith, (omega arith, (omega arith, (omega arith, (omega arith, (omega arith, omega arith))))))
 
 -- heads, log, free list, trees and chunks, joined from the left, as joined from the right
-from_right : {A : Type 0} (x : A) (log free trees rest : List A) → (((x ∷ log) ++ free) ++ trees) ++ rest ≡ x ∷ (log ++ (free ++ (trees ++ rest)))
+pub from_right : {A : Type 0} (x : A) (log free trees rest : List A) → (((x ∷ log) ++ free) ++ trees) ++ rest ≡ x ∷ (log ++ (free ++ (trees ++ rest)))
 from_right x log free trees rest = append_assoc ((x ∷ log) ++ free) trees rest ∙ append_assoc (x ∷ log) free (trees ++ rest)
 
 ordered_all : (log : Option Run3) (g : ℕ) (list : List ℕ) (blocks : Kind → List ℕ) (us : List ℕ) → Ordered 0 (metadata_pieces log g list blocks us)
@@ -181,7 +181,7 @@ ordered_all log g list blocks us =
 -- ---- the whole
 
 -- the claims of a group's metadata, where nothing is reserved or in limbo
-abbrev plain_claims : Option Run3 → ℕ → List ℕ → (Kind → List ℕ) → List ℕ → List Claimed
+abbrev pub plain_claims : Option Run3 → ℕ → List ℕ → (Kind → List ℕ) → List ℕ → List Claimed
 plain_claims log g list blocks us =
     claimed_by Heads (number_of Fs) 0 ∷ log_claims log g
     ++ map (claimed_by FreeList (number_of Ag)) list
@@ -207,7 +207,7 @@ all_said log g list blocks us =
 abbrev pub blocks_in_state : Layout → Image → ℕ → Kind → List ℕ
 blocks_in_state at image g k = blocks_of (((opened_state at image).group g).tree k).reading
 
-metadata_plain : (at : Layout) (image : Image) (g : ℕ) → metadata_claims (opened_state at image) g ≡ plain_claims at.log g (heads_of at image g).list (blocks_in_state at image g) (chunks (opened_state at image) g)
+pub metadata_plain : (at : Layout) (image : Image) (g : ℕ) → metadata_claims (opened_state at image) g ≡ plain_claims at.log g (heads_of at image g).list (blocks_in_state at image g) (chunks (opened_state at image) g)
 unfolding metadata_claims group_of opened
 metadata_plain at image g =
     let chunk_claims = flat_map (λ u. map (claimed_by Chunk (number_of Inodes)) (numbers (8 * u) 8)) (chunks (opened_state at image) g) in
@@ -314,7 +314,7 @@ metadata_below at g list blocks us some log free trees chunked =
       some_more le h = (omega (arith, le), h)
 
 -- the blocks of trees that are those of the state
-blocks_same : (at : Layout) (image : Image) (g : ℕ) (trees : GroupTrees) → AreTrees at image g trees → (k : Kind) → tree_blocks trees k ≡ blocks_in_state at image g k
+pub blocks_same : (at : Layout) (image : Image) (g : ℕ) (trees : GroupTrees) → AreTrees at image g trees → (k : Kind) → tree_blocks trees k ≡ blocks_in_state at image g k
 blocks_same at image g trees are kinds.Bno = ap blocks_of (sym are.bno)
 blocks_same at image g trees are kinds.Cnt = ap blocks_of (sym are.cnt)
 blocks_same at image g trees are kinds.Rmap = ap blocks_of (sym are.rmap)
@@ -322,7 +322,7 @@ blocks_same at image g trees are kinds.Refc = ap blocks_of (sym are.refc)
 blocks_same at image g trees are kinds.Ino = ap blocks_of (sym are.ino)
 blocks_same at image g trees are kinds.Fino = ap blocks_of (sym are.fino)
 
-pieces_same : (log : Option Run3) (g : ℕ) (list : List ℕ) (blocks others : Kind → List ℕ) (us : List ℕ) → ((k : Kind) → blocks k ≡ others k) → metadata_pieces log g list blocks us ≡ metadata_pieces log g list others us
+pub pieces_same : (log : Option Run3) (g : ℕ) (list : List ℕ) (blocks others : Kind → List ℕ) (us : List ℕ) → ((k : Kind) → blocks k ≡ others k) → metadata_pieces log g list blocks us ≡ metadata_pieces log g list others us
 unfolding metadata_pieces
 pieces_same log g list blocks others us same =
     ap (λ (ts : List Piece). (((block_piece Heads (number_of Fs) 0 ∷ log_pieces log g) ++ map (block_piece FreeList (number_of Ag)) list) ++ ts) ++ map chunk_piece us) (each all_kinds) where

@@ -40,6 +40,7 @@ pub record AreTrees (at : Layout) (image : Image) (g : ℕ) (trees : GroupTrees)
   pub refc : (((opened_state at image).group g).tree Refc).reading ≡ reading_of trees.refc
   pub ino : (((opened_state at image).group g).tree Ino).reading ≡ reading_of trees.ino
   pub fino : (((opened_state at image).group g).tree Fino).reading ≡ reading_of trees.fino
+  pub few_rmap : FewBlocks (reading_of trees.rmap)
   pub few_ino : FewBlocks (reading_of trees.ino)
   pub few_fino : FewBlocks (reading_of trees.fino)
 

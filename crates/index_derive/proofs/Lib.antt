@@ -1,3 +1,4 @@
+mod BegunLemmas
 pub mod InodeLemmas
 pub mod LawLemmas
 pub mod OwnerLemmas

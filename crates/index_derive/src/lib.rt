@@ -12,4 +12,4 @@ pub use inodes::{UnitCores, free_mask, free_records, inode_records};
 pub use laws::{only_free_records, only_inode_records, only_reverse_mappings};
 pub use owners::{count_mappings, reverse_mappings};
 pub use runs::joined_runs;
-pub use units::listed_units;
+pub use units::{has_unit, listed_units};

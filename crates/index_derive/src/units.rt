@@ -1,7 +1,8 @@
-ghost use Rattle.std.specs.Prelude.{◌≡◌, ℕ, ◌+◌, ◌*◌, ◌/◌, ◌≤◌, IfOk, map, filter};
+ghost use Rattle.std.specs.Prelude.{◌≡◌, ℕ, ◌+◌, ◌*◌, ◌/◌, ◌<◌, ◌≤◌, IfOk, get_or, length, map, filter};
 ghost use Rattle.std.specs.List.Sorted.{IsNonDecreasingBy, IsPermutation};
 ghost use Rattle.derive_defs.specs.Mappings.{StartsRise, blocks_of, EndWithin as MappingsEndWithin};
 ghost use Rattle.fs_state.specs.State.{State};
+ghost use Rattle.run_sets.specs.declared.run.Run.{Run as GhostRun};
 ghost use Rattle.run_sets.specs.Runs.{most, runs_below, holds, AreMaximal};
 ghost use Rattle.index_derive.specs.Units.{AreListedUnits, AreListings, has_chunks, has_inodes, is_listed_by, is_unit_below, listing_runs, unit_listed, units_in};
 
@@ -122,6 +123,7 @@ pub fn listed_units(
 ) -> Result<Vec<Run>, AllocError>
     requires rising { StartsRise mappings.now }
     requires within { MappingsEndWithin most mappings.now }
+    ensures maximal { IfOk result (λ units. AreMaximal 0 units.items) }
     ensures value { IfOk result (λ units. units.items ≡ runs_below (is_listed_by ino.now mappings.now) (length / 8)) }
     ensures exact { (a : State) (g : ℕ) → AreListings a g length ino.now mappings.now
         → IfOk result (λ units. AreListedUnits a g length units.items) }
@@ -129,4 +131,29 @@ pub fn listed_units(
     let blocks = chunk_blocks(alloc, mappings)?;
     let units = (u64::from(length) / UNIT_BLOCKS) as u32;
     units_by(alloc, units, ino, blocks.as_slice())
+}
+
+// How many of the runs begin at the unit or before it.
+fn begun(units: &[Run], unit: u32) -> usize
+    requires { AreMaximal 0 units.now }
+    ensures within { result ≤ length units.now }
+    ensures begun { (k : ℕ) (d : GhostRun) → k < result → (get_or units.now k d).start ≤ unit }
+    ensures later { (k : ℕ) (d : GhostRun) → result ≤ k → k < length units.now → unit < (get_or units.now k d).start }
+{
+    units.partition_point(|run| run.start <= unit)
+}
+
+/// Whether the unit lies in one of these maximal runs of units, as `listed_units` answers them. It costs
+/// a binary search, and takes no memory
+/// (XFS Online Fsck Design, "Case Study: Rebuilding the AG Inode Records").
+pub fn has_unit(units: &[Run], unit: u32) -> bool
+    requires { AreMaximal 0 units.now }
+    ensures { result ≡ holds units.now unit }
+{
+    let index = begun(units, unit);
+    if index == 0 {
+        return false;
+    }
+    let run = units[index - 1];
+    unit - run.start < run.count
 }

@@ -1,4 +1,4 @@
 mod Losing
-mod Lying
+pub mod Lying
 mod Needs
 mod Spares

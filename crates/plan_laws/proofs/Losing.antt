@@ -1,27 +1,33 @@
 -- The lost blocks of a switch lie in the runs.
-use Rattle.std.proofs.Common.{◌≡◌, ℕ, zero, suc, ◌+◌, ◌<◌, ◌≤◌, Bool, true, false, not, ◌&&◌, ◌||◌, ◌==◌, List, [], ◌∷◌, filter, refl, ap, sym, ◌∙◌, inl, inr, arith}
-use Rattle.std.specs.Prelude.{◌⊎◌, if◌then◌else◌}
+use Rattle.std.proofs.Common.{◌≡◌, ℕ, zero, suc, ◌+◌, ◌<◌, ◌≤◌, Bool, true, false, not, ◌&&◌, ◌||◌, ◌==◌, List, [], ◌∷◌, ◌++◌, filter, refl, ap, sym, ◌∙◌, inl, inr, arith}
+use Rattle.std.specs.Prelude.{◌⊎◌, nat_le, if◌then◌else◌}
+use Rattle.std.proofs.lemmas.List.{append-nil}
+use Rattle.std.proofs.lemmas.List.Folds.{list_any-append}
 use Rattle.std.specs.List.{list_any}
 use Rattle.std.proofs.lemmas.Bool.{cases_lt, eq-eqb, ne_eqb, lt-ltb, le-ltb}
 use Rattle.fs_change.specs.Parts.{records_in}
-use Rattle.fs_change.specs.Switch.{gives_to, lost_blocks, unclaimed, unit_owner, without_trees}
+use Rattle.fs_change.specs.Switch.{gives_to, lost_blocks, readable_blocks, unclaimed, unit_owner, without_trees}
 use Rattle.fs_derive.specs.Claims.{claims}
 use Rattle.fs_derive.specs.Derive.{mappings}
 use Rattle.fs_derive.specs.Lists.{numbers}
 use Rattle.fs_model.specs.declared.unit.Unit.{Unit as ScrubUnit}
 use Rattle.fs_model.specs.declared.unit.Unit.TheVariants as units
 use Rattle.fs_state.specs.Apart.{is_free, listed_free}
-use Rattle.fs_state.specs.State.{State, is_readable}
+use Rattle.fs_model.specs.declared.claim.Claim.{Claim}
+use Rattle.fs_model.specs.declared.claim.Claim.TheVariants.{Heads, Log, List as FreeList, Tree, Reserve, Limbo, Chunk, Data, Attr, ForkTree, Staging}
+use Rattle.fs_state.specs.State.{State, Reading, Readable, Unreadable, blocks_of, is_readable}
 use Rattle.geom.specs.Layout.{group_len_of}
-use Rattle.run_sets.specs.Runs.{holds, AreRunsBelow}
+use Rattle.run_sets.specs.Runs.{holds, is_within, AreRunsBelow}
 use Rattle.run_sets.specs.declared.run.Run.{Run}
-use Rattle.sblock.specs.declared.kind.Kind.TheVariants.{Bno, Rmap}
+use Rattle.sblock.specs.declared.kind.Kind.{Kind}
+use Rattle.sblock.specs.declared.kind.Kind.TheVariants.{Bno, Cnt, Rmap, Refc, Ino, Fino}
 use Rattle.span_recs.specs.declared.span.SpanRec.{SpanRec}
 use Rattle.unit_plan.specs.Laws.{is_in}
-use Rattle.unit_plan.specs.Lost.{is_given, is_unclaimed, is_unlisted}
+use Rattle.unit_plan.specs.Lost.{is_given, is_of_old, is_read, is_read_kind, is_unclaimed, is_unlisted}
+use Rattle.unit_plan.specs.Sets.{LieBelow}
 use Rattle.unit_plan.specs.Spare.{is_listed}
 use Rattle.unit_plan.specs.declared.piece.Piece.{Piece}
-use Rattle.plan_laws.specs.Losing.{HoldLost, LostNothing, LostUnclaimed, LostUnlisted, StillClaim}
+use Rattle.plan_laws.specs.Losing.{HoldLost, LostNothing, LostOld, LostUnclaimed, LostUnlisted, StillClaim}
 
 -- ---- numbers that pass a test
 
@@ -119,3 +125,96 @@ lost_free_lem a g ps runs still are = hold_owned units.Free a g ps runs still ar
 
 pub lost_refc_lem : LostUnclaimed units.Refc
 lost_refc_lem a g ps runs still are = hold_owned units.Refc a g ps runs still are (refc_lost a g)
+
+-- ---- of inodes
+
+neither : (x y : Bool) → false ≡ ((x && false) || (y && false))
+neither true true = refl
+neither true false = refl
+neither false true = refl
+neither false false = refl
+
+first : (x y : Bool) → x ≡ ((x && true) || (y && false))
+first true y = refl
+first false true = refl
+first false false = refl
+
+second : (x y : Bool) → y ≡ ((x && false) || (y && true))
+second true true = refl
+second true false = refl
+second false true = refl
+second false false = refl
+
+mixed : (x y s t w m n : Bool) → ((((x && s) || (y && t)) && w) || ((x && m) || (y && n))) ≡ ((x && ((s && w) || m)) || (y && ((t && w) || n)))
+mixed true true true true true m n = refl
+mixed true true true true false m n = refl
+mixed true true true false true m n = refl
+mixed true true true false false m n = refl
+mixed true true false true true true n = refl
+mixed true true false true true false n = refl
+mixed true true false true false m n = refl
+mixed true true false false w m n = refl
+mixed true false true t true m n = refl
+mixed true false true t false m n = refl
+mixed true false false t w m n = refl
+mixed false true s true w m n = refl
+mixed false true s false w m n = refl
+mixed false false s t w m n = refl
+
+-- blocks of the two btrees, each where it could be read
+both_old : (ino fino : Bool) (ps : List Piece) (b : ℕ) → is_of_old ino fino ps b ≡ ((ino && is_of_old true false ps b) || (fino && is_of_old false true ps b))
+both_old ino fino [] b = neither ino fino
+both_old ino fino (p ∷ ps) b =
+    (λ i. of_claim p.claim i && is_within b p.run || both_old ino fino ps b i)
+    ∙ mixed ino fino (is_read true false p.claim) (is_read false true p.claim) (is_within b p.run) (is_of_old true false ps b) (is_of_old false true ps b)
+  where
+    of_kind : (k : Kind) → is_read_kind ino fino k ≡ ((ino && is_read_kind true false k) || (fino && is_read_kind false true k))
+    of_kind Bno = neither ino fino
+    of_kind Cnt = neither ino fino
+    of_kind Rmap = neither ino fino
+    of_kind Refc = neither ino fino
+    of_kind Ino = first ino fino
+    of_kind Fino = second ino fino
+
+    of_claim : (c : Claim) → is_read ino fino c ≡ ((ino && is_read true false c) || (fino && is_read false true c))
+    of_claim (Tree kind) = of_kind kind
+    of_claim Heads = neither ino fino
+    of_claim Log = neither ino fino
+    of_claim FreeList = neither ino fino
+    of_claim Reserve = neither ino fino
+    of_claim Limbo = neither ino fino
+    of_claim Chunk = neither ino fino
+    of_claim (Data n) = neither ino fino
+    of_claim (Attr n) = neither ino fino
+    of_claim (ForkTree n) = neither ino fino
+    of_claim Staging = neither ino fino
+
+in_readable : {R : Type 0} (r : Reading R) (b : ℕ) → (is_readable r && list_any (λ x. x == b) (blocks_of r)) ≡ list_any (λ x. x == b) (readable_blocks r)
+in_readable (Readable recs blocks) b = refl
+in_readable (Unreadable block fault claims) b = refl
+
+past_all : (len : ℕ) (ino fino : Bool) (ps : List Piece) (b : ℕ) → LieBelow len ps → len ≤ b → is_of_old ino fino ps b ≡ false
+past_all len ino fino [] b below le = refl
+past_all len ino fino (p ∷ ps) b below le =
+    let end = below.0 in
+    let out : is_within b p.run ≡ false = behind p.run end in
+    (λ i. is_read ino fino p.claim && out i || past_all len ino fino ps b below.1 le i) ∙ ap (λ (t : Bool). t || false) (none (is_read ino fino p.claim))
+  where
+    behind : (r : Run) → r.start + r.count ≤ len → is_within b r ≡ false
+    behind r end = ap (λ (t : Bool). nat_le r.start b && t) (le-ltb b (r.start + r.count) (omega (arith, end, le))) ∙ none (nat_le r.start b)
+
+pub lost_old_lem : LostOld
+unfolding lost_blocks
+lost_old_lem a g ino fino ps runs old below are b =
+    whole ∙ (both_old ino fino ps b ∙ ((λ i. (old.first i && old.blocks b i) || (old.second i && old.others b i)) ∙ ((λ i. in_readable ((a.group g).tree Ino).reading b i || in_readable ((a.group g).tree Fino).reading b i) ∙ sym joined)))
+  where
+    whole : holds runs b ≡ is_of_old ino fino ps b
+    whole = elim (cases_lt b (group_len_of a.geometry g)) [
+      | inl low ↦ are.exact b ∙ ap (λ (t : Bool). t && is_of_old ino fino ps b) (lt-ltb b (group_len_of a.geometry g) low)
+      | inr high ↦ are.exact b ∙ (ap (λ (t : Bool). t && is_of_old ino fino ps b) (le-ltb b (group_len_of a.geometry g) high) ∙ sym (past_all (group_len_of a.geometry g) ino fino ps b below high))
+    ]
+
+    joined : list_any (λ x. x == b) (readable_blocks ((a.group g).tree Ino).reading ++ (readable_blocks ((a.group g).tree Fino).reading ++ [])) ≡ (list_any (λ x. x == b) (readable_blocks ((a.group g).tree Ino).reading) || list_any (λ x. x == b) (readable_blocks ((a.group g).tree Fino).reading))
+    joined =
+        list_any-append (λ x. x == b) (readable_blocks ((a.group g).tree Ino).reading) (readable_blocks ((a.group g).tree Fino).reading ++ [])
+        ∙ ap (λ (xs : List ℕ). list_any (λ x. x == b) (readable_blocks ((a.group g).tree Ino).reading) || list_any (λ x. x == b) xs) (append-nil (readable_blocks ((a.group g).tree Fino).reading))

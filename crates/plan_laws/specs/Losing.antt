@@ -1,5 +1,5 @@
 -- The limbo of a switch, as runs and as the blocks that the switch puts there.
-use Rattle.std.specs.Prelude.{◌≡◌, ◌==◌, ℕ, true, false, List, []}
+use Rattle.std.specs.Prelude.{◌≡◌, ◌==◌, ℕ, Bool, true, false, List, []}
 use Rattle.std.specs.List.{list_any}
 use Rattle.fs_change.specs.Switch.{lost_blocks, unit_owner, without_trees}
 use Rattle.fs_derive.specs.Claims.{claims}
@@ -7,13 +7,14 @@ use Rattle.fs_derive.specs.Derive.{mappings}
 use Rattle.fs_model.specs.declared.unit.Unit.{Unit as ScrubUnit}
 use Rattle.fs_model.specs.declared.unit.Unit.TheVariants as units
 use Rattle.fs_state.specs.Apart.{listed_free}
-use Rattle.fs_state.specs.State.{State, is_readable}
+use Rattle.fs_state.specs.State.{State, blocks_of, is_readable}
 use Rattle.geom.specs.Layout.{group_len_of}
 use Rattle.run_sets.specs.Runs.{holds, AreRunsBelow}
 use Rattle.run_sets.specs.declared.run.Run.{Run}
-use Rattle.sblock.specs.declared.kind.Kind.TheVariants.{Bno}
+use Rattle.sblock.specs.declared.kind.Kind.TheVariants.{Bno, Fino, Ino}
 use Rattle.unit_plan.specs.Laws.{is_in}
-use Rattle.unit_plan.specs.Lost.{is_taken, is_unclaimed, is_unlisted}
+use Rattle.unit_plan.specs.Lost.{is_of_old, is_taken, is_unclaimed, is_unlisted}
+use Rattle.unit_plan.specs.Sets.{LieBelow}
 use Rattle.unit_plan.specs.declared.piece.Piece.{Piece}
 
 -- the pieces that still claim have the blocks that are claimed once the unit's old trees are none
@@ -35,3 +36,13 @@ LostNothing = (a : State) (g : ℕ) → is_readable ((a.group g).tree Bno).readi
 -- of free space and of reference counts
 abbrev pub LostUnclaimed : ScrubUnit → Type 0
 LostUnclaimed unit = (a : State) (g : ℕ) (ps : List Piece) (runs : List Run) → StillClaim a g unit ps → AreRunsBelow (is_unclaimed unit (unit_owner unit) (mappings a g) ps) (group_len_of a.geometry g) runs → HoldLost a g unit runs
+
+-- of inodes: the pieces of a btree have its blocks, and what could be read is said
+pub record TellOld (a : State) (g : ℕ) (ino fino : Bool) (ps : List Piece) : Type 0 where
+  pub first : ino ≡ is_readable ((a.group g).tree Ino).reading
+  pub second : fino ≡ is_readable ((a.group g).tree Fino).reading
+  pub blocks : (b : ℕ) → is_of_old true false ps b ≡ list_any (λ x. x == b) (blocks_of ((a.group g).tree Ino).reading)
+  pub others : (b : ℕ) → is_of_old false true ps b ≡ list_any (λ x. x == b) (blocks_of ((a.group g).tree Fino).reading)
+
+abbrev pub LostOld : Type 0
+LostOld = (a : State) (g : ℕ) (ino fino : Bool) (ps : List Piece) (runs : List Run) → TellOld a g ino fino ps → LieBelow (group_len_of a.geometry g) ps → AreRunsBelow (is_of_old ino fino ps) (group_len_of a.geometry g) runs → HoldLost a g units.Inode runs

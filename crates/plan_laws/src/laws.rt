@@ -1,6 +1,6 @@
 ghost use Rattle.plan_laws.specs.Agreed.{LowestAgrees, NeedAgrees, SpareAgrees, TreeNeedAgrees};
 ghost use Rattle.fs_model.specs.declared.unit.Unit.TheVariants.{Free, Refc};
-ghost use Rattle.plan_laws.specs.Losing.{LostNothing, LostUnclaimed, LostUnlisted};
+ghost use Rattle.plan_laws.specs.Losing.{LostNothing, LostOld, LostUnclaimed, LostUnlisted};
 ghost use Rattle.plan_laws.specs.Lying.{AreClaimedOnce, LieApart};
 
 /// A law: the blocks that a plan calls spare for a unit are those that its step may take, and the lowest of
@@ -40,6 +40,7 @@ pub fn pieces_claim_once()
 /// puts into limbo, its surplus aside; of reverse mappings none, where free space can't be read
 /// (XFS Online Fsck Design, "Reaping After Repairing Ondisk Metadata").
 pub fn lost_agrees()
+    ensures inodes { LostOld }
     ensures mappings { LostUnlisted }
     ensures nothing { LostNothing }
     ensures free { LostUnclaimed Free }

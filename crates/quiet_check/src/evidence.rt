@@ -10,8 +10,9 @@ use ino_recs::InoRec;
 use rmap_recs::RmapRec;
 use sblock::{BlockFault, Kind};
 
-// A tree with a form that isn't supported yet.
-fn later_in<R>(kind: Kind, seen: &TreeSeen<R>) -> Option<Evidence>
+/// That a tree has a form that isn't supported yet, with the first block where that is
+/// (XFS Algorithms and Data Structures, "Reference Count B+tree").
+pub fn later_in<R>(kind: Kind, seen: &TreeSeen<R>) -> Option<Evidence>
     ensures { result ≡ later_of kind (reading_of seen.now) }
 {
     match seen {

@@ -72,8 +72,9 @@ pub fn add_counter(
     Ok(())
 }
 
-// How many blocks a tree that can be read has, where the heads keep that number.
-fn blocks_in(kept: bool, index: &TreeSeen<InoRec>) -> Option<u32>
+/// How many blocks a tree that can be read has, as a counter of 32 bits, where the heads keep that
+/// number (XFS Algorithms and Data Structures, "AG Inode Management").
+pub fn blocks_in<R>(kept: bool, index: &TreeSeen<R>) -> Option<u32>
     ensures { result ≡ blocks_kept kept (reading_of index.now) }
 {
     if !kept {

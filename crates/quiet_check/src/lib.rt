@@ -12,8 +12,8 @@ mod units;
 
 pub use chunks::{chunks_of, first_bad_chunk};
 pub use entries::add_judged;
-pub use evidence::tree_evidence;
-pub use faults::inode_faults;
+pub use evidence::{later_in, tree_evidence};
+pub use faults::{add_counter, blocks_in, index_faults, inode_faults};
 pub use inodes::check_inodes;
 pub use judge::{Judged, judge_inodes};
 pub use space::{judge_counts, judge_free_space};

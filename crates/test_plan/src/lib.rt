@@ -14,4 +14,6 @@ mod pieces;
 #[cfg(test)]
 mod random;
 #[cfg(test)]
+mod runs;
+#[cfg(test)]
 mod spare;

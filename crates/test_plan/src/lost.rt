@@ -89,3 +89,22 @@ fn what_nobody_claims_of_an_owner_is_lost(rt: HostRuntime) -> Result<(), Fail> {
     assert_eq!(rt; counts.as_slice(), [run(24, 2)].as_slice());
     Ok(())
 }
+
+#[test]
+fn the_old_inode_btrees_that_could_be_read_are_lost(rt: HostRuntime) -> Result<(), Fail> {
+    let alloc = rt.alloc();
+    let mut set = claims(alloc)?;
+    claim(&mut set, Claim::Tree(Kind::Ino), 20, 1)?;
+    claim(&mut set, Claim::Tree(Kind::Fino), 4, 1)?;
+    claim(&mut set, Claim::Tree(Kind::Ino), 22, 1)?;
+    claim(&mut set, Claim::Tree(Kind::Fino), 21, 1)?;
+    let both = set.lost_trees(alloc, 32, true, true)?;
+    assert_eq!(rt; both.as_slice(), [run(4, 1), run(20, 3)].as_slice());
+    let first = set.lost_trees(alloc, 32, true, false)?;
+    assert_eq!(rt; first.as_slice(), [run(20, 1), run(22, 1)].as_slice());
+    let second = set.lost_trees(alloc, 32, false, true)?;
+    assert_eq!(rt; second.as_slice(), [run(4, 1), run(21, 1)].as_slice());
+    let none = set.lost_trees(alloc, 32, false, false)?;
+    assert_eq!(rt; none.as_slice().len(), 0);
+    Ok(())
+}

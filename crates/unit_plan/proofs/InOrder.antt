@@ -27,10 +27,11 @@ use Rattle.run_edits.specs.Pieces.{ArePieces, AreTuplesOf, joined_pieces}
 use Rattle.run_edits.proofs.ChainLemmas.{first_is}
 use Rattle.run_edits.proofs.PieceLemmas.{piece_some, pieces_exact}
 use Rattle.unit_plan.specs.declared.piece.Piece.{Piece}
-use Rattle.unit_plan.specs.Joined.{AreJoinedFrom, ClaimOnce, has_key, how_many, key_in_order}
+use Rattle.unit_plan.specs.Joined.{ClaimOnce, StandInRow, has_key, how_many, key_in_order}
 use Rattle.unit_plan.specs.Lost.{of_piece}
 use Rattle.unit_plan.proofs.Counting.{many, permuted}
-use Rattle.unit_plan.proofs.JoinLemmas.{all_joined, map_long, mapped_at, nothing}
+use Rattle.unit_plan.proofs.JoinLemmas.{map_long, mapped_at, nothing}
+use Rattle.unit_plan.proofs.RowLemmas.{pieces_row}
 use denote.Ref.{Bor}
 
 -- a list in front of another, as far as it is long
@@ -69,7 +70,7 @@ sorted_by_key {g = g} {f = f} ps up h k d lt =
 
 -- ---- who has a key
 
-abbrev key_for : Tuple → Key
+abbrev pub key_for : Tuple → Key
 key_for t = record { start = t.block; owner = t.owner; word = key_word t.word }
 
 has_at : (r : RmapRec) (i : ℕ) → i < r.count → has_key (key_for (tuple_at r i)) r ≡ true
@@ -80,7 +81,7 @@ has_at r i lt =
     (and_from (r.owner == r.owner) (key_word (tuple_at r ((r.start + i) - r.start)).word == key_word (tuple_at r i).word) (eq-eqb r.owner r.owner refl)
     (eq-eqb (key_word (tuple_at r ((r.start + i) - r.start)).word) (key_word (tuple_at r i).word) (ap (λ (n : ℕ). key_word (tuple_at r n).word) back)))
 
-has_of : (r : RmapRec) (t : Tuple) → IsOf r t → has_key (key_for t) r ≡ true
+pub has_of : (r : RmapRec) (t : Tuple) → IsOf r t → has_key (key_for t) r ≡ true
 has_of r t h = subst (λ (u : Tuple). has_key (key_for u) r ≡ true) h.2 (has_at r h.0 h.1)
 
 has_own : (r : RmapRec) → 0 < r.count → has_key (key_of r) r ≡ true
@@ -95,7 +96,7 @@ one_found t (x ∷ xs) (suc j) d lt h = let rest = one_found t xs j d (omega (ar
     more true n le = omega arith
     more false n le = le
 
-two_found : (t : RmapRec → Bool) (xs : List RmapRec) (i j : ℕ) (d : RmapRec) → i < j → j < length xs → t (get_or xs i d) ≡ true → t (get_or xs j d) ≡ true → 2 ≤ how_many t xs
+pub two_found : (t : RmapRec → Bool) (xs : List RmapRec) (i j : ℕ) (d : RmapRec) → i < j → j < length xs → t (get_or xs i d) ≡ true → t (get_or xs j d) ≡ true → 2 ≤ how_many t xs
 two_found t [] i j d lt room h k = absurd (omega (arith, room))
 two_found t (x ∷ xs) i zero d lt room h k = absurd (omega (arith, lt))
 two_found t (x ∷ xs) zero (suc j) d lt room h k =
@@ -127,6 +128,14 @@ next_rises : (xs : List RmapRec) → ((k : ℕ) (d : RmapRec) → k + 1 < length
 next_rises [] up = tt
 next_rises (x ∷ []) up = (tt, tt)
 next_rises (x ∷ y ∷ xs) up = (up 0 x (omega arith), next_rises (y ∷ xs) (λ k d lt. let e : suc k + 1 ≡ suc (k + 1) = omega arith in subst (λ (n : ℕ). is_before (get_or (x ∷ y ∷ xs) (suc k) d) (get_or (x ∷ y ∷ xs) n d) ≡ true) e (up (suc k) d (omega (arith, lt)))))
+
+-- pieces with blocks, as records
+pub kept : (ps : List Piece) → map of_piece (filter (λ p. nat_lt 0 p.run.count) ps) ≡ filter (λ r. nat_lt 0 r.count) (map of_piece ps)
+kept [] = refl
+kept (p ∷ ps) = elim (nat_lt 0 p.run.count) as (λ t. map of_piece (if t then p ∷ filter (λ q. nat_lt 0 q.run.count) ps else filter (λ q. nat_lt 0 q.run.count) ps) ≡ (if t then of_piece p ∷ filter (λ r. nat_lt 0 r.count) (map of_piece ps) else filter (λ r. nat_lt 0 r.count) (map of_piece ps))) [
+  | true ↦ ap (λ (rs : List RmapRec). of_piece p ∷ rs) (kept ps)
+  | false ↦ kept ps
+]
 
 module _ (old new : List Piece) (same : IsPermutation old new) (claims : ClaimOnce old) where
   once : (k : Key) → how_many (has_key k) (map of_piece new) ≤ 1
@@ -178,16 +187,12 @@ module _ (old new : List Piece) (same : IsPermutation old new) (claims : ClaimOn
         only = λ t c. (let of = are.only t c in (of.0, Contains-permutation (map of_piece old) (map of_piece new) of.0 moved of.1, of.2));
       }
 
-  kept : (ps : List Piece) → map of_piece (filter (λ p. nat_lt 0 p.run.count) ps) ≡ filter (λ r. nat_lt 0 r.count) (map of_piece ps)
-  kept [] = refl
-  kept (p ∷ ps) = elim (nat_lt 0 p.run.count) as (λ t. map of_piece (if t then p ∷ filter (λ q. nat_lt 0 q.run.count) ps else filter (λ q. nat_lt 0 q.run.count) ps) ≡ (if t then of_piece p ∷ filter (λ r. nat_lt 0 r.count) (map of_piece ps) else filter (λ r. nat_lt 0 r.count) (map of_piece ps))) [
-    | true ↦ ap (λ (rs : List RmapRec). of_piece p ∷ rs) (kept ps)
-    | false ↦ kept ps
-  ]
-
   -- what is left of the joined pieces are the runs
-  pub runs_are : (joined left : List Piece) → NoneBefore new → AreJoinedFrom (map of_piece new) 0 (map of_piece joined) → left ≡ filter (λ p. nat_lt 0 p.run.count) joined → (ts : List Tuple) → AreTuplesOf ts (map of_piece old) → AreRuns ts (map of_piece left)
-  runs_are joined left sorted done is ts tuples =
+  pub runs_are : (left : List RmapRec) → NoneBefore new → (ArePieces (map of_piece new) → left ≡ joined_pieces (map of_piece new)) → (ts : List Tuple) → AreTuplesOf ts (map of_piece old) → AreRuns ts left
+  runs_are left sorted is ts tuples =
       let pieces = pieces_are sorted in
-      let all : map of_piece left ≡ joined_pieces (map of_piece new) = ap (map of_piece) is ∙ (kept joined ∙ all_joined (map of_piece new) pieces (map of_piece joined) done) in
-      subst (AreRuns ts) (sym all) (pieces_exact ts (map of_piece new) pieces (tuples_are ts tuples))
+      subst (AreRuns ts) (sym (is pieces)) (pieces_exact ts (map of_piece new) pieces (tuples_are ts tuples))
+
+  -- and they stand in a row before
+  pub in_row : NoneBefore new → StandInRow (map of_piece new)
+  in_row sorted = let pieces = pieces_are sorted in pieces_row (map of_piece new) pieces.rising pieces.rooms

@@ -74,7 +74,7 @@ starts_le a b h = elim (cases_lt b.start a.start) [
   | inr le ↦ le
 ]
 
-rises_same : (xs ys : List RmapRec) → length xs ≡ length ys → ((k : ℕ) (d : RmapRec) → k < length ys → key_of (get_or xs k d) ≡ key_of (get_or ys k d)) → Rises is_before ys → Rises is_before xs
+pub rises_same : (xs ys : List RmapRec) → length xs ≡ length ys → ((k : ℕ) (d : RmapRec) → k < length ys → key_of (get_or xs k d) ≡ key_of (get_or ys k d)) → Rises is_before ys → Rises is_before xs
 rises_same [] ys long same up = tt
 rises_same (x ∷ xs) [] long same up = absurd (omega (arith, long))
 rises_same (x ∷ []) (y ∷ ys) long same up = (tt, tt)
@@ -420,6 +420,23 @@ module _ (m j n : ℕ) (ps zs ys : List Piece) (zs_long : length zs ≡ length p
     | inl is ↦ subst (λ (x : ℕ). Fits (get_or (map of_piece zs) x d)) (sym is) (subst Fits (sym (grown d ∙ ap (counted n) (mapped_at ps m nothing d lt))) end)
     | inr other ↦ subst Fits (sym (first_others k d (λ is. elim other [ inl a ↦ absurd (omega (arith, a, is)) | inr b ↦ absurd (omega (arith, b, is)) ]))) (rooms k d room)
   ]
+
+  keys_both : (k : ℕ) (d : RmapRec) → key_of (get_or (map of_piece ys) k d) ≡ key_of (get_or (map of_piece ps) k d)
+  keys_both k d = same_then ∙ same_first where
+    same_then : key_of (get_or (map of_piece ys) k d) ≡ key_of (get_or (map of_piece zs) k d)
+    same_then = elim (cases_order k j) [
+      | inl is ↦ subst (λ (x : ℕ). key_of (get_or (map of_piece ys) x d) ≡ key_of (get_or (map of_piece zs) x d)) (sym is) (ap key_of (gone d))
+      | inr other ↦ ap key_of (then_others k d (λ is. elim other [ inl a ↦ absurd (omega (arith, a, is)) | inr b ↦ absurd (omega (arith, b, is)) ]))
+    ]
+
+    same_first : key_of (get_or (map of_piece zs) k d) ≡ key_of (get_or (map of_piece ps) k d)
+    same_first = elim (cases_order k m) [
+      | inl is ↦ subst (λ (x : ℕ). key_of (get_or (map of_piece zs) x d) ≡ key_of (get_or (map of_piece ps) x d)) (sym is) (ap key_of (grown d))
+      | inr other ↦ ap key_of (first_others k d (λ is. elim other [ inl a ↦ absurd (omega (arith, a, is)) | inr b ↦ absurd (omega (arith, b, is)) ]))
+    ]
+
+  pub sorted_kept : Rises is_before (map of_piece ps) → Rises is_before (map of_piece ys)
+  sorted_kept rises = rises_same (map of_piece ys) (map of_piece ps) long_all (λ k d lt. keys_both k d) rises
 
   emptied_fits : (r s : RmapRec) → s ≡ counted 0 r → Fits r → Fits s
   emptied_fits r s e fits = subst Fits (sym e) (omega (arith, fits))

@@ -16,7 +16,7 @@ use Rattle.run_sets.specs.declared.run.Run.{Run}
 use Rattle.run_sets.specs.Runs.{holds, is_within, AreMaximal, AreRunsBelow, EndWithin as RunsEnd}
 use Rattle.span_recs.specs.declared.span.SpanRec.{SpanRec}
 use Rattle.unit_plan.specs.declared.piece.Piece.{Piece}
-use Rattle.unit_plan.specs.Lost.{is_old, is_taken, is_given, is_unlisted, is_unclaimed, of_piece, of_run}
+use Rattle.unit_plan.specs.Lost.{is_of_old, is_old, is_read, is_taken, is_given, is_unlisted, is_unclaimed, of_piece, of_run}
 use Rattle.unit_plan.specs.Sets.{LieBelow}
 use Rattle.unit_plan.specs.Spans.{span_run}
 use Rattle.unit_plan.specs.Spare.{is_listed}
@@ -142,6 +142,24 @@ neither false false = refl
 not_twice : (x : Bool) → not (not x) ≡ x
 not_twice true = refl
 not_twice false = refl
+
+-- ---- blocks of the old inode btrees
+
+covers_old : (ino fino : Bool) (ps : List Piece) (b : ℕ) → list_any (covers b) (map of_piece (filter (λ p. is_read ino fino p.claim) ps)) ≡ is_of_old ino fino ps b
+covers_old ino fino [] b = refl
+covers_old ino fino (p ∷ ps) b = elim (is_read ino fino p.claim) as (λ t. list_any (covers b) (map of_piece (if t then p ∷ filter (λ q. is_read ino fino q.claim) ps else filter (λ q. is_read ino fino q.claim) ps)) ≡ ((t && is_within b p.run) || is_of_old ino fino ps b)) [
+  | true ↦ ap (λ (t : Bool). is_within b p.run || t) (covers_old ino fino ps b)
+  | false ↦ covers_old ino fino ps b
+]
+
+-- what lies outside of all that lies outside of them
+pub old_are : (len : ℕ) (ino fino : Bool) (ps : List Piece) (trees held : List RmapRec) (others runs : List Run) → trees ≡ map of_piece (filter (λ p. is_read ino fino p.claim) ps) → held ≡ map of_run others
+    → AreRunsBelow (is_free trees) len others → AreRunsBelow (is_free held) len runs → AreRunsBelow (is_of_old ino fino ps) len runs
+unfolding is_free
+old_are len ino fino ps trees held others runs of are gaps below = same_below (is_free held) (is_of_old ino fino ps) len runs (λ b lt.
+    ap not (ap (list_any (covers b)) are ∙ covers_runs others b)
+    ∙ (ap not (gaps.exact b ∙ ap (λ (t : Bool). t && not (list_any (covers b) trees)) (lt-ltb b len lt))
+    ∙ (not_twice (list_any (covers b) trees) ∙ (ap (list_any (covers b)) of ∙ covers_old ino fino ps b)))) below
 
 module _ (len : ℕ) (ps : List Piece) where
   free_beside : (unit : ScrubUnit) (runs : List Run) (b : ℕ) → is_free (map of_piece (filter (λ p. not (is_old unit p.claim)) ps) ++ map of_run runs) b ≡ (not (holds runs b) && not (is_taken unit ps b))

@@ -1,13 +1,15 @@
 -- Pieces of claims joined in their places into the maximal runs of their owners.
-use Rattle.std.specs.Prelude.{◌≡◌, ◌==◌, ◌&&◌, ◌<◌, ◌≤◌, ◌+◌, ◌-◌, ◌^◌, ℕ, Bool, nat_le, nat_lt, List, [], ◌∷◌, All, drop, get_or, length, map, if◌then◌else◌}
+use Rattle.std.specs.Prelude.{◌≡◌, ⊤, ◌==◌, ◌&&◌, ◌<◌, ◌≤◌, ◌+◌, ◌-◌, ◌^◌, ℕ, Bool, nat_le, nat_lt, List, [], ◌∷◌, All, drop, get_or, length, map, if◌then◌else◌}
 use Rattle.std.specs.List.{list_any}
 use Rattle.rmap_recs.specs.Rmap.{can_join}
-use Rattle.rmap_recs.specs.Runs.{tuple_at}
+use Rattle.rmap_recs.specs.Runs.{AreRuns, tuple_at}
 use Rattle.rmap_recs.specs.Words.{key_word}
 use Rattle.rmap_recs.specs.declared.records.Key.{Key}
 use Rattle.rmap_recs.specs.declared.records.RmapRec.{RmapRec}
-use Rattle.run_edits.specs.Edits.{HasRoom}
-use Rattle.run_edits.specs.Pieces.{run_of}
+use Rattle.rmap_recs.specs.declared.tuples.Tuple.{Tuple}
+use Rattle.run_edits.specs.Edits.{HasRoom, is_before}
+use Rattle.run_edits.specs.Pieces.{AreTuplesOf, run_of}
+use Rattle.sblock.specs.Lists.{IsAhead}
 use Rattle.unit_plan.specs.declared.piece.Piece.{Piece}
 use Rattle.unit_plan.specs.declared.runs.OwnerRuns.{OwnerRuns}
 use Rattle.unit_plan.specs.Lost.{of_piece}
@@ -30,6 +32,10 @@ pub record ClaimOnce (ps : List Piece) : Type 0 where
   pub once : (k : Key) → how_many (has_key k) (map of_piece ps) ≤ 1
   pub rooms : All HasRoom (map of_piece ps)
 
+-- they are the maximal runs of all tuples of the pieces
+abbrev pub AreRunsOf : List Piece → List RmapRec → Type 0
+AreRunsOf ps recs = (ts : List Tuple) → AreTuplesOf ts (map of_piece ps) → AreRuns ts recs
+
 -- the runs, in the order of reverse mappings
 abbrev pub runs_of : OwnerRuns → List RmapRec
 runs_of runs = map of_piece runs.pieces.items
@@ -43,6 +49,11 @@ counted n r = record { start = r.start; count = n; owner = r.owner; word = r.wor
 -- a block behind it has a number
 abbrev pub Fits : RmapRec → Type 0
 Fits r = r.start + r.count < 2 ^ 32
+
+-- they rise in the order of reverse mappings, and a block behind each has a number
+abbrev pub StandInRow : List RmapRec → Type 0
+StandInRow [] = ⊤
+StandInRow (r ∷ rs) = (Fits r × IsAhead is_before r rs) × StandInRow rs
 
 -- a piece that another one has taken in
 abbrev pub emptied : RmapRec → RmapRec

@@ -1,4 +1,5 @@
 pub mod Firsts
+pub mod Group
 pub mod Joined
 pub mod Laws
 pub mod Lost

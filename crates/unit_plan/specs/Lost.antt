@@ -46,6 +46,20 @@ is_unlisted free ps b = not (is_listed free b) && not (is_taken units.Rmap ps b)
 abbrev pub is_unclaimed : ScrubUnit → ℕ → List RmapRec → List Piece → ℕ → Bool
 is_unclaimed unit owner recs ps b = is_given owner recs b && not (is_taken unit ps b)
 
+-- one of the old inode btrees, where it could be read
+abbrev pub is_read_kind : Bool → Bool → Kind → Bool
+is_read_kind ino fino Ino = ino
+is_read_kind ino fino Fino = fino
+is_read_kind ino fino kind = false
+
+abbrev pub is_read : Bool → Bool → Claim → Bool
+is_read ino fino (Tree kind) = is_read_kind ino fino kind
+is_read ino fino claim = false
+
+-- lost where inode btrees are new: the old ones have the block, as far as they could be read
+abbrev pub is_of_old : Bool → Bool → List Piece → ℕ → Bool
+is_of_old ino fino ps b = list_any (λ p. is_read ino fino p.claim && is_within b p.run) ps
+
 -- a piece, and a run of no owner's, as reverse mappings
 abbrev pub of_piece : Piece → RmapRec
 of_piece p = record { start = p.run.start; count = p.run.count; owner = p.owner; word = p.word }

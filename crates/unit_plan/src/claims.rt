@@ -1,4 +1,4 @@
-use crate::lost::{unclaimed, unlisted};
+use crate::lost::{of_old, unclaimed, unlisted};
 use crate::order::shown;
 use crate::piece::{Among, Memory, Piece};
 use crate::runs::OwnerRuns;
@@ -19,15 +19,16 @@ pub struct ClaimSet {
 }
 
 impl ClaimSet {
-    ghost use Rattle.std.specs.Prelude.{◌≡◌, ℕ, [], ◌∷◌, ◌++◌, List, map, IfOk, OnOk, OnErr};
+    ghost use Rattle.std.specs.Prelude.{◌≡◌, [], ◌∷◌, ◌++◌, map, IfOk, OnOk, OnErr};
     ghost use Rattle.std.specs.List.Sorted.{IsPermutation};
     ghost use Rattle.derive_defs.specs.Mappings.{EndWithin};
     ghost use Rattle.run_sets.specs.Runs.{AreRunsBelow, EndWithin as RunsEnd};
-    ghost use Rattle.rmap_recs.specs.Runs.{AreRuns};
-    ghost use Rattle.rmap_recs.specs.declared.tuples.Tuple.{Tuple};
-    ghost use Rattle.run_edits.specs.Pieces.{AreTuplesOf};
-    ghost use Rattle.unit_plan.specs.Joined.{ClaimOnce, runs_of};
-    ghost use Rattle.unit_plan.specs.Lost.{is_unclaimed, is_unlisted, of_piece};
+    ghost use Rattle.rmap_recs.specs.Rmap.{rmap_form};
+    ghost use Rattle.run_edits.specs.Edits.{is_before};
+    ghost use Rattle.sblock.specs.Blocks.{IsRising};
+    ghost use Rattle.sblock.specs.Lists.{Rises};
+    ghost use Rattle.unit_plan.specs.Joined.{AreRunsOf, ClaimOnce, runs_of};
+    ghost use Rattle.unit_plan.specs.Lost.{is_of_old, is_unclaimed, is_unlisted};
     ghost use Rattle.unit_plan.specs.Sets.{pieces_of, IsFirstOverlap, LieBelow};
     ghost use Rattle.unit_plan.specs.Spans.{MappingsRise, SpansFit, span_run};
     ghost use Rattle.unit_plan.specs.Spare.{IsLowest, is_spare};
@@ -91,15 +92,24 @@ impl ClaimSet {
     }
 
     /// The maximal runs of all owners: what the reverse mapping btree of a group must hold whose claims
-    /// these are. No block is claimed twice for one owner at one offset, and a block behind each piece
-    /// has a number. The runs are made of the pieces in their places: it takes no memory, and beside the
-    /// sort it costs a binary search for each piece, however many blocks that has
+    /// these are. The runs are made of the pieces in their places: it takes no memory, and beside the
+    /// sort it costs a binary search for each piece, however many blocks that has. Of pieces that claim
+    /// a block twice for one owner at one offset only the order of the answer is said
     /// (XFS Online Fsck Design, "Case Study: Rebuilding Reverse Mapping Records").
     pub fn into_runs(self) -> OwnerRuns
-        requires { ClaimOnce (pieces_of self) }
-        ensures { (ts : List Tuple) → AreTuplesOf ts (map of_piece (pieces_of self)) → AreRuns ts (runs_of result) }
+        ensures rising { Rises is_before (runs_of result) }
+        ensures exact { ClaimOnce (pieces_of self) → AreRunsOf (pieces_of self) (runs_of result) }
     {
         OwnerRuns::of_pieces(self.pieces)
+    }
+
+    /// The same as a list of records, with memory for a record a run
+    /// (XFS Online Fsck Design, "Case Study: Rebuilding Reverse Mapping Records").
+    pub fn into_mappings(self, alloc: Global) -> Result<Vec<RmapRec>, Memory>
+        ensures rising { IfOk result (λ recs. IsRising rmap_form recs.items) }
+        ensures exact { ClaimOnce (pieces_of self) → IfOk result (λ recs. AreRunsOf (pieces_of self) recs.items) }
+    {
+        Ok(self.into_runs().records(alloc)?)
     }
 
     /// The limbo of a switch of reverse mappings: the maximal runs of the blocks of a group of `length`
@@ -120,7 +130,23 @@ impl ClaimSet {
         Ok(unlisted(alloc, length, self.pieces.as_slice(), free)?)
     }
 
-    /// The limbo of a switch of another unit: the maximal runs of the blocks of a group of `length`
+    /// The limbo of a switch of inodes: the maximal runs of the blocks of a group of `length` blocks that
+    /// the old inode btrees have which could be read; `ino` and `fino` say whether each could. It takes
+    /// memory for a record a piece (XFS Online Fsck Design, "Reaping After Repairing Ondisk Metadata").
+    pub fn lost_trees(
+        &self,
+        alloc: Global,
+        length: u32,
+        ino: bool,
+        fino: bool,
+    ) -> Result<Vec<Run>, Memory>
+        requires { LieBelow length (pieces_of self.now) }
+        ensures { IfOk result (λ runs. AreRunsBelow (is_of_old ino fino (pieces_of self.now)) length runs.items) }
+    {
+        Ok(of_old(alloc, length, self.pieces.as_slice(), ino, fino)?)
+    }
+
+    /// The limbo of a switch of free space or of reference counts: the maximal runs of the blocks of a group of `length`
     /// blocks that the reverse mappings give to the unit's owner and that nothing claims, the unit's old
     /// btrees aside. It takes memory for a record a piece and for the owner's mappings
     /// (XFS Online Fsck Design, "Reaping After Repairing Ondisk Metadata").

@@ -3,7 +3,7 @@ ghost use Rattle.std.specs.Prelude.{◌≡◌, ◌++◌, ◌==◌, not, filter, 
 ghost use Rattle.derive_defs.specs.Free.{is_free};
 ghost use Rattle.derive_defs.specs.Mappings.{EndWithin};
 ghost use Rattle.run_sets.specs.Runs.{AreRunsBelow, EndWithin as RunsEnd};
-ghost use Rattle.unit_plan.specs.Lost.{is_of as is_of_unit, is_old as is_old_claim, is_unlisted, is_unclaimed, of_piece, of_run};
+ghost use Rattle.unit_plan.specs.Lost.{is_of as is_of_unit, is_of_old, is_old as is_old_claim, is_read as is_read_claim, is_read_kind as is_kind_read, is_unlisted, is_unclaimed, of_piece, of_run};
 ghost use Rattle.unit_plan.specs.Sets.{LieBelow};
 ghost use Rattle.unit_plan.specs.Spans.{span_run};
 
@@ -53,6 +53,47 @@ fn claims_left(alloc: Global, unit: Unit, pieces: &[Piece]) -> Result<Vec<RmapRe
         .collect(alloc)
 }
 
+fn is_read_kind(ino: bool, fino: bool, kind: Kind) -> bool
+    ensures { result ≡ is_kind_read ino fino kind }
+{
+    match kind {
+        Kind::Ino => ino,
+        Kind::Fino => fino,
+        _ => false,
+    }
+}
+
+// Whether the claim is one of the old inode btrees that could be read.
+fn is_read(ino: bool, fino: bool, claim: Claim) -> bool
+    ensures { result ≡ is_read_claim ino fino claim }
+{
+    match claim {
+        Claim::Tree(kind) => is_read_kind(ino, fino, kind),
+        _ => false,
+    }
+}
+
+// The pieces of the old inode btrees that could be read, as reverse mappings.
+fn old_trees(
+    alloc: Global,
+    ino: bool,
+    fino: bool,
+    pieces: &[Piece],
+) -> Result<Vec<RmapRec>, AllocError>
+    ensures { IfOk result (λ held. held.items ≡ map of_piece (filter (λ p. is_read_claim ino fino p.claim) pieces.now)) }
+{
+    pieces
+        .iter()
+        .filter(|piece| is_read(ino, fino, piece.claim))
+        .map(|piece| RmapRec {
+            start: piece.run.start,
+            count: piece.run.count,
+            owner: piece.owner,
+            word: piece.word,
+        })
+        .collect(alloc)
+}
+
 // The reverse mappings of one owner.
 fn mappings_of(alloc: Global, owner: u64, mappings: &[RmapRec]) -> Result<Vec<RmapRec>, AllocError>
     ensures { IfOk result (λ owned. owned.items ≡ filter (λ r. r.owner == owner) mappings.now) }
@@ -89,6 +130,15 @@ fn put_runs(held: &mut Vec<RmapRec>, runs: &[Run]) -> Result<(), AllocError>
         })?;
     }
     Ok(())
+}
+
+// Runs as records of nobody.
+fn ownerless(alloc: Global, runs: &[Run]) -> Result<Vec<RmapRec>, AllocError>
+    ensures { IfOk result (λ held. held.items ≡ map of_run runs.now) }
+{
+    let mut held = Vec::new(alloc);
+    put_runs(&mut held, runs)?;
+    Ok(held)
 }
 
 // The maximal runs of the blocks below the length that lie in none of these records.
@@ -136,5 +186,21 @@ pub fn unclaimed(
     let others = outside(alloc, length, mappings_of(alloc, owner, mappings)?)?;
     let mut held = claims_left(alloc, unit, pieces)?;
     put_runs(&mut held, others.as_slice())?;
+    outside(alloc, length, held)
+}
+
+/// The blocks below the length that the old inode btrees have, as far as they could be read.
+pub fn of_old(
+    alloc: Global,
+    length: u32,
+    pieces: &[Piece],
+    ino: bool,
+    fino: bool,
+) -> Result<Vec<Run>, AllocError>
+    requires { LieBelow length pieces.now }
+    ensures { IfOk result (λ runs. AreRunsBelow (is_of_old ino fino pieces.now) length runs.items) }
+{
+    let others = outside(alloc, length, old_trees(alloc, ino, fino, pieces)?)?;
+    let held = ownerless(alloc, others.as_slice())?;
     outside(alloc, length, held)
 }

@@ -1,17 +1,18 @@
 // The maximal runs of the owners, made of the pieces in their places.
-ghost use Rattle.std.specs.Prelude.{◌≡◌, ◌≢◌, ◌<◌, ◌≤◌, ◌+◌, ◌^◌, ℕ, true, false, All, Contains, IfSome, IsNone, List, Some, get_or, length, map};
+ghost use Rattle.std.specs.Prelude.{◌≡◌, ◌↔◌, ◌≢◌, ◌<◌, ◌≤◌, ◌+◌, ◌^◌, ℕ, true, false, All, Contains, IfSome, IsNone, IsTrue, List, Some, get_or, length, map};
 ghost use Rattle.rmap_recs.specs.Rmap.{can_join as can_join_of};
 ghost use Rattle.rmap_recs.specs.Words.{word_goes_on};
 ghost use Rattle.rmap_recs.specs.declared.records.RmapRec.{RmapRec as GhostRec};
 ghost use Rattle.run_edits.specs.Edits.{is_before as is_before_of};
-ghost use Rattle.run_edits.specs.Pieces.{ArePieces};
-ghost use Rattle.sblock.specs.Lists.{Rises};
-ghost use Rattle.unit_plan.specs.Joined.{AreJoinedFrom, Fits, counted, key_in_order};
+ghost use Rattle.run_edits.specs.Pieces.{ArePieces, joined_pieces};
+ghost use Rattle.sblock.specs.Lists.{IsAhead, Rises};
+ghost use Rattle.unit_plan.specs.Joined.{AreJoinedFrom, Fits, StandInRow, counted, key_in_order};
 ghost use Rattle.unit_plan.specs.Lost.{of_piece};
 
 use crate::piece::Piece;
 use rmap_recs::{RmapKind, RmapRec, is_fork_data};
 use sblock::RecKind;
+use std::alloc::{AllocError, Global};
 
 /// The maximal runs of consecutive blocks with one owner and the same flags and, for blocks that a fork
 /// maps, consecutive offsets, in the order of reverse mappings. They stand where the pieces stood that
@@ -110,6 +111,7 @@ fn join_at(pieces: &mut [Piece], at: usize)
     requires sorted { Rises is_before_of (map of_piece pieces.old) }
     requires rooms { All Fits (map of_piece pieces.old) }
     ensures long { length pieces.new ≡ length pieces.old }
+    ensures sorted { Rises is_before_of (map of_piece pieces.new) }
     ensures rooms { All Fits (map of_piece pieces.new) }
     ensures joined { (recs : List GhostRec) → ArePieces recs → AreJoinedFrom recs (at + 1) (map of_piece pieces.old) → AreJoinedFrom recs at (map of_piece pieces.new) }
 {
@@ -123,8 +125,11 @@ fn join_at(pieces: &mut [Piece], at: usize)
 
 // Joins all of them, from the last to the first.
 fn join_all(pieces: &mut [Piece])
-    requires { ArePieces (map of_piece pieces.old) }
-    ensures { AreJoinedFrom (map of_piece pieces.old) 0 (map of_piece pieces.new) }
+    requires sorted { Rises is_before_of (map of_piece pieces.old) }
+    requires rooms { All Fits (map of_piece pieces.old) }
+    ensures long { length pieces.new ≡ length pieces.old }
+    ensures sorted { Rises is_before_of (map of_piece pieces.new) }
+    ensures joined { ArePieces (map of_piece pieces.old) → AreJoinedFrom (map of_piece pieces.old) 0 (map of_piece pieces.new) }
 {
     let mut left = pieces.len();
     while left > 0 {
@@ -133,23 +138,72 @@ fn join_all(pieces: &mut [Piece])
     }
 }
 
+// Whether a block behind the piece has a number.
+fn fits(piece: &Piece) -> bool
+    ensures { IsTrue result ↔ Fits (of_piece piece.now) }
+{
+    u64::from(piece.run.start) + u64::from(piece.run.count) < 1 << 32
+}
+
+// Whether the piece comes before the first of those behind it.
+fn is_ahead(piece: &Piece, later: &[Piece]) -> bool
+    ensures { IsTrue result ↔ IsAhead is_before_of (of_piece piece.now) (map of_piece later.now) }
+{
+    match later.split_first() {
+        None => true,
+        Some((next, _)) => is_before(piece, &rec_of(next)),
+    }
+}
+
+// Whether the pieces rise in the order of reverse mappings, and a block behind each has a number.
+fn stand_in_row(pieces: &[Piece]) -> bool
+    ensures { IsTrue result ↔ StandInRow (map of_piece pieces.now) }
+{
+    let mut rest = pieces;
+    while let Some((piece, later)) = rest.split_first() {
+        if !fits(piece) || !is_ahead(piece, later) {
+            return false;
+        }
+        rest = later;
+    }
+    true
+}
+
+// Joins pieces that stand in a row, and leaves those that are left.
+fn joined(mut pieces: Vec<Piece>) -> Vec<Piece>
+    requires { StandInRow (map of_piece pieces.items) }
+    ensures rising { Rises is_before_of (map of_piece result.items) }
+    ensures exact { ArePieces (map of_piece pieces.items) → map of_piece result.items ≡ joined_pieces (map of_piece pieces.items) }
+{
+    join_all(&mut pieces);
+    pieces.retain(|piece| piece.run.count > 0);
+    pieces
+}
+
 impl OwnerRuns {
-    ghost use Rattle.std.specs.Prelude.{◌≡◌, ◌<◌, List, get_or, length};
+    ghost use Rattle.std.specs.Prelude.{◌≡◌, ◌<◌, IfOk, List, get_or, length};
     ghost use Rattle.rmap_recs.specs.Runs.{AreRuns};
     ghost use Rattle.rmap_recs.specs.declared.records.RmapRec.{RmapRec as OneRec};
     ghost use Rattle.rmap_recs.specs.declared.tuples.Tuple.{Tuple};
+    ghost use Rattle.run_edits.specs.Edits.{is_before};
     ghost use Rattle.run_edits.specs.Pieces.{AreTuplesOf};
+    ghost use Rattle.sblock.specs.Lists.{Rises};
     ghost use Rattle.unit_plan.specs.Joined.{ClaimOnce, runs_of};
 
-    // The runs of these pieces.
+    // The runs of these pieces; none where some two of them have a common block, owner and offset, or
+    // a block behind one has no number.
     pub(crate) fn of_pieces(mut pieces: Vec<Piece>) -> Self
-        requires { ClaimOnce pieces.items }
-        ensures { (ts : List Tuple) → AreTuplesOf ts (map of_piece pieces.items) → AreRuns ts (runs_of result) }
+        ensures rising { Rises is_before (runs_of result) }
+        ensures exact { ClaimOnce pieces.items → (ts : List Tuple) → AreTuplesOf ts (map of_piece pieces.items) → AreRuns ts (runs_of result) }
     {
         pieces.sort_unstable_by_key(|piece| sort_key(piece));
-        join_all(&mut pieces);
-        pieces.retain(|piece| piece.run.count > 0);
-        OwnerRuns { pieces }
+        if !stand_in_row(pieces.as_slice()) {
+            pieces.clear();
+            return OwnerRuns { pieces };
+        }
+        OwnerRuns {
+            pieces: joined(pieces),
+        }
     }
 
     /// How many runs there are.
@@ -165,5 +219,12 @@ impl OwnerRuns {
         ensures { (d : OneRec) → result ≡ get_or (runs_of self.now) i d }
     {
         rec_of(&self.pieces[i])
+    }
+
+    /// All runs, in the order of reverse mappings.
+    pub(crate) fn records(&self, alloc: Global) -> Result<Vec<RmapRec>, AllocError>
+        ensures { IfOk result (λ recs. recs.items ≡ runs_of self.now) }
+    {
+        self.pieces.iter().map(|piece| rec_of(piece)).collect(alloc)
     }
 }

@@ -63,6 +63,7 @@ returns-clause-exact g c = λ m e.
       refc = refc_said (layout c.args.geo.now) (m Image) c.args.g ∙ sym (c.in_ok-refc.ensures.exact m (r3.same ∙ e));
       ino = ino_said (layout c.args.geo.now) (m Image) c.args.g ∙ sym (c.in_ok-ino.ensures.exact m (r4.same ∙ e));
       fino = fino_said (layout c.args.geo.now) (m Image) c.args.g ∙ sym (c.in_ok-fino.ensures.exact m (r5.same ∙ e));
+      few_rmap = c.in_ok-rmap.ensures.few m (r2.same ∙ e);
       few_ino = c.in_ok-ino.ensures.few m (r4.same ∙ e);
       few_fino = c.in_ok-fino.ensures.few m (r5.same ∙ e);
     }

@@ -4,7 +4,7 @@ use Rattle.rmap_recs.specs.declared.records.RmapRec.{RmapRec}
 use Rattle.run_edits.proofs.FitLemmas.{ends_at}
 use Rattle.unit_plan.specs.Joined.{Fits}
 use Rattle.unit_plan.specs.Lost.{of_piece}
-use Rattle.unit_plan.proofs.JoinLemmas.{fits_at, joined_none, joined_some, mapped_at, nothing, rooms_kept}
+use Rattle.unit_plan.proofs.JoinLemmas.{fits_at, joined_none, joined_some, mapped_at, nothing, rooms_kept, sorted_kept}
 use Rattle.unit_plan.proofs.runs.join_at.Goals as goal
 
 pub place_behind-requires-clause-room : goal.place_behind-requires-clause-room
@@ -20,6 +20,13 @@ overflow_add-run c =
     let end = ends_at run (of_piece q) joins in
     let room = fits_at ps c.in-Some.behind found.0 c.requires.rooms in
     record { fits = omega (arith, end, room) }
+
+pub returns-in-Some-clause-sorted : goal.returns-in-Some-clause-sorted
+returns-in-Some-clause-sorted c =
+    let ps = c.args.pieces.now in
+    let q = get_or ps c.in-Some.behind nothing in
+    sorted_kept c.args.at c.in-Some.behind (c.rec_of-run.result.count + q.run.count) ps c.set_count.new.pieces c.set_count-in-Some.new.pieces c.set_count.ensures.long c.set_count-in-Some.ensures.long c.set_count.ensures.there
+    c.set_count.ensures.others c.set_count-in-Some.ensures.there c.set_count-in-Some.ensures.others c.requires.sorted
 
 pub returns-in-Some-clause-rooms : goal.returns-in-Some-clause-rooms
 returns-in-Some-clause-rooms c =

@@ -1,0 +1,7 @@
+mod Forks
+mod Images
+mod Inodes
+mod Ordered
+mod Pieces
+mod Whole
+mod Words
