@@ -1,5 +1,5 @@
 -- What was found of a unit, as entries, is what the state decides.
-use Rattle.std.proofs.Common.{◌≡◌, ℕ, List, Option, Some, None, refl, ap, sym, ◌∙◌}
+use Rattle.std.proofs.Common.{◌≡◌, ℕ, List, [], ◌++◌, Option, Some, None, refl, ap, sym, ◌∙◌}
 use Rattle.fs_derive.specs.Contradiction.{evidence}
 use Rattle.fs_derive.specs.Faults.{faults}
 use Rattle.fs_derive.specs.Session.{first_unready, needed}
@@ -9,7 +9,8 @@ use Rattle.fs_model.specs.declared.fault.Fault.{Fault}
 use Rattle.fs_model.specs.declared.unit.Unit.{Unit as ScrubUnit}
 use Rattle.fs_model.specs.declared.unit.Unit.TheVariants as units
 use Rattle.fs_state.specs.State.{State}
-use Rattle.quiet_check.specs.Entries.{entries_by, entries_of, fault_entries, judged_entries, unit_entries}
+use Rattle.quiet_check.specs.Entries.{entries_by, entries_of, judged_entries, unit_entries}
+use Rattle.space_check.specs.Groups.{unit_entries as fault_entries}
 use Rattle.quiet_check.specs.Judged.{Decided, IsJudged}
 use Rattle.quiet_check.specs.declared.judge.Judged.{Judged}
 use Rattle.quiet_check.specs.declared.judge.Judged.TheVariants as judged
@@ -27,6 +28,7 @@ inodes_first : (a : State) (past : List Entry) (g : ℕ) → judged_entries a g 
 unfolding unit_entries first_unready needed
 inodes_first a past g = refl
 
-pub inodes_said : (a : State) (past : List Entry) (g : ℕ) (unit : ScrubUnit) → unit ≡ units.Inode → judged_entries a g unit ≡ unit_entries a past g unit
-inodes_said a past g unit is =
-    ap (λ u. judged_entries a g u) is ∙ inodes_first a past g ∙ ap (λ u. unit_entries a past g u) (sym is)
+-- the journal of one unit, that was empty before it
+pub inodes_added : (a : State) (past : List Entry) (g : ℕ) (j : Judged) (before after : List Entry) → before ≡ [] → after ≡ before ++ entries_of g units.Inode j → IsJudged a g units.Inode j → after ≡ unit_entries a past g units.Inode
+inodes_added a past g j before after empty added is =
+    added ∙ ap (λ (es : List Entry). es ++ entries_of g units.Inode j) empty ∙ entries_said a g units.Inode j is ∙ inodes_first a past g

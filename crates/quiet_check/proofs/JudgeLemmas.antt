@@ -37,20 +37,20 @@ use Rattle.inode_pass.specs.declared.stop.PassStop.TheVariants as stops
 use Rattle.inode_pass.specs.Units.{AreSeen, opened_state, unit_numbers, units_in}
 use Rattle.inode_pass.specs.declared.unit.UnitSeen.{UnitSeen}
 use Rattle.quiet_check.specs.Faults.{blocks_kept, counter_faults, faults_in, inode_faults, low}
-use Rattle.quiet_check.specs.Group.{AreInside, AreTrees}
-use Rattle.quiet_check.specs.Heads.{heads_seen}
+use Rattle.group_trees.specs.Group.{AreInside, AreTrees}
+use Rattle.group_trees.specs.Heads.{heads_seen}
 use Rattle.quiet_check.specs.Judged.{AreUnitsOf, Decided, Gathered, IsJudged, cores_in, later_evidence, overlap_of}
 use Rattle.quiet_check.specs.Chunks.{bad_where, chunk_numbers}
-use Rattle.quiet_check.specs.Trees.{FewBlocks, IsSound, RisesIfRead, reading_of}
+use Rattle.group_trees.specs.Trees.{FewBlocks, IsSound, RisesIfRead, reading_of}
 use Rattle.quiet_check.specs.Units.{AreListed}
 use Rattle.quiet_check.specs.declared.judge.Judged.TheVariants.{Faults}
-use Rattle.quiet_check.specs.declared.reads.TreeSeen.{TreeSeen}
-use Rattle.quiet_check.specs.declared.reads.TreeSeen.TheVariants as trees
+use Rattle.group_trees.specs.declared.reads.TreeSeen.{TreeSeen}
+use Rattle.group_trees.specs.declared.reads.TreeSeen.TheVariants as trees
 use Rattle.quiet_check.specs.declared.units.Listed.{Listed}
 use Rattle.quiet_check.proofs.ChunkLemmas.{BelowNumbers, bad_said, below_filter, chunks_said, units_below}
-use Rattle.quiet_check.proofs.ReadLemmas.{group_short}
-use Rattle.quiet_check.specs.declared.group.GroupTrees.{GroupTrees}
-use Rattle.quiet_check.specs.declared.heads.GroupHeads.{GroupHeads}
+use Rattle.group_trees.proofs.ReadLemmas.{group_short}
+use Rattle.group_trees.specs.declared.group.GroupTrees.{GroupTrees}
+use Rattle.group_trees.specs.declared.heads.GroupHeads.{GroupHeads}
 use Rattle.quiet_check.specs.declared.judge.Judged.{Judged}
 use Rattle.rmap_recs.specs.Rmap.{rmap_form}
 use Rattle.rmap_recs.specs.declared.records.RmapRec.{RmapRec}

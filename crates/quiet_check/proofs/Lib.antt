@@ -1,9 +1,5 @@
 pub mod ChunkLemmas
-pub mod ClaimLemmas
 pub mod EntryLemmas
 pub mod FaultLemmas
-pub mod HeadLemmas
 pub mod JudgeLemmas
-pub mod MetadataLemmas
-pub mod ReadLemmas
-pub mod StateLemmas
+pub mod SpaceLemmas

@@ -14,11 +14,11 @@ use Rattle.index_derive.specs.Units.{is_listed_by}
 use Rattle.index_derive.specs.declared.inodes.UnitCores.{UnitCores}
 use Rattle.inode_pass.specs.Units.{AreSeen, unit_numbers, units_in}
 use Rattle.inode_pass.specs.declared.unit.UnitSeen.{UnitSeen}
-use Rattle.quiet_check.specs.Group.{AreTrees}
-use Rattle.quiet_check.specs.Heads.{heads_seen}
-use Rattle.quiet_check.specs.Trees.{reading_of}
-use Rattle.quiet_check.specs.declared.group.GroupTrees.{GroupTrees}
-use Rattle.quiet_check.specs.declared.heads.GroupHeads.{GroupHeads}
+use Rattle.group_trees.specs.Group.{AreTrees}
+use Rattle.group_trees.specs.Heads.{heads_seen}
+use Rattle.group_trees.specs.Trees.{reading_of}
+use Rattle.group_trees.specs.declared.group.GroupTrees.{GroupTrees}
+use Rattle.group_trees.specs.declared.heads.GroupHeads.{GroupHeads}
 use Rattle.run_sets.specs.Runs.{runs_below}
 use Rattle.quiet_check.specs.declared.judge.Judged.{Judged}
 use Rattle.quiet_check.specs.declared.judge.Judged.TheVariants.{Faults, GaveUp}

@@ -1,9 +1,6 @@
 pub mod Chunks
 pub mod Entries
 pub mod Faults
-pub mod Group
-pub mod Heads
 pub mod Judged
-pub mod Metadata
-pub mod Trees
+pub mod Space
 pub mod Units

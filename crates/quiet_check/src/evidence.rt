@@ -1,18 +1,18 @@
-ghost use Rattle.std.specs.Prelude.{◌≡◌, ◌∷◌, [], None, if◌then◌else◌};
+ghost use Rattle.std.specs.Prelude.{◌≡◌, None, if◌then◌else◌};
 ghost use Rattle.fs_derive.specs.Contradiction.{bad_block, later_fault as later_fault_of, later_in as later_of};
-ghost use Rattle.fs_derive.specs.Lists.{first_of_all};
 ghost use Rattle.fs_state.specs.State.{is_readable};
-ghost use Rattle.quiet_check.specs.Trees.{reading_of};
+ghost use Rattle.group_trees.specs.Trees.{reading_of};
+ghost use Rattle.quiet_check.specs.Units.{evidence_in};
 
-use crate::group::GroupTrees;
-use crate::reads::TreeSeen;
 use fs_model::Evidence;
+use group_trees::{GroupTrees, TreeSeen};
 use ino_recs::InoRec;
 use rmap_recs::RmapRec;
 use sblock::{BlockFault, Kind};
 
-// A tree with a form that isn't supported yet.
-fn later_in<R>(kind: Kind, seen: &TreeSeen<R>) -> Option<Evidence>
+/// That a tree has a form that isn't supported yet, with the first block where that is
+/// (XFS Algorithms and Data Structures, "Reference Count B+tree").
+pub fn later_in<R>(kind: Kind, seen: &TreeSeen<R>) -> Option<Evidence>
     ensures { result ≡ later_of kind (reading_of seen.now) }
 {
     match seen {
@@ -21,7 +21,9 @@ fn later_in<R>(kind: Kind, seen: &TreeSeen<R>) -> Option<Evidence>
     }
 }
 
-fn later_fault(kind: Kind, block: u32, fault: BlockFault) -> Option<Evidence>
+/// A block of a tree with a form that isn't supported yet
+/// (XFS Algorithms and Data Structures, "Reference Count B+tree").
+pub fn later_fault(kind: Kind, block: u32, fault: BlockFault) -> Option<Evidence>
     ensures { result ≡ later_fault_of kind block fault }
 {
     match fault {
@@ -57,8 +59,7 @@ fn bad_tree(ino: &TreeSeen<InoRec>, rmap: &TreeSeen<RmapRec>) -> Option<Evidence
 /// inode btrees has a form that isn't supported yet, or neither of the trees that list chunks can be
 /// read (XFS Online Fsck Design, "Cross-Referencing Space Metadata").
 pub fn tree_evidence(trees: &GroupTrees) -> Option<Evidence>
-    ensures { result ≡ first_of_all (later_of Kind.Ino (reading_of trees.now.ino) ∷ later_of Kind.Fino (reading_of trees.now.fino)
-        ∷ (if is_readable (reading_of trees.now.ino) then None else bad_block (reading_of trees.now.rmap)) ∷ []) }
+    ensures { result ≡ evidence_in trees.now }
 {
     if let Some(found) = later_in(Kind::Ino, &trees.ino) {
         return Some(found);

@@ -2,13 +2,12 @@ ghost use Rattle.std.specs.Prelude.{◌≡◌, ◌%◌, ◌^◌, ◌++◌, ◌�
 ghost use Rattle.fs_derive.specs.Faults.{counter_fault};
 ghost use Rattle.ino_recs.specs.Chunks.{fino_form, ino_form};
 ghost use Rattle.quiet_check.specs.Faults.{blocks_kept, counter_faults, faults_in, inode_faults as inode_faults_of};
-ghost use Rattle.quiet_check.specs.Trees.{RisesIfRead, reading_of};
+ghost use Rattle.group_trees.specs.Trees.{RisesIfRead, reading_of};
 ghost use Rattle.sblock.specs.Blocks.{IsRising};
 
-use crate::group::GroupTrees;
-use crate::reads::TreeSeen;
 use ag_headers::Agi;
 use fs_model::{Counter, Fault};
+use group_trees::{GroupTrees, TreeSeen};
 use index_derive::free_records;
 use ino_recs::{FinoKind, InoKind, InoRec};
 use sblock::BlockFault;
@@ -73,8 +72,9 @@ pub fn add_counter(
     Ok(())
 }
 
-// How many blocks a tree that can be read has, where the heads keep that number.
-fn blocks_in(kept: bool, index: &TreeSeen<InoRec>) -> Option<u32>
+/// How many blocks a tree that can be read has, as a counter of 32 bits, where the heads keep that
+/// number (XFS Algorithms and Data Structures, "AG Inode Management").
+pub fn blocks_in<R>(kept: bool, index: &TreeSeen<R>) -> Option<u32>
     ensures { result ≡ blocks_kept kept (reading_of index.now) }
 {
     if !kept {

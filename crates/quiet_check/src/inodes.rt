@@ -1,30 +1,29 @@
-ghost use Rattle.std.specs.Prelude.{◌≡◌, ◌<◌, ◌≤◌, List, Some, IfOk, IfErr};
+ghost use Rattle.std.specs.Prelude.{◌≡◌, ◌<◌, ◌≤◌, Some, IfOk, IfErr};
 ghost use Rattle.blk_device.specs.Causes.{HasCause};
 ghost use Rattle.blk_device.specs.Contents.{Contents};
 ghost use Rattle.blk_device.specs.Reading.{OnlyRead};
 ghost use Rattle.blk_device.specs.declared.device.Region.TheVariants.{Image};
-ghost use Rattle.fs_model.specs.declared.entry.Entry.{Entry as EntryOf};
 ghost use Rattle.fs_model.specs.declared.unit.Unit.TheVariants as units;
 ghost use Rattle.fs_state.specs.Kinds.{heads_of};
-ghost use Rattle.geom.specs.Layout.{device_block_of, group_len_of};
+ghost use Rattle.geom.specs.Layout.{group_len_of};
 ghost use Rattle.geom.specs.Places.{layout};
 ghost use Rattle.inode_pass.specs.Stops.{is_failed as is_failed_pass};
 ghost use Rattle.inode_pass.specs.Units.{opened_state};
-ghost use Rattle.quiet_check.specs.Entries.{unit_entries};
-ghost use Rattle.quiet_check.specs.Heads.{IsOutside, IsRefusal, heads_seen, is_failed};
+ghost use Rattle.quiet_check.specs.Entries.{AreInodeEntries};
+ghost use Rattle.group_trees.specs.Heads.{IsOutside, IsRefusedIn, heads_seen, is_failed};
 ghost use Rattle.quiet_check.specs.Judged.{IsJudged};
 ghost use Rattle.tree_walk.specs.Trails.{LieInside};
 
-use crate::accept::{HeadsStop, read_heads};
-use crate::entries::entries_of;
-use crate::heads::GroupHeads;
+use crate::entries::add_judged;
 use crate::judge::{Judged, judge_inodes};
 use blk_cache::BlkCache;
 use blk_device::Device;
 use byte_fields::Steps;
 use fs_model::{Entry, Unit};
 use geom::Geometry;
+use group_trees::{GroupHeads, HeadsStop, read_heads};
 use inode_pass::PassStop;
+use space_check::Journal;
 use std::alloc::Global;
 use std::sync::ledger::Ledger;
 
@@ -81,10 +80,8 @@ pub fn check_inodes<D: Device, L: Ledger>(
 ) -> Result<Vec<Entry>, HeadsStop>
     requires group { g < geo.now.agcount }
     requires room { geo.now.dblocks ≤ D.blocks dev.old Image }
-    ensures exact { IfOk result (λ entries. (c : Contents) → D.content dev.old ≡ Some c → (past : List EntryOf)
-        → entries.items ≡ unit_entries (opened_state (layout geo.now) (c Image)) past g units.Inode) }
-    ensures refused { IfErr result (λ stop. (c : Contents) → D.content dev.old ≡ Some c
-        → IsRefusal (layout geo.now) g (c Image (device_block_of (layout geo.now) g 0)) stop) }
+    ensures exact { IfOk result (λ entries. (c : Contents) → D.content dev.old ≡ Some c → AreInodeEntries (layout geo.now) (c Image) g entries) }
+    ensures refused { IfErr result (λ stop. (c : Contents) → D.content dev.old ≡ Some c → IsRefusedIn (layout geo.now) (c Image) g stop) }
     ensures reading { OnlyRead D.Device dev.old dev.new steps.old steps.new }
     ensures cause { HasCause is_failed (D.faults dev.old) (D.faults dev.new) result }
 {
@@ -96,8 +93,9 @@ pub fn check_inodes<D: Device, L: Ledger>(
         Ok(judged) => judged,
         Err(stop) => return Err(stop),
     };
-    match entries_of(alloc, g, Unit::Inode, &judged) {
-        Ok(entries) => Ok(entries),
+    let mut journal = Journal::new(alloc);
+    match add_judged(&mut journal, alloc, g, Unit::Inode, &judged) {
+        Ok(()) => Ok(journal.entries),
         Err(_) => Err(HeadsStop::Memory),
     }
 }

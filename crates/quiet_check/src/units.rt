@@ -1,12 +1,11 @@
 ghost use Rattle.std.specs.Prelude.{IfOk};
 ghost use Rattle.derive_defs.specs.Mappings.{StartsRise, EndWithin as MappingsEndWithin};
 ghost use Rattle.fs_state.specs.State.{recs_of as recs_in};
-ghost use Rattle.quiet_check.specs.Trees.{reading_of};
+ghost use Rattle.group_trees.specs.Trees.{reading_of};
 ghost use Rattle.quiet_check.specs.Units.{AreListed};
 ghost use Rattle.run_sets.specs.Runs.{most};
 
-use crate::group::GroupTrees;
-use crate::trees::recs_of;
+use group_trees::{GroupTrees, recs_of};
 use index_derive::listed_units;
 use run_sets::Run;
 use std::alloc::{AllocError, Global};

@@ -14,6 +14,7 @@ use Rattle.rmap_recs.specs.declared.records.RmapRec.{RmapRec}
 use Rattle.sblock.specs.Form.{Form}
 use Rattle.span_recs.specs.Refcounts.{refc_form}
 use Rattle.span_recs.specs.Spans.{bno_form, cnt_form}
+use Rattle.tree_blocks.specs.declared.tree.TreeAt.{TreeAt}
 use Rattle.tree_defs.specs.Sites.{site_of, group_blocks}
 use Rattle.tree_defs.specs.Tree.{read_tree}
 use Rattle.tree_defs.specs.Walked.{walked}
@@ -28,9 +29,13 @@ verdict_of n = if n == 0 then Good else Faulty n
 unfoldable pub unit_entries : ℕ → Unit → List Fault → List Entry
 unit_entries g unit faults = map (entries.Fault g unit) faults ++ entries.Verdict g unit (verdict_of (length faults)) ∷ []
 
+-- a verdict by itself
+abbrev pub verdict_entries : ℕ → Unit → Verdict → List Entry
+verdict_entries g unit verdict = entries.Verdict g unit verdict ∷ []
+
 -- a unit of a group whose reverse mappings can't be read
 abbrev pub skipped_entries : ℕ → Unit → List Entry
-skipped_entries g unit = entries.Verdict g unit (Skipped g units.Rmap) ∷ []
+skipped_entries g unit = verdict_entries g unit (Skipped g units.Rmap)
 
 abbrev pub event : ℕ → List Entry → Event
 event reads entries = record { reads = reads; entries = entries }
@@ -48,6 +53,13 @@ module _ (at : Layout) (image : ℕ → List ℕ) (g : ℕ) where
   -- how many blocks are read for that
   unfoldable pub blocks_read : {R K : Type 0} → Form R K → ℕ → ℕ → ℕ
   blocks_read form root levels = walked form (site_of at g) (group_blocks (site_of at g) image) root levels
+
+  -- both, where this is the tree
+  abbrev pub tree_read : {R K : Type 0} → Form R K → TreeAt → Reading R
+  tree_read form tree = tree_of form tree.root tree.levels
+
+  abbrev pub reads_for : {R K : Type 0} → Form R K → TreeAt → ℕ
+  reads_for form tree = blocks_read form tree.root tree.levels
 
   -- free space, by the reverse mappings of a tree of so many blocks
   unfoldable pub free_entries : Agf → (mappings : List RmapRec) → (mapped : ℕ) → List Entry

@@ -1,10 +1,17 @@
 -- What the code has of a tree, and what it says of the tree as it is read.
-use Rattle.std.specs.Prelude.{◌≡◌, ⊤, Result, Ok, Err}
+use Rattle.std.specs.Prelude.{◌≡◌, ⊤, ℕ, List, length, Result, Ok, Err}
+use Rattle.std.specs.Global.{Vec}
+use Rattle.ag_headers.specs.declared.agf.Agf.{Agf}
+use Rattle.fs_model.specs.declared.fault.Fault.{Fault}
+use Rattle.rmap_recs.specs.declared.records.RmapRec.{RmapRec}
 use Rattle.sblock.specs.Blocks.{IsRising}
 use Rattle.sblock.specs.Form.{Form}
 use Rattle.sblock.specs.declared.block.Bounds.{Bounds}
+use Rattle.span_recs.specs.declared.refcount.RefcRec.{RefcRec}
+use Rattle.span_recs.specs.declared.span.SpanRec.{SpanRec}
+use Rattle.tree_blocks.specs.declared.tree.TreeRead.{TreeRead}
 use Rattle.tree_walk.specs.Trails.{AreSound}
-use Rattle.space_check.specs.Faults.{Reading}
+use Rattle.space_check.specs.Faults.{Reading, free_faults, shared_faults}
 use Rattle.space_check.specs.Progress.{IsOutside}
 use Rattle.space_check.specs.declared.halt.Halt.{Halt}
 use Rattle.space_check.specs.declared.reads.IndexRead.{IndexRead}
@@ -32,3 +39,10 @@ RisesIfRead form (Bad block fault) = ⊤
 abbrev pub IsBad : {R : Type 0} → IndexRead R → Type 0
 IsBad (Whole read) = ⊥
 IsBad (Bad block fault) = ⊤
+
+-- these are the faults of free space, and of reference counts, by what was read of their trees
+abbrev pub AreFreeFaults : ℕ → Agf → TreeRead RmapRec → (bno cnt : IndexRead SpanRec) → Vec Fault → Type 0
+AreFreeFaults len agf mapped bno cnt faults = faults.items ≡ free_faults len agf mapped.recs.items (length mapped.blocks.items) (reading_of bno) (reading_of cnt)
+
+abbrev pub AreSharedFaults : Agf → List RmapRec → IndexRead RefcRec → Vec Fault → Type 0
+AreSharedFaults agf mappings refc faults = faults.items ≡ shared_faults agf mappings (reading_of refc)

@@ -225,7 +225,8 @@ pub fn check_group<D: Device, L: Ledger>(
     requires group { g < geo.now.agcount }
     requires room { geo.now.dblocks ≤ D.blocks dev.old Image }
     requires agreed { AgreesTold cache.old (D.content dev.old) }
-    ensures exact { (c : Contents) → D.content dev.old ≡ Some c → Does (group_events (layout geo.now) (c Image) g agf.now) (moment journal.old.entries.items steps.old.reads) (moment journal.new.entries.items steps.new.reads) result }
+    ensures exact { (c : Contents) → D.content dev.old ≡ Some c → Does (group_events (layout geo.now) (c Image) g agf.now)
+        (moment journal.old.entries.items steps.old.reads) (moment journal.new.entries.items steps.new.reads) result }
     ensures group { AddsGroup g journal.old.entries.items journal.new.entries.items result }
     ensures reading { OnlyRead D.Device dev.old dev.new steps.old steps.new }
     ensures cause { HasCause is_failed (D.faults dev.old) (D.faults dev.new) result }

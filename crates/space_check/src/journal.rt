@@ -78,10 +78,10 @@ pub struct Journal {
 impl Journal {
     ghost use Rattle.std.specs.Prelude.{◌≡◌, ◌+◌, ◌<◌, ℕ, [], IfErr, length};
     ghost use Rattle.space_check.specs.Events.{Does, moment, most_entries};
-    ghost use Rattle.space_check.specs.Groups.{skipped_entries, skipped_events, unit_entries};
+    ghost use Rattle.space_check.specs.Groups.{skipped_entries, skipped_events, unit_entries, verdict_entries};
     ghost use Rattle.space_check.specs.Progress.{Adds, Begins, IsOwn};
 
-    /// A journal without an entry.
+    /// A journal without an entry (XFS Online Fsck Design, "Metadata Scrubbing").
     pub fn new(alloc: Global) -> Self
         ensures { result.entries.items ≡ [] }
     {
@@ -90,7 +90,8 @@ impl Journal {
         }
     }
 
-    /// Lets the next unit begin. A journal with its most entries, or more, refuses that as full.
+    /// Lets the next unit begin. A journal with its most entries, or more, refuses that as full
+    /// (XFS Online Fsck Design, "Metadata Scrubbing").
     pub fn begin(&self) -> Result<(), Halt>
         ensures { Begins self.now.entries.items result }
     {
@@ -102,7 +103,7 @@ impl Journal {
     }
 
     /// Adds the faults of a unit of group `group` in their order and then its verdict, or nothing
-    /// where there is no memory for all of them.
+    /// where there is no memory for all of them (XFS Online Fsck Design, "Metadata Scrubbing").
     pub fn add_unit(
         &mut self,
         alloc: Global,
@@ -117,20 +118,29 @@ impl Journal {
         Ok(())
     }
 
-    // Adds that a unit was skipped, since the reverse mappings of its group can't be read.
-    fn skip_unit(&mut self, group: u32, unit: Unit) -> Result<(), Halt>
-        ensures { Adds self.old.entries.items (skipped_entries group unit) self.new.entries.items result }
+    /// Adds this verdict on a unit of group `group` by itself, as one that was skipped or given up has
+    /// it, or nothing where there is no memory for it
+    /// (XFS Online Fsck Design, "Metadata Scrubbing").
+    pub fn add_verdict(&mut self, group: u32, unit: Unit, verdict: Verdict) -> Result<(), Halt>
+        ensures { Adds self.old.entries.items (verdict_entries group unit verdict) self.new.entries.items result }
     {
         self.entries.push(Entry::Verdict {
             group,
             unit,
-            verdict: Verdict::Skipped(group, Unit::Rmap),
+            verdict,
         })?;
         Ok(())
     }
 
+    // Adds that a unit was skipped, since the reverse mappings of its group can't be read.
+    fn skip_unit(&mut self, group: u32, unit: Unit) -> Result<(), Halt>
+        ensures { Adds self.old.entries.items (skipped_entries group unit) self.new.entries.items result }
+    {
+        self.add_verdict(group, unit, Verdict::Skipped(group, Unit::Rmap))
+    }
+
     /// Skips free space, which had begun, and then reference counts of group `group`, since its
-    /// reverse mappings can't be read.
+    /// reverse mappings can't be read (XFS Online Fsck Design, "Metadata Scrubbing").
     pub fn skip_group(&mut self, group: u32) -> Result<(), Halt>
         requires room { length self.old.entries.items < most_entries }
         ensures exact { (before n : ℕ) → Does (skipped_events group n) (moment self.old.entries.items before) (moment self.new.entries.items (before + n)) result }

@@ -1,9 +1,8 @@
-ghost use Rattle.std.specs.Prelude.{◌≡◌, IfOk, length};
+ghost use Rattle.std.specs.Prelude.{IfOk};
 ghost use Rattle.derive_defs.specs.Mappings.{StartsRise, EndWithin};
 ghost use Rattle.span_recs.specs.Refcounts.{refc_form};
 ghost use Rattle.span_recs.specs.Spans.{bno_form, cnt_form};
-ghost use Rattle.space_check.specs.Faults.{free_faults, shared_faults};
-ghost use Rattle.space_check.specs.Reads.{reading_of, RisesIfRead};
+ghost use Rattle.space_check.specs.Reads.{AreFreeFaults, AreSharedFaults, RisesIfRead};
 
 use crate::faults::{add_blocks, add_counter, beside_roots, blocks_of, index_faults};
 use crate::reads::IndexRead;
@@ -32,7 +31,7 @@ pub fn judge_free(
     requires within { EndWithin len mapped.now.recs.items }
     requires bno { RisesIfRead bno_form bno.now }
     requires cnt { RisesIfRead cnt_form cnt.now }
-    ensures { IfOk result (λ faults. faults.items ≡ free_faults len agf.now mapped.now.recs.items (length mapped.now.blocks.items) (reading_of bno.now) (reading_of cnt.now)) }
+    ensures { IfOk result (AreFreeFaults len agf.now mapped.now bno.now cnt.now) }
 {
     let free = free_of(alloc, len, mapped.recs.as_slice())?;
     let counted = by_count(alloc, free.as_slice())?;
@@ -60,7 +59,7 @@ pub fn judge_shared(
 ) -> Result<Vec<Fault>, AllocError>
     requires within { EndWithin 4294967295 mappings.now }
     requires refc { RisesIfRead refc_form refc.now }
-    ensures { IfOk result (λ faults. faults.items ≡ shared_faults agf.now mappings.now (reading_of refc.now)) }
+    ensures { IfOk result (AreSharedFaults agf.now mappings.now refc.now) }
 {
     let shared = shared_of(alloc, mappings)?;
     let mut faults = index_faults::<RefcKind>(alloc, refc, shared.as_slice())?;

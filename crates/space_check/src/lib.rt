@@ -15,5 +15,8 @@ mod trees;
 
 pub use check::check_space;
 pub use halt::Halt;
-pub use journal::MAX_ENTRIES;
+pub use journal::{Journal, MAX_ENTRIES};
+pub use judge::{judge_free, judge_shared};
+pub use reads::{IndexRead, read_index};
 pub use stop::CheckStop;
+pub use trees::{bno_tree, cnt_tree, refc_tree, rmap_tree};

@@ -12,11 +12,11 @@ use Rattle.inode_pass.specs.Units.{AreSeen, opened_state, unit_numbers, units_in
 use Rattle.inode_pass.specs.declared.unit.UnitSeen.{UnitSeen}
 use Rattle.tree_defs.specs.Sites.{bounds_of}
 use Rattle.quiet_check.specs.Judged.{Decided, Gathered, later_evidence}
-use Rattle.quiet_check.specs.Trees.{reading_of}
+use Rattle.group_trees.specs.Trees.{reading_of}
 use Rattle.quiet_check.specs.Units.{AreListed}
 use Rattle.quiet_check.proofs.ChunkLemmas.{ends_below}
 use Rattle.quiet_check.proofs.JudgeLemmas.{maps_end, maps_rise, own_cause}
-use Rattle.quiet_check.proofs.ReadLemmas.{group_short}
+use Rattle.group_trees.proofs.ReadLemmas.{group_short}
 use Rattle.quiet_check.proofs.judge.judge_cores.Goals as goal
 
 pub list_units-requires-clause-rising : goal.list_units-requires-clause-rising

@@ -7,8 +7,8 @@ use Rattle.fs_model.specs.declared.unit.Unit.TheVariants as units
 use Rattle.fs_state.specs.Kinds.{heads_of}
 use Rattle.geom.specs.Places.{layout}
 use Rattle.inode_pass.specs.Units.{opened_state}
-use Rattle.quiet_check.specs.Group.{AreTrees}
-use Rattle.quiet_check.specs.Heads.{heads_seen}
+use Rattle.group_trees.specs.Group.{AreTrees}
+use Rattle.group_trees.specs.Heads.{heads_seen}
 use Rattle.quiet_check.specs.Judged.{IsJudged}
 use Rattle.quiet_check.proofs.judge.judge_inodes.Goals as goal
 

@@ -7,8 +7,8 @@ use Rattle.fs_model.specs.declared.unit.Unit.TheVariants as units
 use Rattle.fs_state.specs.Kinds.{heads_of}
 use Rattle.geom.specs.Places.{layout}
 use Rattle.inode_pass.specs.Units.{opened_state}
-use Rattle.quiet_check.specs.Group.{AreTrees}
-use Rattle.quiet_check.specs.Heads.{heads_seen}
+use Rattle.group_trees.specs.Group.{AreTrees}
+use Rattle.group_trees.specs.Heads.{heads_seen}
 use Rattle.quiet_check.specs.Judged.{Decided, later_evidence}
 use Rattle.quiet_check.proofs.JudgeLemmas.{cores_decide, trees_decide}
 use Rattle.quiet_check.proofs.judge.judge_trees.Goals as goal

@@ -2,7 +2,7 @@ use Rattle.std.proofs.Common.{ℕ, ◌∙◌, ◌<◌, ◌^◌, All, sym, subst}
 use Rattle.geom.specs.Layout.{group_len_of}
 use Rattle.geom.specs.Places.{layout}
 use Rattle.tree_walk.specs.Trails.{LieInside}
-use Rattle.quiet_check.specs.Group.{AreInside}
+use Rattle.group_trees.specs.Group.{AreInside}
 use Rattle.quiet_check.proofs.JudgeLemmas.{chunk_inside, chunk_small, overlap_judged}
 use Rattle.quiet_check.proofs.judge.overlap_in.Goals as goal
 

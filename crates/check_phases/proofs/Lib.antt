@@ -1,0 +1,10 @@
+pub mod CheckLemmas
+pub mod HeadLemmas
+pub mod JudgedLemmas
+pub mod OrderLemmas
+pub mod PartLemmas
+pub mod PhaseLemmas
+pub mod SessionLemmas
+pub mod SpaceLemmas
+pub mod UnitLemmas
+pub mod VerdictLemmas

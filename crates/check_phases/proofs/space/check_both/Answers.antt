@@ -1,0 +1,23 @@
+use Rattle.std.proofs.Common.{◌≡◌, ◌∙◌, None, Err}
+use Rattle.blk_device.specs.declared.device.Region.TheVariants.{Image}
+use Rattle.blk_device.specs.ReadingLaws.{read_on}
+use Rattle.geom.specs.Places.{layout}
+use Rattle.inode_pass.specs.Units.{opened_state}
+use Rattle.check_phases.specs.Checks.{ChecksSpace}
+use Rattle.check_phases.proofs.UnitLemmas.{first_stops, second_checks}
+use Rattle.space_check.proofs.EventLemmas.{with_err}
+use Rattle.check_phases.proofs.space.check_both.Goals as goal
+
+pub returns-in_err-check_free-clause-exact : goal.returns-in_err-check_free-clause-exact
+returns-in_err-check_free-clause-exact g c = λ m e is.
+    let a = opened_state (layout c.args.geo.now) (m Image) in
+    with_err {T = Unit {0}} (λ r. ChecksSpace a None c.args.g c.args.tally.now c.check_free.new.tally r) c.in_err-check_free.field-0.0 c.from_residual.result c.from_residual.ensures
+    (first_stops a None c.args.g (Unit {0}) (Unit {0}) c.args.tally.now c.check_free.new.tally c.in_err-check_free.field-0.0 (c.in_err-check_free.ensures.exact m e is))
+
+pub returns-clause-exact : goal.returns-clause-exact
+returns-clause-exact g c = λ m e is.
+    second_checks (opened_state (layout c.args.geo.now) (m Image)) None c.args.g (Unit {0}) (Unit {0}) c.args.tally.now c.check_free.new.tally c.check_counts.new.tally tt c.check_counts.result (c.in_ok-check_free.ensures.exact m e is) (c.check_counts.ensures.exact m (c.in_ok-check_free.ensures.reading.same ∙ e) is)
+
+pub returns-clause-reading : goal.returns-clause-reading
+returns-clause-reading g c =
+    read_on g.D.Device g.met.D.Device.only_now g.met.D.Device.counts_now c.args.dev.now c.check_free.new.dev c.check_counts.new.dev c.args.steps.now c.check_free.new.steps c.check_counts.new.steps c.check_free.ensures.reading c.check_counts.ensures.reading

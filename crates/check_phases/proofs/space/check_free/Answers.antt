@@ -1,0 +1,19 @@
+use Rattle.std.proofs.Common.{◌≡◌, ◌∙◌, None, Err}
+use Rattle.blk_device.specs.declared.device.Region.TheVariants.{Image}
+use Rattle.fs_model.specs.declared.unit.Unit.TheVariants as units
+use Rattle.geom.specs.Places.{layout}
+use Rattle.inode_pass.specs.Units.{opened_state}
+use Rattle.check_phases.specs.Checks.{ChecksUnit}
+use Rattle.check_phases.proofs.UnitLemmas.{unit_added, unit_cut}
+use Rattle.space_check.proofs.EventLemmas.{with_err}
+use Rattle.check_phases.proofs.space.check_free.Goals as goal
+
+pub returns-in_err-judged-clause-exact : goal.returns-in_err-judged-clause-exact
+returns-in_err-judged-clause-exact g c = λ m e is.
+    let a = opened_state (layout c.args.geo.now) (m Image) in
+    with_err {T = Unit {0}} (λ r. ChecksUnit a None c.args.g units.Free c.args.tally.now c.args.tally.now r) c.in_err-judged.field-0.0 c.from_residual.result c.from_residual.ensures
+    (unit_cut a None c.args.g (Unit {0}) units.Free c.args.tally.now c.in_err-judged.field-0.0 c.requires.begun c.in_err-judged.ensures.outside)
+
+pub returns-clause-exact : goal.returns-clause-exact
+returns-clause-exact g c = λ m e is.
+    unit_added (opened_state (layout c.args.geo.now) (m Image)) c.args.g units.Free c.args.tally.now c.add.new.self c.add.result c.in_ok-judged.judged (c.in_ok-judged.ensures.exact m e is) c.requires.begun c.add.ensures.added c.add.ensures.passed

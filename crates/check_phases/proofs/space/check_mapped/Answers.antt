@@ -1,0 +1,51 @@
+use Rattle.std.proofs.Common.{◌≡◌, ◌∙◌, None, Err, Ok, ap, subst, sym}
+use Rattle.blk_device.specs.ReadingLaws.{read_on}
+use Rattle.blk_device.specs.declared.device.Region.TheVariants.{Image}
+use Rattle.geom.specs.Places.{layout}
+use Rattle.inode_pass.specs.Units.{opened_state}
+use Rattle.rmap_recs.specs.Rmap.{rmap_form}
+use Rattle.space_check.proofs.EventLemmas.{with_err}
+use Rattle.space_check.specs.Groups.{tree_of}
+use Rattle.space_check.specs.Progress.{IsOutside}
+use Rattle.space_check.specs.Reads.{IsReading, reading_of}
+use Rattle.space_check.specs.declared.halt.Halt.{Halt}
+use Rattle.tree_blocks.specs.declared.tree.TreeAt.{TreeAt}
+use Rattle.check_phases.specs.Checks.{ChecksSpace}
+use Rattle.check_phases.proofs.SpaceLemmas.{never_bad}
+use Rattle.check_phases.proofs.UnitLemmas.{both_cut, both_full}
+use Rattle.check_phases.proofs.space.check_mapped.Goals as goal
+
+pub returns-in_err-begin-clause-exact : goal.returns-in_err-begin-clause-exact
+returns-in_err-begin-clause-exact g c = λ m e.
+    let a = opened_state (layout c.args.geo.now) (m Image) in
+    with_err {T = Unit {0}} (λ r. ChecksSpace a None c.args.g c.args.tally.now c.args.tally.now r) c.in_err-begin.field-0.0 c.from_residual.result c.from_residual.ensures
+    (both_full a None c.args.g (Unit {0}) (Unit {0}) c.args.tally.now c.in_err-begin.field-0.0 c.in_err-begin.ensures)
+
+pub returns-in_err-cache-clause-exact : goal.returns-in_err-cache-clause-exact
+returns-in_err-cache-clause-exact g c = λ m e.
+    let a = opened_state (layout c.args.geo.now) (m Image) in
+    with_err {T = Unit {0}} (λ r. ChecksSpace a None c.args.g c.args.tally.now c.args.tally.now r) _ c.from_residual-in_err-cache.result c.from_residual-in_err-cache.ensures
+    (both_cut a None c.args.g (Unit {0}) c.args.tally.now _ c.in_ok-begin.ensures tt)
+
+pub returns-in_err-mapped-clause-exact : goal.returns-in_err-mapped-clause-exact
+returns-in_err-mapped-clause-exact g c = λ m e.
+    let a = opened_state (layout c.args.geo.now) (m Image) in
+    with_err {T = Unit {0}} (λ r. ChecksSpace a None c.args.g c.args.tally.now c.args.tally.now r) c.in_err-mapped.field-0.0 c.from_residual-in_err-mapped.result c.from_residual-in_err-mapped.ensures
+    (both_cut a None c.args.g (Unit {0}) c.args.tally.now c.in_err-mapped.field-0.0 c.in_ok-begin.ensures c.in_err-mapped.ensures.outside)
+
+pub returns-in-Whole-clause-exact : goal.returns-in-Whole-clause-exact
+returns-in-Whole-clause-exact g c = λ m e.
+    c.check_both.ensures.exact m (c.in_ok-mapped.ensures.reading.same ∙ e) (record {
+      named = c.requires.head m e;
+      mapped_is = subst (λ (t : TreeAt). IsReading (tree_of (layout c.args.geo.now) (m Image) t.group rmap_form t.root t.levels) (Ok c.in_ok-mapped.field-0)) c.rmap_tree-tree.ensures (c.in_ok-mapped.ensures.exact m e) ∙ ap reading_of c.in-Whole.is;
+    })
+
+pub returns-in-Whole-clause-reading : goal.returns-in-Whole-clause-reading
+returns-in-Whole-clause-reading g c =
+    read_on g.D.Device g.met.D.Device.only_now g.met.D.Device.counts_now c.args.dev.now c.read_index.new.dev c.check_both.new.dev c.args.steps.now c.read_index.new.steps c.check_both.new.steps c.in_ok-mapped.ensures.reading c.check_both.ensures.reading
+
+pub returns-clause-exact : goal.returns-clause-exact
+returns-clause-exact g c = λ m e.
+    absurd (never_bad (layout c.args.geo.now) (m Image) c.args.g c.args.agf.now c.in_ok-mapped.field-0 c.in-Bad.block c.in-Bad.fault (c.requires.head m e)
+    (subst (λ (t : TreeAt). IsReading (tree_of (layout c.args.geo.now) (m Image) t.group rmap_form t.root t.levels) (Ok c.in_ok-mapped.field-0)) c.rmap_tree-tree.ensures (c.in_ok-mapped.ensures.exact m e))
+    c.in-Bad.is (c.requires.readable m e))

@@ -1,0 +1,21 @@
+use Rattle.std.proofs.Common.{◌≡◌, ◌∙◌, Option, subst, sym}
+use Rattle.blk_device.specs.declared.device.Region.TheVariants.{Image}
+use Rattle.fs_derive.specs.Session.{Place}
+use Rattle.geom.specs.Places.{layout}
+use Rattle.inode_pass.specs.Units.{opened_state}
+use Rattle.check_phases.specs.Checks.{ChecksSpace}
+use Rattle.check_phases.proofs.SpaceLemmas.{passed_if_none}
+use Rattle.check_phases.proofs.space.check_space.Goals as goal
+
+pub check_mapped-requires-clause-readable : goal.check_mapped-requires-clause-readable
+check_mapped-requires-clause-readable g c = λ m e. c.requires.readable m e c.args.g (passed_if_none c.args.passed.now c.args.g (sym c.mappings_lacked.ensures ∙ c.in-None.is))
+
+pub returns-in-Some-clause-exact : goal.returns-in-Some-clause-exact
+returns-in-Some-clause-exact g c = λ m e.
+    subst (λ (o : Option Place). ChecksSpace (opened_state (layout c.args.geo.now) (m Image)) o c.args.g c.args.tally.now c.skip_both.new.tally c.skip_both.result) (sym c.in-Some.is ∙ c.mappings_lacked.ensures)
+    (c.skip_both.ensures.exact (opened_state (layout c.args.geo.now) (m Image)))
+
+pub returns-in-None-clause-exact : goal.returns-in-None-clause-exact
+returns-in-None-clause-exact g c = λ m e.
+    subst (λ (o : Option Place). ChecksSpace (opened_state (layout c.args.geo.now) (m Image)) o c.args.g c.args.tally.now c.check_mapped.new.tally c.check_mapped.result) (sym c.in-None.is ∙ c.mappings_lacked.ensures)
+    (c.check_mapped.ensures.exact m e)

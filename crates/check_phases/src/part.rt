@@ -1,0 +1,133 @@
+ghost use Rattle.std.specs.Prelude.{◌≡◌, ◌<◌, ◌≤◌, Some, length};
+ghost use Rattle.blk_device.specs.Causes.{HasCause};
+ghost use Rattle.blk_device.specs.Contents.{Contents};
+ghost use Rattle.blk_device.specs.Reading.{OnlyRead};
+ghost use Rattle.blk_device.specs.declared.device.Region.TheVariants.{Image};
+ghost use Rattle.check_phases.specs.Checks.{AreAccepted, AreHeads, AreReadable, ChecksInode, ChecksInodes, ChecksSpaceOf, ChecksSpaces};
+ghost use Rattle.geom.specs.Places.{layout};
+ghost use Rattle.inode_pass.specs.Units.{opened_state};
+ghost use Rattle.space_check.specs.Progress.{is_failed};
+
+use crate::inodes::check_inodes;
+use crate::space::check_space;
+use crate::tally::Tally;
+use blk_device::Device;
+use byte_fields::Steps;
+use geom::Geometry;
+use group_trees::GroupHeads;
+use space_check::Halt;
+use std::alloc::Global;
+use std::sync::ledger::Ledger;
+
+/// Groups of a check, from group `from` to below group `to`
+/// (XFS Algorithms and Data Structures, "Allocation Groups").
+#[derive(Clone, Copy, Debug, PartialEq, Eq)]
+pub struct Part {
+    pub from: u32,
+    pub to: u32,
+}
+
+// Checks the inodes of one group, by its heads among those of all groups.
+fn check_inodes_of<D: Device, L: Ledger>(
+    alloc: Global,
+    dev: &mut D,
+    geo: &Geometry,
+    heads: &[GroupHeads],
+    g: u32,
+    tally: &mut Tally,
+    steps: &mut Steps<L>,
+) -> Result<(), Halt>
+    requires group { g < geo.now.agcount }
+    requires room { geo.now.dblocks ≤ D.blocks dev.old Image }
+    requires all { length heads.now ≡ geo.now.agcount }
+    requires accepted { AreAccepted (layout geo.now) 0 heads.now }
+    requires heads { (c : Contents) → D.content dev.old ≡ Some c → AreHeads (layout geo.now) (c Image) 0 heads.now }
+    ensures exact { (c : Contents) → D.content dev.old ≡ Some c → ChecksInode (layout geo.now) (c Image) g tally.old tally.new result }
+    ensures reading { OnlyRead D.Device dev.old dev.new steps.old steps.new }
+    ensures cause { HasCause is_failed (D.faults dev.old) (D.faults dev.new) result }
+{
+    check_inodes(alloc, dev, geo, g, &heads[g as usize], tally, steps)
+}
+
+/// Checks the inodes of these groups: the unit of each group with its faults and its verdict, or given
+/// up with the first evidence, in the groups' order. A journal that is full, a device that failed and
+/// want of memory end it, each unit with all its entries or none
+/// (XFS Online Fsck Design, "Metadata Scrubbing").
+pub fn check_inode_part<D: Device, L: Ledger>(
+    alloc: Global,
+    dev: &mut D,
+    geo: &Geometry,
+    heads: &[GroupHeads],
+    part: Part,
+    tally: &mut Tally,
+    steps: &mut Steps<L>,
+) -> Result<(), Halt>
+    requires order { part.from ≤ part.to }
+    requires part { part.to ≤ geo.now.agcount }
+    requires room { geo.now.dblocks ≤ D.blocks dev.old Image }
+    requires all { length heads.now ≡ geo.now.agcount }
+    requires accepted { AreAccepted (layout geo.now) 0 heads.now }
+    requires heads { (c : Contents) → D.content dev.old ≡ Some c → AreHeads (layout geo.now) (c Image) 0 heads.now }
+    ensures exact { (c : Contents) → D.content dev.old ≡ Some c → ChecksInodes (layout geo.now) (c Image) part tally.old tally.new result }
+    ensures reading { OnlyRead D.Device dev.old dev.new steps.old steps.new }
+    ensures cause { HasCause is_failed (D.faults dev.old) (D.faults dev.new) result }
+{
+    for g in part.from..part.to {
+        check_inodes_of(alloc, dev, geo, heads, g, tally, steps)?;
+    }
+    Ok(())
+}
+
+// Checks free space and reference counts of one group, by its heads among those of all groups.
+fn check_space_of<D: Device, L: Ledger>(
+    alloc: Global,
+    dev: &mut D,
+    geo: &Geometry,
+    heads: &[GroupHeads],
+    g: u32,
+    passed: &[bool],
+    tally: &mut Tally,
+    steps: &mut Steps<L>,
+) -> Result<(), Halt>
+    requires group { g < geo.now.agcount }
+    requires room { geo.now.dblocks ≤ D.blocks dev.old Image }
+    requires all { length heads.now ≡ geo.now.agcount }
+    requires heads { (c : Contents) → D.content dev.old ≡ Some c → AreHeads (layout geo.now) (c Image) 0 heads.now }
+    requires readable { (c : Contents) → D.content dev.old ≡ Some c → AreReadable (opened_state (layout geo.now) (c Image)) passed.now }
+    ensures exact { (c : Contents) → D.content dev.old ≡ Some c → ChecksSpaceOf (layout geo.now) (c Image) passed.now g tally.old tally.new result }
+    ensures reading { OnlyRead D.Device dev.old dev.new steps.old steps.new }
+    ensures cause { HasCause is_failed (D.faults dev.old) (D.faults dev.new) result }
+{
+    let agf = &heads[g as usize].agf;
+    check_space(alloc, dev, geo, g, agf, passed, tally, steps)
+}
+
+/// Checks free space and then reference counts of each of these groups in order; both are skipped where
+/// the group's reverse mappings didn't pass, as `passed` says of each group. A journal that is full, a
+/// device that failed and want of memory end it, each unit with all its entries or none
+/// (XFS Online Fsck Design, "Cross-Referencing Space Metadata").
+pub fn check_space_part<D: Device, L: Ledger>(
+    alloc: Global,
+    dev: &mut D,
+    geo: &Geometry,
+    heads: &[GroupHeads],
+    part: Part,
+    passed: &[bool],
+    tally: &mut Tally,
+    steps: &mut Steps<L>,
+) -> Result<(), Halt>
+    requires order { part.from ≤ part.to }
+    requires part { part.to ≤ geo.now.agcount }
+    requires room { geo.now.dblocks ≤ D.blocks dev.old Image }
+    requires all { length heads.now ≡ geo.now.agcount }
+    requires heads { (c : Contents) → D.content dev.old ≡ Some c → AreHeads (layout geo.now) (c Image) 0 heads.now }
+    requires readable { (c : Contents) → D.content dev.old ≡ Some c → AreReadable (opened_state (layout geo.now) (c Image)) passed.now }
+    ensures exact { (c : Contents) → D.content dev.old ≡ Some c → ChecksSpaces (layout geo.now) (c Image) part passed.now tally.old tally.new result }
+    ensures reading { OnlyRead D.Device dev.old dev.new steps.old steps.new }
+    ensures cause { HasCause is_failed (D.faults dev.old) (D.faults dev.new) result }
+{
+    for g in part.from..part.to {
+        check_space_of(alloc, dev, geo, heads, g, passed, tally, steps)?;
+    }
+    Ok(())
+}

@@ -1,0 +1,4 @@
+pub mod Group
+pub mod Heads
+pub mod Metadata
+pub mod Trees
