@@ -1,9 +1,9 @@
 -- The pieces of forks: their claims, their places, and how often a block is claimed at one offset.
-use Rattle.std.proofs.Common.{◌≡◌, ◌<◌, ◌≤◌, ◌+◌, ◌-◌, ◌^◌, ◌%◌, ◌/◌, ℕ, zero, suc, Bool, true, false, cond, not, ◌&&◌, List, [], ◌∷◌, ◌++◌, length, map, All, Option, Some, None, refl, ap, sym, subst, ◌∙◌, inl, inr, arith, add-zero}
-use Rattle.std.specs.Prelude.{◌⊎◌, ◌==◌, ◌||◌, ⊤, flat_map, nat_lt, nat_le, if◌then◌else◌}
+use Rattle.std.proofs.Common.{◌≡◌, ◌<◌, ◌≤◌, ◌+◌, ◌-◌, ◌^◌, ◌%◌, ◌/◌, ℕ, Bool, true, false, cond, not, ◌&&◌, List, [], ◌∷◌, ◌++◌, map, All, Option, Some, None, refl, ap, sym, subst, ◌∙◌, inl, inr, arith, add-zero}
+use Rattle.std.specs.Prelude.{◌==◌, ◌||◌, ⊤, nat_lt, nat_le, if◌then◌else◌}
 use Rattle.std.proofs.lemmas.Bool.{and_from, and_parts, cases_lt, eqb-true, false≢true, false_from_ne_true, le-leb, leb-true, ltb-true}
 use Rattle.std.proofs.lemmas.List.{append-nil}
-use Rattle.std.proofs.lemmas.List.Elements.{All-append, All-cons, All-nil}
+use Rattle.std.proofs.lemmas.List.Elements.{All-cons, All-nil}
 use Rattle.byte_fields.specs.FirstFailing.{first_failing}
 use Rattle.dinode_core.specs.ForkTree.{TreeBlock}
 use Rattle.dinode_core.specs.Inline.{clears, ends_in_group, first_bad, in_range, is_attr, mapping_fault, or_else, rises}
@@ -11,16 +11,16 @@ use Rattle.dinode_core.specs.declared.mapping.Fork.{Fork}
 use Rattle.dinode_core.specs.declared.mapping.ForkFault.{ForkFault}
 use Rattle.dinode_core.specs.declared.mapping.ForkFault.TheVariants as faults
 use Rattle.dinode_core.specs.declared.mapping.Mapping.{Mapping}
-use Rattle.fs_derive.specs.Claims.{Claimed, attribute, blocks_at, fork_tree, fork_tree_claims, mapped_blocks, mapping_claims, tree_block_at, unwritten, word_of}
+use Rattle.fs_derive.specs.Claims.{blocks_at, fork_tree, fork_tree_claims, mapped_blocks, mapping_claims, tree_block_at, word_of}
 use Rattle.fs_derive.specs.Lists.{numbers, only_if}
 use Rattle.fs_model.specs.declared.claim.Claim.{Claim}
 use Rattle.fs_model.specs.declared.claim.Claim.TheVariants.{ForkTree}
 use Rattle.geom.specs.Layout.{Layout, group_len_of, split_of}
-use Rattle.geom.specs.Numbers.{length_of, split}
+use Rattle.geom.specs.Numbers.{split}
 use Rattle.rmap_recs.specs.Owners.{is_inode}
 use Rattle.rmap_recs.specs.Rmap.{has_end}
 use Rattle.rmap_recs.specs.Runs.{tuple_at}
-use Rattle.rmap_recs.specs.Words.{is_fork_data, is_fork_tree, is_unwritten, key_word, offset_of}
+use Rattle.rmap_recs.specs.Words.{is_fork_data, is_unwritten, key_word, offset_of}
 use Rattle.rmap_recs.specs.declared.records.Key.{Key}
 use Rattle.run_edits.specs.Edits.{HasRoom}
 use Rattle.unit_plan.proofs.Counting.{many}
@@ -31,7 +31,7 @@ use Rattle.unit_plan.specs.Sets.{LieBelow}
 use Rattle.unit_plan.specs.declared.piece.Piece.{Piece}
 use Rattle.claim_laws.proofs.Ordered.{AllClaim, claim_both}
 use Rattle.claim_laws.proofs.Pieces.{AllSteady, Steady, claims_both, row, steady_both, steady_data}
-use Rattle.claim_laws.proofs.Words.{IsFlag, fork_data_at, key_offset, no_tree, offset_at, unwritten_at, word_at}
+use Rattle.claim_laws.proofs.Words.{IsFlag, fork_data_at, key_offset, offset_at, unwritten_at, word_at}
 
 -- ---- lists
 

@@ -1,5 +1,5 @@
 -- The forks of an image that can be read are good.
-use Rattle.std.proofs.Common.{◌≡◌, ℕ, ◌/◌, ◌==◌, Bool, true, false, List, [], ◌∷◌, Option, Some, None, Result, Ok, Err, refl, ap, sym, subst, ◌∙◌}
+use Rattle.std.proofs.Common.{◌≡◌, ℕ, ◌==◌, Bool, true, false, List, Option, Some, None, Result, Ok, Err, refl, subst}
 use Rattle.std.specs.Prelude.{if◌then◌else◌}
 use Rattle.dinode_core.specs.Core.{core_of}
 use Rattle.dinode_core.specs.ForkTree.{block_fault, fork_fault, has_number, met_of, walk_fault}
@@ -13,7 +13,7 @@ use Rattle.fs_state.specs.Apart.{is_inode}
 use Rattle.fs_state.specs.Inodes.{fork_by, no_fork}
 use Rattle.fs_state.specs.Kinds.{Image}
 use Rattle.fs_state.specs.Read.{core_of_ino, fork_in_chunk, fork_of_ino, inode_bytes, without_forks}
-use Rattle.fs_state.specs.State.{Broken, CoreState, ForkList, Inode, Kept, Whole}
+use Rattle.fs_state.specs.State.{Broken, CoreState, ForkList, Kept, Whole}
 use Rattle.geom.specs.Layout.{Layout}
 use Rattle.claim_laws.specs.Whole.{ForksAreGood}
 

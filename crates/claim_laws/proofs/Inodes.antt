@@ -1,5 +1,5 @@
 -- The inodes of a state rise.
-use Rattle.std.proofs.Common.{◌≡◌, ◌<◌, ◌≤◌, ℕ, zero, suc, ◌+◌, ◌-◌, ◌*◌, ◌/◌, ◌%◌, ◌^◌, Bool, true, false, cond, eqb, List, [], ◌∷◌, ◌++◌, map, refl, ap, sym, subst, ◌∙◌, arith}
+use Rattle.std.proofs.Common.{◌≡◌, ◌≤◌, ℕ, zero, suc, ◌+◌, ◌-◌, ◌*◌, ◌/◌, ◌%◌, ◌^◌, Bool, true, false, cond, eqb, List, [], ◌∷◌, ◌++◌, map, refl, ap, sym, subst, ◌∙◌, arith}
 use Rattle.std.specs.Prelude.{filter, flat_map}
 use Rattle.std.proofs.lemmas.Nat.{mul-le}
 use Rattle.fs_derive.specs.Chunks.{chunks, inode_in, inodes, inodes_in}
@@ -7,7 +7,7 @@ use Rattle.fs_derive.specs.Lists.{numbers}
 use Rattle.fs_state.specs.Apart.{is_chunk}
 use Rattle.fs_state.specs.State.{State}
 use Rattle.geom.specs.Apart.{HasFitting}
-use Rattle.geom.specs.Layout.{Layout, group_len_of}
+use Rattle.geom.specs.Layout.{group_len_of}
 
 -- from one number up to below another
 abbrev pub Up : ℕ → ℕ → List ℕ → Type 0

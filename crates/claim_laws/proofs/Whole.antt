@@ -1,6 +1,6 @@
 -- Pieces that stand for the claims on a group's blocks: their first overlap, and their runs.
-use Rattle.std.proofs.Common.{◌≡◌, ◌<◌, ◌≤◌, ◌+◌, ◌-◌, ◌^◌, ℕ, zero, suc, Bool, true, false, cond, not, ◌&&◌, ◌==◌, List, [], ◌∷◌, ◌++◌, length, map, All, Option, Some, None, Result, Ok, Err, refl, ap, sym, subst, ◌∙◌, inl, inr, arith, append_assoc}
-use Rattle.std.specs.Prelude.{⊤, flat_map, nat_lt, if◌then◌else◌}
+use Rattle.std.proofs.Common.{◌≡◌, ◌<◌, ◌≤◌, ◌+◌, ◌-◌, ◌^◌, ℕ, Bool, true, false, cond, not, ◌&&◌, ◌==◌, List, [], ◌∷◌, ◌++◌, map, All, Option, None, Ok, Err, refl, ap, sym, subst, ◌∙◌, inl, inr, arith, append_assoc}
+use Rattle.std.specs.Prelude.{⊤, flat_map, if◌then◌else◌}
 use Rattle.std.specs.List.{filter}
 use Rattle.std.specs.List.Sorted.{IsPermutation}
 use Rattle.std.proofs.lemmas.Bool.{cases_eq, lt-ltb}
@@ -9,15 +9,14 @@ use Rattle.std.proofs.lemmas.List.Elements.{All-append}
 use Rattle.std.proofs.lemmas.List.Sorted.{All-permutation, IsPermutation-append_comm, IsPermutation-append_left, IsPermutation-append_right, IsPermutation-map, IsPermutation-refl, IsPermutation-sym, IsPermutation-trans}
 use Rattle.dinode_core.specs.declared.mapping.Fork.{Fork}
 use Rattle.dinode_core.specs.declared.mapping.Fork.TheVariants as forks
-use Rattle.dinode_core.specs.declared.mapping.ForkFault.{ForkFault}
 use Rattle.fs_derive.specs.Chunks.{inodes}
-use Rattle.fs_derive.specs.Claims.{Claimed, attribute, attribute_claims, claims, data_claims, fork_claims, fork_of, metadata_claims, read_fork, tree_claims}
+use Rattle.fs_derive.specs.Claims.{Claimed, attribute, attribute_claims, claims, data_claims, fork_claims, fork_of, read_fork, tree_claims}
 use Rattle.fs_derive.specs.Contradiction.{first_overlap, is_data}
 use Rattle.fs_derive.specs.Own.{rmap_of, tuple_of}
 use Rattle.fs_model.specs.declared.claim.Claim.{Claim}
 use Rattle.fs_model.specs.declared.claim.Claim.TheVariants.{Heads, Log, List as FreeList, Tree, Reserve, Limbo, Chunk, Data, Attr, ForkTree, Staging}
 use Rattle.fs_model.specs.declared.claim.Evidence.{Evidence}
-use Rattle.fs_state.specs.State.{ForkList, State}
+use Rattle.fs_state.specs.State.{State}
 use Rattle.geom.specs.Apart.{HasFitting}
 use Rattle.geom.specs.Layout.{group_len_of}
 use Rattle.index_derive.proofs.OwnerLemmas.{only_claimed}
@@ -34,11 +33,11 @@ use Rattle.run_edits.specs.Edits.{HasRoom}
 use Rattle.run_edits.specs.Pieces.{AreTuplesOf}
 use Rattle.unit_plan.proofs.Counting.{many, permuted}
 use Rattle.unit_plan.proofs.LawLemmas.{any_order_lem, in_group_lem}
-use Rattle.unit_plan.specs.Group.{AreClaimsOf, AreGoodForks, AreOwnPieces, FromPlace, claims_of, fork_pieces, mapping_pieces, pieces_of_inode, tree_pieces}
+use Rattle.unit_plan.specs.Group.{AreClaimsOf, AreGoodForks, FromPlace, claims_of, fork_pieces, mapping_pieces, tree_pieces}
 use Rattle.unit_plan.specs.Joined.{ClaimOnce, has_key, how_many}
 use Rattle.unit_plan.specs.Laws.{StandFor, seen}
 use Rattle.unit_plan.specs.Lost.{of_piece}
-use Rattle.unit_plan.specs.Order.{inode, is_first, place}
+use Rattle.unit_plan.specs.Order.{is_first, place}
 use Rattle.unit_plan.specs.Pieces.{blocks_of, claimed_blocks, in_order, is_hard, is_looked_at}
 use Rattle.unit_plan.specs.Sets.{IsFirstOverlap, LieBelow}
 use Rattle.unit_plan.specs.declared.piece.Among.TheVariants.{All as AllClaims}
@@ -46,7 +45,7 @@ use Rattle.unit_plan.specs.declared.piece.Piece.{Piece}
 use Rattle.claim_laws.proofs.Forks.{AllRoom, Good, all_rooms, below_both, good_from, many_append, mappings_claimed, mappings_low, mappings_room, mappings_sort, mappings_steady, once_each, other_owner, room_both, trees_claim, trees_claimed, trees_low, trees_room}
 use Rattle.claim_laws.proofs.Inodes.{Up, inodes_up, len_short, up_le}
 use Rattle.claim_laws.proofs.Ordered.{After, AllClaim, claim_both, inos_after, no_first, own_after, sorted}
-use Rattle.claim_laws.proofs.Pieces.{AllSteady, all_said, claims_both, next, said, steady_both, steady_other, tuples_are, tuples_move, untied}
+use Rattle.claim_laws.proofs.Pieces.{AllSteady, all_said, claims_both, next, steady_both, steady_other, tuples_are, tuples_move, untied}
 use Rattle.claim_laws.specs.Whole.{MappingsOfGroup, OverlapOfGroup}
 
 -- ---- two kinds of piece, inode by inode, as all of one and then all of the other

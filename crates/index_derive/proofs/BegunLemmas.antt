@@ -1,5 +1,5 @@
 -- Of maximal runs those that have begun stand in front.
-use Rattle.std.proofs.Common.{◌≡◌, ℕ, List, get_or, arith}
+use Rattle.std.proofs.Common.{ℕ, List, get_or, arith}
 use Rattle.std.specs.Prelude.{nat_le}
 use Rattle.std.specs.List.Sorted.{IsPartitionedBy}
 use Rattle.std.proofs.lemmas.Bool.{le-leb, leb-true}

@@ -1,5 +1,5 @@
 -- Records that stand in a row.
-use Rattle.std.proofs.Common.{◌≡◌, ◌<◌, ◌+◌, ◌^◌, ℕ, suc, true, List, [], ◌∷◌, All, arith}
+use Rattle.std.proofs.Common.{suc, List, [], ◌∷◌, All, arith}
 use Rattle.std.proofs.lemmas.List.Elements.{All-cons, All-nil}
 use Rattle.sblock.specs.Lists.{Rises}
 use Rattle.rmap_recs.specs.declared.records.RmapRec.{RmapRec}

@@ -1,7 +1,6 @@
-use Rattle.std.proofs.Common.{◌≡◌, ◌∙◌, ◌++◌, List, [], filter, map, ap, sym, subst}
+use Rattle.std.proofs.Common.{◌≡◌, List, map, sym, subst}
 use Rattle.derive_defs.specs.Free.{is_free}
 use Rattle.derive_defs.specs.Mappings.{EndWithin}
-use Rattle.rmap_recs.specs.declared.records.RmapRec.{RmapRec}
 use Rattle.run_sets.specs.declared.run.Run.{Run}
 use Rattle.run_sets.specs.Runs.{AreRunsBelow}
 use Rattle.unit_plan.specs.Lost.{is_of_old, is_read, of_run}
