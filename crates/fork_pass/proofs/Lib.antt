@@ -1,0 +1,5 @@
+pub mod ForkLemmas
+pub mod PassLemmas
+pub mod PieceLemmas
+pub mod SetLemmas
+pub mod StateLemmas

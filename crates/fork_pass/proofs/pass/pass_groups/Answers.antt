@@ -1,0 +1,59 @@
+use Rattle.std.proofs.Common.{◌≡◌, ℕ, ◌+◌, ◌-◌, ◌*◌, ◌/◌, ◌<◌, ◌≤◌, true, List, [], ◌∷◌, length, map, drop, get_or, Option, Some, None, refl, ap, sym, subst, ◌∙◌, arith}
+use Rattle.std.specs.Prelude.{All, flat_map}
+use Rattle.std.specs.Global.{Vec}
+use Rattle.blk_device.specs.Reading.{OnlyRead}
+use Rattle.blk_device.specs.ReadingLaws.{nothing_read, read_on}
+use Rattle.blk_device.specs.declared.device.Region.TheVariants.{Image}
+use Rattle.fs_derive.specs.Chunks.{chunks}
+use Rattle.fs_derive.specs.Lists.{numbers}
+use Rattle.fs_model.specs.declared.claim.Evidence.{Evidence}
+use Rattle.fs_state.specs.Apart.{is_chunk}
+use Rattle.geom.proofs.ApartLemmas.{splits_in}
+use Rattle.geom.specs.Layout.{group_len_of, inode_at}
+use Rattle.geom.specs.Places.{layout}
+use Rattle.inode_pass.specs.Units.{opened_state}
+use Rattle.fork_pass.specs.Passed.{ArePassed, AreChunks, block_inodes, group_inodes, inodes_from, unit_inodes, units_at}
+use Rattle.fork_pass.proofs.PassLemmas.{chunk_at, left_end, left_first, left_found, left_on, list_at, list_end, list_first, row_end, row_first, slot_passed, spread_end, spread_first}
+use Rattle.fork_pass.proofs.pass.pass_groups.Goals as goal
+
+pub loop-g-init : goal.loop-g-init
+loop-g-init g c =
+    record {
+      left = λ m e p. left_first (opened_state (layout c.args.geo.now) (m Image)) (inodes_from (layout c.args.geo.now) c.args.chunks.now 0 c.args.geo.now.agcount) (inodes_from (layout c.args.geo.now) c.args.chunks.now (0) (c.args.geo.now.agcount - (0))) c.args.sets.now (let zero : c.args.geo.now.agcount - 0 ≡ c.args.geo.now.agcount = omega arith in ap (inodes_from (layout c.args.geo.now) c.args.chunks.now 0) zero);
+      groups = refl;
+      reading = nothing_read g.D.Device g.met.D.Device.only_now g.met.D.Device.counts_now c.args.dev.now c.args.steps.now;
+      calm = refl;
+    }
+
+pub returns-in_err-pass_group-clause-reading : goal.returns-in_err-pass_group-clause-reading
+returns-in_err-pass_group-clause-reading g c =
+    read_on g.D.Device g.met.D.Device.only_now g.met.D.Device.counts_now c.args.dev.now c.loop-g.dev c.pass_group.new.dev c.args.steps.now c.loop-g.steps c.pass_group.new.steps c.loop-g.invariant.reading c.pass_group.ensures.reading
+
+pub returns-in-Some-clause-reading : goal.returns-in-Some-clause-reading
+returns-in-Some-clause-reading g c =
+    read_on g.D.Device g.met.D.Device.only_now g.met.D.Device.counts_now c.args.dev.now c.loop-g.dev c.pass_group.new.dev c.args.steps.now c.loop-g.steps c.pass_group.new.steps c.loop-g.invariant.reading c.pass_group.ensures.reading
+
+pub returns-in-Some-clause-exact : goal.returns-in-Some-clause-exact
+returns-in-Some-clause-exact g c =
+    λ m e p.
+    let passed = subst (λ (o : Option Evidence). ArePassed (opened_state (layout c.args.geo.now) (m Image)) (group_inodes (layout c.args.geo.now) c.loop-g.g (units_at c.args.chunks.now c.loop-g.g)) c.loop-g.sets c.pass_group.new.sets o) c.in-Some.is (subst (λ (us : List ℕ). ArePassed (opened_state (layout c.args.geo.now) (m Image)) (group_inodes (layout c.args.geo.now) c.loop-g.g us) c.loop-g.sets c.pass_group.new.sets c.in_ok-pass_group.field-0) (sym (list_at c.args.chunks.now c.loop-g.g c.index-chunks-g.result (omega (arith, c.requires.lists, c.loop-g-test.true)) ∙ ap (λ (v : Vec ℕ). v.items) (sym c.index-chunks-g.is) ∙ sym c.as_slice-units.ensures.value)) (c.in_ok-pass_group.ensures.exact m (c.loop-g.invariant.reading.same ∙ e) (sym (list_at c.args.chunks.now c.loop-g.g c.index-chunks-g.result (omega (arith, c.requires.lists, c.loop-g-test.true)) ∙ ap (λ (v : Vec ℕ). v.items) (sym c.index-chunks-g.is) ∙ sym c.as_slice-units.ensures.value) ∙ p c.loop-g.g c.loop-g-test.true))) in
+    left_found (opened_state (layout c.args.geo.now) (m Image)) (inodes_from (layout c.args.geo.now) c.args.chunks.now 0 c.args.geo.now.agcount) (inodes_from (layout c.args.geo.now) c.args.chunks.now c.loop-g.g (c.args.geo.now.agcount - c.loop-g.g)) (group_inodes (layout c.args.geo.now) c.loop-g.g (units_at c.args.chunks.now c.loop-g.g)) (inodes_from (layout c.args.geo.now) c.args.chunks.now (c.loop-g.g + 1) (c.args.geo.now.agcount - (c.loop-g.g + 1))) c.args.sets.now c.loop-g.sets c.pass_group.new.sets c.in-Some.found (spread_first (λ h. group_inodes (layout c.args.geo.now) h (units_at c.args.chunks.now h)) c.loop-g.g c.args.geo.now.agcount c.loop-g-test.true) (c.loop-g.invariant.left m e p) passed
+
+pub loop-g-preserved : goal.loop-g-preserved
+loop-g-preserved g c =
+    record {
+      left = λ m e p.
+          let passed = subst (λ (o : Option Evidence). ArePassed (opened_state (layout c.args.geo.now) (m Image)) (group_inodes (layout c.args.geo.now) c.loop-g.g (units_at c.args.chunks.now c.loop-g.g)) c.loop-g.sets c.pass_group.new.sets o) c.in-None.is (subst (λ (us : List ℕ). ArePassed (opened_state (layout c.args.geo.now) (m Image)) (group_inodes (layout c.args.geo.now) c.loop-g.g us) c.loop-g.sets c.pass_group.new.sets c.in_ok-pass_group.field-0) (sym (list_at c.args.chunks.now c.loop-g.g c.index-chunks-g.result (omega (arith, c.requires.lists, c.loop-g-test.true)) ∙ ap (λ (v : Vec ℕ). v.items) (sym c.index-chunks-g.is) ∙ sym c.as_slice-units.ensures.value)) (c.in_ok-pass_group.ensures.exact m (c.loop-g.invariant.reading.same ∙ e) (sym (list_at c.args.chunks.now c.loop-g.g c.index-chunks-g.result (omega (arith, c.requires.lists, c.loop-g-test.true)) ∙ ap (λ (v : Vec ℕ). v.items) (sym c.index-chunks-g.is) ∙ sym c.as_slice-units.ensures.value) ∙ p c.loop-g.g c.loop-g-test.true))) in
+          left_on (opened_state (layout c.args.geo.now) (m Image)) (inodes_from (layout c.args.geo.now) c.args.chunks.now 0 c.args.geo.now.agcount) (inodes_from (layout c.args.geo.now) c.args.chunks.now c.loop-g.g (c.args.geo.now.agcount - c.loop-g.g)) (group_inodes (layout c.args.geo.now) c.loop-g.g (units_at c.args.chunks.now c.loop-g.g)) (inodes_from (layout c.args.geo.now) c.args.chunks.now (c.loop-g.g + 1) (c.args.geo.now.agcount - (c.loop-g.g + 1))) c.args.sets.now c.loop-g.sets c.pass_group.new.sets (spread_first (λ h. group_inodes (layout c.args.geo.now) h (units_at c.args.chunks.now h)) c.loop-g.g c.args.geo.now.agcount c.loop-g-test.true) (c.loop-g.invariant.left m e p) passed;
+      groups = c.pass_group.ensures.groups ∙ c.loop-g.invariant.groups;
+      reading = read_on g.D.Device g.met.D.Device.only_now g.met.D.Device.counts_now c.args.dev.now c.loop-g.dev c.pass_group.new.dev c.args.steps.now c.loop-g.steps c.pass_group.new.steps c.loop-g.invariant.reading c.pass_group.ensures.reading;
+      calm = c.in_ok-pass_group.ensures.cause ∙ c.loop-g.invariant.calm;
+    }
+
+pub returns-clause-exact : goal.returns-clause-exact
+returns-clause-exact g c =
+    λ m e p. left_end (opened_state (layout c.args.geo.now) (m Image)) (inodes_from (layout c.args.geo.now) c.args.chunks.now 0 c.args.geo.now.agcount) (inodes_from (layout c.args.geo.now) c.args.chunks.now c.loop-g.g (c.args.geo.now.agcount - c.loop-g.g)) c.args.sets.now c.loop-g.sets (spread_end (λ h. group_inodes (layout c.args.geo.now) h (units_at c.args.chunks.now h)) c.loop-g.g c.args.geo.now.agcount (omega (arith, c.loop-g-test.false))) (c.loop-g.invariant.left m e p)
+
+pub pass_group-requires-clause-inside : goal.pass_group-requires-clause-inside
+pass_group-requires-clause-inside g c =
+    subst (λ (us : List ℕ). All (λ u. 8 * u + 7 < group_len_of (layout c.args.geo.now) c.loop-g.g) us) (list_at c.args.chunks.now c.loop-g.g c.index-chunks-g.result (omega (arith, c.requires.lists, c.loop-g-test.true)) ∙ ap (λ (v : Vec ℕ). v.items) (sym c.index-chunks-g.is) ∙ sym c.as_slice-units.ensures.value) (c.requires.inside c.loop-g.g c.loop-g-test.true)

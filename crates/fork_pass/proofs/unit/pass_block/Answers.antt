@@ -1,0 +1,55 @@
+use Rattle.std.proofs.Common.{◌≡◌, ℕ, ◌+◌, ◌-◌, ◌*◌, ◌/◌, ◌<◌, ◌≤◌, true, List, [], ◌∷◌, length, map, drop, get_or, Option, Some, None, refl, ap, sym, subst, ◌∙◌, arith}
+use Rattle.std.specs.Prelude.{All, flat_map}
+use Rattle.std.specs.Global.{Vec}
+use Rattle.blk_device.specs.Reading.{OnlyRead}
+use Rattle.blk_device.specs.ReadingLaws.{nothing_read, read_on}
+use Rattle.blk_device.specs.declared.device.Region.TheVariants.{Image}
+use Rattle.fs_derive.specs.Chunks.{chunks}
+use Rattle.fs_derive.specs.Lists.{numbers}
+use Rattle.fs_model.specs.declared.claim.Evidence.{Evidence}
+use Rattle.fs_state.specs.Apart.{is_chunk}
+use Rattle.geom.proofs.ApartLemmas.{splits_in}
+use Rattle.geom.specs.Layout.{group_len_of, inode_at}
+use Rattle.geom.specs.Places.{layout}
+use Rattle.inode_pass.specs.Units.{opened_state}
+use Rattle.fork_pass.specs.Passed.{ArePassed, AreChunks, block_inodes, group_inodes, inodes_from, unit_inodes, units_at}
+use Rattle.fork_pass.proofs.PassLemmas.{chunk_at, left_end, left_first, left_found, left_on, list_at, list_end, list_first, row_end, row_first, slot_passed, spread_end, spread_first}
+use Rattle.fork_pass.proofs.unit.pass_block.Goals as goal
+
+pub loop-slot-init : goal.loop-slot-init
+loop-slot-init g c =
+    record {
+      left = λ m e p. left_first (opened_state (layout c.args.geo.now) (m Image)) (block_inodes (layout c.args.geo.now) c.args.g c.args.b) (map (inode_at (layout c.args.geo.now) c.args.g c.args.b) (numbers (0) (8 - (0)))) c.args.sets.now (refl);
+      groups = refl;
+      reading = c.in_ok-block.ensures.reading;
+      calm = c.in_ok-block.ensures.cause;
+    }
+
+pub returns-in_err-see_slot-clause-reading : goal.returns-in_err-see_slot-clause-reading
+returns-in_err-see_slot-clause-reading g c =
+    read_on g.D.Device g.met.D.Device.only_now g.met.D.Device.counts_now c.args.dev.now c.loop-slot.dev c.see_slot.new.dev c.args.steps.now c.loop-slot.steps c.see_slot.new.steps c.loop-slot.invariant.reading c.see_slot.ensures.reading
+
+pub returns-in-Some-clause-reading : goal.returns-in-Some-clause-reading
+returns-in-Some-clause-reading g c =
+    read_on g.D.Device g.met.D.Device.only_now g.met.D.Device.counts_now c.args.dev.now c.loop-slot.dev c.see_slot.new.dev c.args.steps.now c.loop-slot.steps c.see_slot.new.steps c.loop-slot.invariant.reading c.see_slot.ensures.reading
+
+pub returns-in-Some-clause-exact : goal.returns-in-Some-clause-exact
+returns-in-Some-clause-exact g c =
+    λ m e p.
+    let passed = subst (λ (o : Option Evidence). ArePassed (opened_state (layout c.args.geo.now) (m Image)) (inode_at (layout c.args.geo.now) c.args.g c.args.b c.loop-slot.slot ∷ []) c.loop-slot.sets c.see_slot.new.sets o) c.in-Some.is (slot_passed (layout c.args.geo.now) (m Image) (splits_in (layout c.args.geo.now) c.args.geo.now.fitting) c.args.g c.args.b c.loop-slot.slot c.number_of-ino.result c.in_ok-block.block.bytes c.loop-slot.sets c.see_slot.new.sets c.in_ok-see_slot.field-0 c.requires.group c.requires.block c.loop-slot-test.true p c.number_of-ino.ensures (c.in_ok-block.ensures.told m e ∙ ap (m Image) c.device_block-at.ensures) (c.in_ok-see_slot.ensures.exact m (c.loop-slot.invariant.reading.same ∙ e))) in
+    left_found (opened_state (layout c.args.geo.now) (m Image)) (block_inodes (layout c.args.geo.now) c.args.g c.args.b) (map (inode_at (layout c.args.geo.now) c.args.g c.args.b) (numbers c.loop-slot.slot (8 - c.loop-slot.slot))) (inode_at (layout c.args.geo.now) c.args.g c.args.b c.loop-slot.slot ∷ []) (map (inode_at (layout c.args.geo.now) c.args.g c.args.b) (numbers (c.loop-slot.slot + 1) (8 - (c.loop-slot.slot + 1)))) c.args.sets.now c.loop-slot.sets c.see_slot.new.sets c.in-Some.found (row_first (inode_at (layout c.args.geo.now) c.args.g c.args.b) c.loop-slot.slot 8 c.loop-slot-test.true) (c.loop-slot.invariant.left m e p) passed
+
+pub loop-slot-preserved : goal.loop-slot-preserved
+loop-slot-preserved g c =
+    record {
+      left = λ m e p.
+          let passed = subst (λ (o : Option Evidence). ArePassed (opened_state (layout c.args.geo.now) (m Image)) (inode_at (layout c.args.geo.now) c.args.g c.args.b c.loop-slot.slot ∷ []) c.loop-slot.sets c.see_slot.new.sets o) c.in-None.is (slot_passed (layout c.args.geo.now) (m Image) (splits_in (layout c.args.geo.now) c.args.geo.now.fitting) c.args.g c.args.b c.loop-slot.slot c.number_of-ino.result c.in_ok-block.block.bytes c.loop-slot.sets c.see_slot.new.sets c.in_ok-see_slot.field-0 c.requires.group c.requires.block c.loop-slot-test.true p c.number_of-ino.ensures (c.in_ok-block.ensures.told m e ∙ ap (m Image) c.device_block-at.ensures) (c.in_ok-see_slot.ensures.exact m (c.loop-slot.invariant.reading.same ∙ e))) in
+          left_on (opened_state (layout c.args.geo.now) (m Image)) (block_inodes (layout c.args.geo.now) c.args.g c.args.b) (map (inode_at (layout c.args.geo.now) c.args.g c.args.b) (numbers c.loop-slot.slot (8 - c.loop-slot.slot))) (inode_at (layout c.args.geo.now) c.args.g c.args.b c.loop-slot.slot ∷ []) (map (inode_at (layout c.args.geo.now) c.args.g c.args.b) (numbers (c.loop-slot.slot + 1) (8 - (c.loop-slot.slot + 1)))) c.args.sets.now c.loop-slot.sets c.see_slot.new.sets (row_first (inode_at (layout c.args.geo.now) c.args.g c.args.b) c.loop-slot.slot 8 c.loop-slot-test.true) (c.loop-slot.invariant.left m e p) passed;
+      groups = c.see_slot.ensures.groups ∙ c.loop-slot.invariant.groups;
+      reading = read_on g.D.Device g.met.D.Device.only_now g.met.D.Device.counts_now c.args.dev.now c.loop-slot.dev c.see_slot.new.dev c.args.steps.now c.loop-slot.steps c.see_slot.new.steps c.loop-slot.invariant.reading c.see_slot.ensures.reading;
+      calm = c.in_ok-see_slot.ensures.cause ∙ c.loop-slot.invariant.calm;
+    }
+
+pub returns-clause-exact : goal.returns-clause-exact
+returns-clause-exact g c =
+    λ m e p. left_end (opened_state (layout c.args.geo.now) (m Image)) (block_inodes (layout c.args.geo.now) c.args.g c.args.b) (map (inode_at (layout c.args.geo.now) c.args.g c.args.b) (numbers c.loop-slot.slot (8 - c.loop-slot.slot))) c.args.sets.now c.loop-slot.sets (row_end (inode_at (layout c.args.geo.now) c.args.g c.args.b) c.loop-slot.slot 8 (omega (arith, c.loop-slot-test.false))) (c.loop-slot.invariant.left m e p)

@@ -1,0 +1,55 @@
+use Rattle.std.proofs.Common.{◌≡◌, ℕ, ◌+◌, ◌-◌, ◌*◌, ◌/◌, ◌<◌, ◌≤◌, true, List, [], ◌∷◌, length, map, drop, get_or, Option, Some, None, refl, ap, sym, subst, ◌∙◌, arith}
+use Rattle.std.specs.Prelude.{All, flat_map}
+use Rattle.std.specs.Global.{Vec}
+use Rattle.blk_device.specs.Reading.{OnlyRead}
+use Rattle.blk_device.specs.ReadingLaws.{nothing_read, read_on}
+use Rattle.blk_device.specs.declared.device.Region.TheVariants.{Image}
+use Rattle.fs_derive.specs.Chunks.{chunks}
+use Rattle.fs_derive.specs.Lists.{numbers}
+use Rattle.fs_model.specs.declared.claim.Evidence.{Evidence}
+use Rattle.fs_state.specs.Apart.{is_chunk}
+use Rattle.geom.proofs.ApartLemmas.{splits_in}
+use Rattle.geom.specs.Layout.{group_len_of, inode_at}
+use Rattle.geom.specs.Places.{layout}
+use Rattle.inode_pass.specs.Units.{opened_state}
+use Rattle.fork_pass.specs.Passed.{ArePassed, AreChunks, block_inodes, group_inodes, inodes_from, unit_inodes, units_at}
+use Rattle.fork_pass.proofs.PassLemmas.{chunk_at, left_end, left_first, left_found, left_on, list_at, list_end, list_first, row_end, row_first, slot_passed, spread_end, spread_first}
+use Rattle.fork_pass.proofs.unit.pass_group.Goals as goal
+
+pub loop-unit-init : goal.loop-unit-init
+loop-unit-init g c =
+    record {
+      left = λ m e p. left_first (opened_state (layout c.args.geo.now) (m Image)) (group_inodes (layout c.args.geo.now) c.args.g c.args.units.now) (group_inodes (layout c.args.geo.now) c.args.g (drop (0) c.args.units.now)) c.args.sets.now (refl);
+      groups = refl;
+      reading = nothing_read g.D.Device g.met.D.Device.only_now g.met.D.Device.counts_now c.args.dev.now c.args.steps.now;
+      calm = refl;
+    }
+
+pub returns-in_err-pass_unit-clause-reading : goal.returns-in_err-pass_unit-clause-reading
+returns-in_err-pass_unit-clause-reading g c =
+    read_on g.D.Device g.met.D.Device.only_now g.met.D.Device.counts_now c.args.dev.now c.loop-unit.dev c.pass_unit.new.dev c.args.steps.now c.loop-unit.steps c.pass_unit.new.steps c.loop-unit.invariant.reading c.pass_unit.ensures.reading
+
+pub returns-in-Some-clause-reading : goal.returns-in-Some-clause-reading
+returns-in-Some-clause-reading g c =
+    read_on g.D.Device g.met.D.Device.only_now g.met.D.Device.counts_now c.args.dev.now c.loop-unit.dev c.pass_unit.new.dev c.args.steps.now c.loop-unit.steps c.pass_unit.new.steps c.loop-unit.invariant.reading c.pass_unit.ensures.reading
+
+pub returns-in-Some-clause-exact : goal.returns-in-Some-clause-exact
+returns-in-Some-clause-exact g c =
+    λ m e p.
+    let passed = subst (λ (o : Option Evidence). ArePassed (opened_state (layout c.args.geo.now) (m Image)) (unit_inodes (layout c.args.geo.now) c.args.g (get_or c.args.units.now c.loop-unit.unit-index 0)) c.loop-unit.sets c.pass_unit.new.sets o) c.in-Some.is (c.in_ok-pass_unit.ensures.exact m (c.loop-unit.invariant.reading.same ∙ e) (chunk_at (opened_state (layout c.args.geo.now) (m Image)) c.args.g c.args.units.now c.loop-unit.unit-index 0 p c.loop-unit-test.true)) in
+    left_found (opened_state (layout c.args.geo.now) (m Image)) (group_inodes (layout c.args.geo.now) c.args.g c.args.units.now) (group_inodes (layout c.args.geo.now) c.args.g (drop c.loop-unit.unit-index c.args.units.now)) (unit_inodes (layout c.args.geo.now) c.args.g (get_or c.args.units.now c.loop-unit.unit-index 0)) (group_inodes (layout c.args.geo.now) c.args.g (drop (c.loop-unit.unit-index + 1) c.args.units.now)) c.args.sets.now c.loop-unit.sets c.pass_unit.new.sets c.in-Some.found (list_first (unit_inodes (layout c.args.geo.now) c.args.g) c.args.units.now c.loop-unit.unit-index 0 c.loop-unit-test.true) (c.loop-unit.invariant.left m e p) passed
+
+pub loop-unit-preserved : goal.loop-unit-preserved
+loop-unit-preserved g c =
+    record {
+      left = λ m e p.
+          let passed = subst (λ (o : Option Evidence). ArePassed (opened_state (layout c.args.geo.now) (m Image)) (unit_inodes (layout c.args.geo.now) c.args.g (get_or c.args.units.now c.loop-unit.unit-index 0)) c.loop-unit.sets c.pass_unit.new.sets o) c.in-None.is (c.in_ok-pass_unit.ensures.exact m (c.loop-unit.invariant.reading.same ∙ e) (chunk_at (opened_state (layout c.args.geo.now) (m Image)) c.args.g c.args.units.now c.loop-unit.unit-index 0 p c.loop-unit-test.true)) in
+          left_on (opened_state (layout c.args.geo.now) (m Image)) (group_inodes (layout c.args.geo.now) c.args.g c.args.units.now) (group_inodes (layout c.args.geo.now) c.args.g (drop c.loop-unit.unit-index c.args.units.now)) (unit_inodes (layout c.args.geo.now) c.args.g (get_or c.args.units.now c.loop-unit.unit-index 0)) (group_inodes (layout c.args.geo.now) c.args.g (drop (c.loop-unit.unit-index + 1) c.args.units.now)) c.args.sets.now c.loop-unit.sets c.pass_unit.new.sets (list_first (unit_inodes (layout c.args.geo.now) c.args.g) c.args.units.now c.loop-unit.unit-index 0 c.loop-unit-test.true) (c.loop-unit.invariant.left m e p) passed;
+      groups = c.pass_unit.ensures.groups ∙ c.loop-unit.invariant.groups;
+      reading = read_on g.D.Device g.met.D.Device.only_now g.met.D.Device.counts_now c.args.dev.now c.loop-unit.dev c.pass_unit.new.dev c.args.steps.now c.loop-unit.steps c.pass_unit.new.steps c.loop-unit.invariant.reading c.pass_unit.ensures.reading;
+      calm = c.in_ok-pass_unit.ensures.cause ∙ c.loop-unit.invariant.calm;
+    }
+
+pub returns-clause-exact : goal.returns-clause-exact
+returns-clause-exact g c =
+    λ m e p. left_end (opened_state (layout c.args.geo.now) (m Image)) (group_inodes (layout c.args.geo.now) c.args.g c.args.units.now) (group_inodes (layout c.args.geo.now) c.args.g (drop c.loop-unit.unit-index c.args.units.now)) c.args.sets.now c.loop-unit.sets (list_end (unit_inodes (layout c.args.geo.now) c.args.g) c.args.units.now c.loop-unit.unit-index (omega (arith, c.loop-unit-test.false))) (c.loop-unit.invariant.left m e p)

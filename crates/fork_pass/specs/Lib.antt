@@ -1,0 +1,4 @@
+pub mod Passed
+pub mod Pieces
+pub mod Read
+pub mod Sets

@@ -1,0 +1,129 @@
+ghost use Rattle.std.specs.Prelude.{◌≡◌, ◌+◌, ◌*◌, ◌/◌, ◌<◌, ◌≤◌, All, length, true, Some, IfOk};
+ghost use Rattle.blk_device.specs.Causes.{HasCause};
+ghost use Rattle.blk_device.specs.Contents.{Contents};
+ghost use Rattle.blk_device.specs.Reading.{OnlyRead};
+ghost use Rattle.blk_device.specs.declared.device.Region.TheVariants.{Image};
+ghost use Rattle.fork_pass.specs.Passed.{ArePassed, block_inodes, group_inodes, unit_inodes};
+ghost use Rattle.fs_derive.specs.Chunks.{chunks as chunks_of};
+ghost use Rattle.fs_state.specs.Apart.{is_chunk};
+ghost use Rattle.geom.specs.Layout.{group_len_of, inode_at};
+ghost use Rattle.geom.specs.Places.{HasBlock, layout};
+ghost use Rattle.inode_pass.specs.Stops.{is_failed};
+ghost use Rattle.inode_pass.specs.Units.{opened_state};
+
+use crate::inode::see_slot;
+use blk_device::Device;
+use byte_fields::Steps;
+use fs_model::Evidence;
+use geom::{Geometry, InodePlace};
+use inode_pass::{PassStop, load_block};
+use std::alloc::Global;
+use std::sync::ledger::Ledger;
+use unit_plan::ClaimSet;
+
+// The inodes of a block, and the blocks of a unit.
+const BLOCK_INODES: u32 = 8;
+
+const UNIT_BLOCKS: u32 = 8;
+
+// The number of the inode in a slot of a group's block.
+fn number_of(geo: &Geometry, g: u32, b: u32, slot: u32) -> u64
+    requires block { HasBlock geo.now g b }
+    requires slot { slot < 8 }
+    ensures { result ≡ inode_at (layout geo.now) g b slot }
+{
+    geo.inode_number(InodePlace {
+        group: g,
+        block: b,
+        slot: slot as u8,
+    })
+}
+
+// Passes the eight inodes of a group's block, which is read once.
+fn pass_block<D: Device, L: Ledger>(
+    alloc: Global,
+    dev: &mut D,
+    geo: &Geometry,
+    g: u32,
+    b: u32,
+    sets: &mut [ClaimSet],
+    steps: &mut Steps<L>,
+) -> Result<Option<Evidence>, PassStop>
+    requires group { g < geo.now.agcount }
+    requires block { b < group_len_of (layout geo.now) g }
+    requires room { geo.now.dblocks ≤ D.blocks dev.old Image }
+    requires groups { length sets.old ≡ geo.now.agcount }
+    ensures exact { IfOk result (λ found. (c : Contents) → D.content dev.old ≡ Some c → is_chunk (opened_state (layout geo.now) (c Image)) g (b / 8) ≡ true → ArePassed (opened_state (layout geo.now) (c Image)) (block_inodes (layout geo.now) g b) sets.old sets.new found) }
+    ensures groups { length sets.new ≡ length sets.old }
+    ensures reading { OnlyRead D.Device dev.old dev.new steps.old steps.new }
+    ensures cause { HasCause is_failed (D.faults dev.old) (D.faults dev.new) result }
+{
+    let at = geo.device_block(g, b);
+    let block = load_block(dev, at, steps)?;
+    for slot in 0..BLOCK_INODES {
+        let ino = number_of(geo, g, b, slot);
+        match see_slot(alloc, dev, geo, &block, ino, slot, sets, steps)? {
+            None => {}
+            Some(found) => return Ok(Some(found)),
+        }
+    }
+    Ok(None)
+}
+
+// Passes the 64 inodes of a unit.
+fn pass_unit<D: Device, L: Ledger>(
+    alloc: Global,
+    dev: &mut D,
+    geo: &Geometry,
+    g: u32,
+    unit: u32,
+    sets: &mut [ClaimSet],
+    steps: &mut Steps<L>,
+) -> Result<Option<Evidence>, PassStop>
+    requires group { g < geo.now.agcount }
+    requires inside { 8 * unit + 7 < group_len_of (layout geo.now) g }
+    requires room { geo.now.dblocks ≤ D.blocks dev.old Image }
+    requires groups { length sets.old ≡ geo.now.agcount }
+    ensures exact { IfOk result (λ found. (c : Contents) → D.content dev.old ≡ Some c → is_chunk (opened_state (layout geo.now) (c Image)) g unit ≡ true → ArePassed (opened_state (layout geo.now) (c Image)) (unit_inodes (layout geo.now) g unit) sets.old sets.new found) }
+    ensures groups { length sets.new ≡ length sets.old }
+    ensures reading { OnlyRead D.Device dev.old dev.new steps.old steps.new }
+    ensures cause { HasCause is_failed (D.faults dev.old) (D.faults dev.new) result }
+{
+    for j in 0..UNIT_BLOCKS {
+        match pass_block(alloc, dev, geo, g, UNIT_BLOCKS * unit + j, sets, steps)? {
+            None => {}
+            Some(found) => return Ok(Some(found)),
+        }
+    }
+    Ok(None)
+}
+
+/// Passes the inodes of these units of group `g`, which are its chunks, in their order: what their
+/// forks claim is put into the sets of the groups, up to the first fork that can't be read
+/// (XFS Online Fsck Design, "Inode Scans").
+pub fn pass_group<D: Device, L: Ledger>(
+    alloc: Global,
+    dev: &mut D,
+    geo: &Geometry,
+    g: u32,
+    units: &[u32],
+    sets: &mut [ClaimSet],
+    steps: &mut Steps<L>,
+) -> Result<Option<Evidence>, PassStop>
+    requires group { g < geo.now.agcount }
+    requires inside { All (λ u. 8 * u + 7 < group_len_of (layout geo.now) g) units.now }
+    requires room { geo.now.dblocks ≤ D.blocks dev.old Image }
+    requires groups { length sets.old ≡ geo.now.agcount }
+    ensures exact { IfOk result (λ found. (c : Contents) → D.content dev.old ≡ Some c → units.now ≡ chunks_of (opened_state (layout geo.now) (c Image)) g → ArePassed (opened_state (layout geo.now) (c Image)) (group_inodes (layout geo.now) g units.now) sets.old sets.new found) }
+    ensures groups { length sets.new ≡ length sets.old }
+    ensures reading { OnlyRead D.Device dev.old dev.new steps.old steps.new }
+    ensures cause { HasCause is_failed (D.faults dev.old) (D.faults dev.new) result }
+{
+    for unit in units {
+        match pass_unit(alloc, dev, geo, g, *unit, sets, steps)? {
+            None => {}
+            Some(found) => return Ok(Some(found)),
+        }
+    }
+    Ok(None)
+}
