@@ -1,10 +1,9 @@
 -- Parts of a check, one after the other: their events, and which of their units passed.
-use Rattle.std.proofs.Common.{◌≡◌, ℕ, ◌+◌, ◌<◌, ◌≤◌, Bool, true, false, List, [], ◌∷◌, ◌++◌, length, Result, Ok, Err, IsErr, OnOk, refl, sym, ◌∙◌, ap, subst, append_assoc, arith}
-use Rattle.std.specs.Prelude.{IsErrAnd}
+use Rattle.std.proofs.Common.{◌≡◌, ◌<◌, Bool, List, [], ◌∷◌, ◌++◌, length, Result, Ok, Err, OnOk, refl, sym, ◌∙◌, ap, subst, append_assoc, arith}
 use Rattle.std.proofs.lemmas.List.{append-nil}
 use Rattle.fs_model.specs.declared.entry.Entry.{Entry}
 use Rattle.space_check.proofs.EventLemmas.{both_done, cut_off, first_stops, next_stops, none_done, not_begun, one_done, then_stops}
-use Rattle.space_check.specs.Events.{Event, Moment, AreDone, StopsIn, most_entries}
+use Rattle.space_check.specs.Events.{Event, StopsIn, most_entries}
 use Rattle.space_check.specs.Groups.{event}
 use Rattle.space_check.specs.Progress.{Adds, Begins, IsOutside}
 use Rattle.space_check.specs.declared.halt.Halt.{Halt}

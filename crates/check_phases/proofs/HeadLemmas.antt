@@ -1,6 +1,5 @@
 -- The heads of all groups, group by group, and the first of them that is refused.
-use Rattle.std.proofs.Common.{◌≡◌, ℕ, zero, suc, ◌+◌, ◌<◌, ◌≤◌, List, [], ◌∷◌, ◌++◌, length, Option, Some, None, Result, Ok, Err, refl, sym, ◌∙◌, ap, subst, arith}
-use Rattle.ag_headers.specs.Agf.{agf_fault}
+use Rattle.std.proofs.Common.{◌≡◌, ℕ, ◌+◌, List, [], ◌∷◌, ◌++◌, length, Some, None, Err, refl, sym, subst, arith}
 use Rattle.ag_headers.specs.Agfl.{agfl_fault}
 use Rattle.ag_headers.specs.Agi.{agi_fault}
 use Rattle.ag_headers.specs.declared.fault.HeadFault.{HeadFault}
@@ -13,7 +12,7 @@ use Rattle.group_trees.specs.declared.accept.HeadsStop.{HeadsStop}
 use Rattle.group_trees.specs.declared.accept.HeadsStop.TheVariants as stops
 use Rattle.group_trees.specs.declared.heads.GroupHeads.{GroupHeads}
 use Rattle.space_check.specs.Checked.{bad_head, heads_at, of_head, or_else}
-use Rattle.space_check.specs.Progress.{IsOutside, MeetsHead}
+use Rattle.space_check.specs.Progress.{MeetsHead}
 use Rattle.space_check.proofs.HeadLemmas.{outside_heads}
 use Rattle.space_check.specs.declared.halt.Halt.{Halt}
 use Rattle.tree_walk.specs.Trails.{LieInside}

@@ -1,5 +1,5 @@
 -- Groups of a phase, one after the other.
-use Rattle.std.proofs.Common.{◌≡◌, ℕ, zero, suc, ◌+◌, ◌-◌, ◌<◌, ◌≤◌, Bool, List, [], ◌∷◌, ◌++◌, get_or, length, Result, Ok, Err, refl, sym, ◌∙◌, ap, subst, append_assoc, arith}
+use Rattle.std.proofs.Common.{◌≡◌, ℕ, zero, suc, ◌+◌, ◌-◌, ◌<◌, ◌≤◌, List, [], ◌∷◌, ◌++◌, get_or, length, Ok, Err, refl, sym, ◌∙◌, ap, subst, append_assoc, arith}
 use Rattle.std.specs.Prelude.{flat_map, Option}
 use Rattle.std.proofs.lemmas.List.{append-nil}
 use Rattle.fs_derive.specs.Lists.{numbers}
@@ -8,7 +8,6 @@ use Rattle.fs_state.specs.Kinds.{Image}
 use Rattle.fs_state.specs.State.{State}
 use Rattle.geom.specs.Layout.{Layout, group_len_of}
 use Rattle.group_trees.specs.declared.heads.GroupHeads.{GroupHeads}
-use Rattle.space_check.specs.Events.{Event}
 use Rattle.space_check.specs.declared.halt.Halt.{Halt}
 use Rattle.tree_walk.specs.Trails.{LieInside}
 use Rattle.check_phases.specs.Checks.{AreAccepted, AreHeads, Checks, ChecksPhase, IsHeadsOf}

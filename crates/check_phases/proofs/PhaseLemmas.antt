@@ -1,12 +1,12 @@
 -- The three phases, each by what the one before left, are a session over the state.
-use Rattle.std.proofs.Common.{◌≡◌, ℕ, zero, suc, ◌+◌, ◌-◌, ◌<◌, ◌≤◌, ◌⊎◌, Bool, true, false, List, [], ◌∷◌, ◌++◌, get_or, length, map, Option, Some, None, inl, inr, refl, sym, ◌∙◌, ap, subst, append_assoc, arith}
+use Rattle.std.proofs.Common.{◌≡◌, ℕ, zero, suc, ◌+◌, ◌<◌, ◌≤◌, Bool, true, false, List, [], ◌∷◌, ◌++◌, get_or, length, map, Option, Some, None, inl, inr, refl, sym, ◌∙◌, ap, append_assoc, arith}
 use Rattle.std.specs.Prelude.{◌==◌, ◌&&◌, flat_map, if◌then◌else◌}
 use Rattle.std.proofs.lemmas.Bool.{eqb-true, eq-eqb, cases_Bool, cases_lt, false≢true}
 use Rattle.fs_derive.specs.Contradiction.{evidence}
 use Rattle.fs_derive.specs.Derive.{derive}
 use Rattle.fs_derive.specs.Faults.{faults, faults_of_counter, index_faults}
 use Rattle.fs_derive.specs.Lists.{numbers}
-use Rattle.fs_derive.specs.Session.{Place, first_fallen, first_unready, is_at, is_same_unit, needed, stands, unit_order}
+use Rattle.fs_derive.specs.Session.{Place, first_fallen, first_unready, is_same_unit, needed, stands}
 use Rattle.fs_model.specs.declared.claim.Evidence.{Evidence}
 use Rattle.fs_model.specs.declared.entry.Entry.{Entry}
 use Rattle.fs_model.specs.declared.fault.Counter.TheVariants.{RmapBlocks}
@@ -18,11 +18,11 @@ use Rattle.fs_state.specs.State.{Readable, Reading, State, Unreadable}
 use Rattle.rmap_recs.specs.declared.records.RmapRec.{RmapRec}
 use Rattle.sblock.specs.declared.kind.Kind.TheVariants.{Rmap}
 use Rattle.space_check.specs.Events.{Event}
-use Rattle.check_phases.specs.Checks.{AreReadable, HasMappings}
+use Rattle.check_phases.specs.Checks.{HasMappings}
 use Rattle.check_phases.specs.Entries.{passes_after, passes_by, passes_judged}
 use Rattle.quiet_check.specs.Entries.{entries_after}
 use Rattle.check_phases.specs.Phases.{Inodes, Mappings, Phase, Space, group_events, inode_lacked, lacks_inodes, lacks_mappings, lacks_nothing, mapping_lacked, phase_events, phase_passes, places, unit_event, units_in}
-use Rattle.check_phases.specs.Session.{PassedCanBeRead, PhasesAreSession, check_events, first_fallen_from, inode_fallen, inodes_passed, mappings_passed, phases_events, session_events, with_entries}
+use Rattle.check_phases.specs.Session.{PassedCanBeRead, PhasesAreSession, check_events, first_fallen_from, inode_fallen, mappings_passed, phases_events, session_events, with_entries}
 use Rattle.check_phases.proofs.OrderLemmas.{phases_in_order}
 use Rattle.check_phases.proofs.SessionLemmas.{AreOther, AreReady, others_silent, past_units, ready_past, ready_session, said_after, units_events}
 

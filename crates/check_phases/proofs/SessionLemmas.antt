@@ -1,15 +1,13 @@
 -- The phases, each by what the one before left, do what a session over the state does.
-use Rattle.std.proofs.Common.{◌≡◌, ℕ, zero, suc, ◌+◌, ◌-◌, ◌<◌, ◌≤◌, ◌⊎◌, Bool, true, false, List, [], ◌∷◌, ◌++◌, get_or, length, map, Option, Some, None, inl, inr, refl, sym, ◌∙◌, ap, subst, append_assoc, arith}
-use Rattle.std.specs.Prelude.{◌==◌, ◌&&◌, not, flat_map, if◌then◌else◌}
+use Rattle.std.proofs.Common.{◌≡◌, ℕ, Bool, true, false, List, [], ◌∷◌, ◌++◌, length, map, Option, Some, None, refl, sym, ◌∙◌, ap}
+use Rattle.std.specs.Prelude.{◌==◌, not, if◌then◌else◌}
 use Rattle.std.specs.List.{filter}
-use Rattle.std.proofs.lemmas.Bool.{eqb-true, eq-eqb, cases_Bool, false≢true}
-use Rattle.std.proofs.lemmas.List.{append-nil}
 use Rattle.fs_derive.specs.Contradiction.{evidence}
 use Rattle.fs_derive.specs.Derive.{derive}
 use Rattle.fs_derive.specs.Faults.{counter_fault, faults, faults_of_counter, faults_of_kind, index_faults, kind_of_fault, wanted}
-use Rattle.fs_derive.specs.Kinds.{counters_of, kind_of_counter, kinds_of, shown_of, unit_of}
-use Rattle.fs_derive.specs.Lists.{numbers, only_if}
-use Rattle.fs_derive.specs.Session.{Place, first_fallen, first_unready, is_at, is_passed, is_same_unit, needed, stands, unit_order}
+use Rattle.fs_derive.specs.Kinds.{kind_of_counter, shown_of, unit_of}
+use Rattle.fs_derive.specs.Lists.{only_if}
+use Rattle.fs_derive.specs.Session.{Place, first_unready, is_at, is_passed, stands}
 use Rattle.fs_model.specs.declared.claim.Evidence.{Evidence}
 use Rattle.fs_model.specs.declared.entry.Entry.{Entry}
 use Rattle.fs_model.specs.declared.entry.Entry.TheVariants as entries
@@ -30,8 +28,8 @@ use Rattle.xref_scrub.specs.Differences.{comes_before, differences, lacks}
 use Rattle.xref_scrub.specs.Merging.{from, merged, until}
 use Rattle.check_phases.specs.Entries.{passes_after, passes_by, passes_judged}
 use Rattle.quiet_check.specs.Entries.{entries_after, entries_by, judged_entries, unit_entries}
-use Rattle.check_phases.specs.Phases.{Inodes, Mappings, Space, group_events, group_passes, inode_lacked, lacks_inodes, lacks_mappings, lacks_nothing, mapping_lacked, phase_events, phase_passes, unit_event}
-use Rattle.check_phases.specs.Session.{check_events, first_fallen_from, inode_fallen, inodes_passed, mappings_passed, phases_events, session_events, with_entries}
+use Rattle.check_phases.specs.Phases.{unit_event}
+use Rattle.check_phases.specs.Session.{session_events, with_entries}
 
 -- ---- each fault of a unit is of its kinds
 

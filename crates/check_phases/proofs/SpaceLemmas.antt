@@ -1,5 +1,5 @@
 -- The reverse mappings that free space and reference counts are read off.
-use Rattle.std.proofs.Common.{◌≡◌, ℕ, Bool, true, false, List, get_or, Option, Some, None, Ok, Err, refl, ap, sym, ◌∙◌}
+use Rattle.std.proofs.Common.{◌≡◌, ℕ, Bool, true, false, List, get_or, Option, Some, None, refl, ap, sym, ◌∙◌}
 use Rattle.ag_headers.specs.declared.agf.Agf.{Agf}
 use Rattle.fs_derive.specs.Session.{Place}
 use Rattle.fs_state.specs.Kinds.{Image, heads_of}

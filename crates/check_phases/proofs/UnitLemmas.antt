@@ -1,5 +1,5 @@
 -- One unit, and both of free space and reference counts, as they are checked or skipped.
-use Rattle.std.proofs.Common.{◌≡◌, ℕ, ◌<◌, Bool, true, false, List, [], ◌∷◌, ◌++◌, length, Option, Some, None, Result, Ok, Err, OnOk, refl, sym, ◌∙◌, ap, subst}
+use Rattle.std.proofs.Common.{◌≡◌, ℕ, ◌<◌, Bool, false, List, [], ◌∷◌, ◌++◌, length, Option, Some, None, Result, Ok, Err, OnOk, subst}
 use Rattle.fs_derive.specs.Session.{Place}
 use Rattle.fs_model.specs.declared.entry.Entry.{Entry}
 use Rattle.fs_model.specs.declared.unit.Unit.{Unit as ScrubUnit}
@@ -8,10 +8,9 @@ use Rattle.fs_state.specs.State.{State}
 use Rattle.quiet_check.specs.Judged.{IsJudged}
 use Rattle.quiet_check.specs.declared.judge.Judged.{Judged}
 use Rattle.space_check.specs.Events.{most_entries}
-use Rattle.space_check.specs.Groups.{event}
 use Rattle.space_check.specs.Progress.{Adds, Begins, IsOutside}
 use Rattle.space_check.specs.declared.halt.Halt.{Halt}
-use Rattle.check_phases.specs.Checks.{Checks, ChecksSpace, ChecksUnit}
+use Rattle.check_phases.specs.Checks.{ChecksSpace, ChecksUnit}
 use Rattle.check_phases.specs.Entries.{passes_after, passes_as}
 use Rattle.quiet_check.specs.Entries.{entries_after, entries_of}
 use Rattle.check_phases.specs.Phases.{unit_event}

@@ -2,10 +2,9 @@
 -- allow.
 use Rattle.std.proofs.Common.{◌≡◌, ℕ, Bool, true, false, List, [], ◌∷◌, ◌++◌, length, map, Option, Some, None, refl, sym, ◌∙◌, ap, subst, append_assoc}
 use Rattle.std.specs.Prelude.{◌==◌, if◌then◌else◌}
-use Rattle.std.proofs.lemmas.List.{append-nil}
 use Rattle.fs_derive.specs.Contradiction.{evidence}
 use Rattle.fs_derive.specs.Faults.{faults}
-use Rattle.fs_derive.specs.Session.{AreOf, FitsVerdict, Place, VerdictsFit, first_unready, is_cut, is_refused, unit_order, verdict_places}
+use Rattle.fs_derive.specs.Session.{AreOf, FitsVerdict, Place, VerdictsFit, first_unready, is_refused, unit_order, verdict_places}
 use Rattle.fs_derive.specs.declared.plan.Plan.TheVariants.{Check}
 use Rattle.fs_model.specs.declared.claim.Evidence.{Evidence}
 use Rattle.fs_model.specs.declared.entry.Entry.{Entry}

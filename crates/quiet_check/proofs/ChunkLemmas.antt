@@ -1,9 +1,9 @@
 -- The units that were seen, and the chunks among them, are those of the state.
-use Rattle.std.proofs.Common.{◌≡◌, ℕ, zero, suc, ◌+◌, ◌*◌, ◌/◌, ◌<◌, ◌≤◌, Bool, true, false, List, [], ◌∷◌, ◌++◌, map, refl, ap, sym, subst, ◌∙◌, inl, inr, arith, Option, Some, None}
-use Rattle.std.specs.Prelude.{◌-◌, ◌==◌, ◌&&◌, ◌||◌, ◌^◌, nat_le, nat_lt, if◌then◌else◌}
+use Rattle.std.proofs.Common.{◌≡◌, ℕ, zero, suc, ◌+◌, ◌*◌, ◌/◌, ◌<◌, ◌≤◌, Bool, true, false, List, [], ◌∷◌, ◌++◌, map, refl, ap, sym, subst, ◌∙◌, arith, Option, Some, None}
+use Rattle.std.specs.Prelude.{◌==◌, ◌&&◌, ◌||◌, ◌^◌, nat_le, nat_lt, if◌then◌else◌}
 use Rattle.std.specs.List.{filter, list_any}
 use Rattle.std.specs.Option.{is_some}
-use Rattle.std.proofs.lemmas.Bool.{cases_Bool, eqb-true, lt-ltb, ltb-true, false≢true}
+use Rattle.std.proofs.lemmas.Bool.{eqb-true, lt-ltb, false≢true}
 use Rattle.byte_fields.specs.Below.{all_below}
 use Rattle.fs_derive.specs.Chunks.{chunks}
 use Rattle.fs_derive.specs.Contradiction.{bad_chunk, bad_in_unit}
@@ -12,15 +12,14 @@ use Rattle.fs_derive.specs.Lists.{first_of_all, numbers}
 use Rattle.fs_model.specs.declared.claim.Evidence.{Evidence}
 use Rattle.fs_state.specs.Apart.{has_unit, ino_lists, is_chunk, is_listed, rmap_lists, unit_verifies}
 use Rattle.fs_state.specs.Kinds.{Image}
-use Rattle.fs_state.specs.State.{State, recs_of}
+use Rattle.fs_state.specs.State.{recs_of}
 use Rattle.geom.specs.Layout.{Layout, group_len_of}
 use Rattle.ino_recs.specs.declared.chunk.InoRec.{InoRec}
-use Rattle.index_derive.specs.Inodes.{mask_in}
 use Rattle.index_derive.specs.Units.{is_listed_by}
 use Rattle.rmap_recs.specs.declared.records.RmapRec.{RmapRec}
 use Rattle.run_sets.proofs.SetLemmas.{holds_below}
 use Rattle.sblock.specs.declared.kind.Kind.TheVariants.{Rmap, Ino}
-use Rattle.inode_pass.specs.Units.{AreSeen, IsSeen, opened_state, unit_numbers, units_in}
+use Rattle.inode_pass.specs.Units.{AreSeen, opened_state, unit_numbers, units_in}
 use Rattle.inode_pass.specs.declared.unit.UnitSeen.{UnitSeen}
 use Rattle.quiet_check.specs.Chunks.{bad_where, chunk_numbers}
 use Rattle.run_sets.specs.Runs.{EndWithin, holds, in_front, runs_below, runs_from}

@@ -1,5 +1,5 @@
 -- What was found of a unit, as entries, is what the state decides.
-use Rattle.std.proofs.Common.{◌≡◌, ℕ, List, [], ◌++◌, Option, Some, None, refl, ap, sym, ◌∙◌}
+use Rattle.std.proofs.Common.{◌≡◌, ℕ, List, [], ◌++◌, Option, refl, ap, sym, ◌∙◌}
 use Rattle.fs_derive.specs.Contradiction.{evidence}
 use Rattle.fs_derive.specs.Faults.{faults}
 use Rattle.fs_derive.specs.Session.{first_unready, needed}

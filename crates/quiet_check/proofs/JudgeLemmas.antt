@@ -1,8 +1,8 @@
 -- The faults of a group's inode btrees are those of the state, and what decides a unit.
-use Rattle.std.proofs.Common.{◌≡◌, ℕ, zero, suc, ◌+◌, ◌*◌, ◌/◌, ◌%◌, ◌^◌, ◌<◌, ◌≤◌, Bool, true, false, List, [], ◌∷◌, ◌++◌, All, length, map, refl, ap, sym, subst, ◌∙◌, arith, append_assoc, Option, Some, None, Result, Ok, Err, IfErr}
-use Rattle.std.specs.Prelude.{◌-◌, ◌==◌, nat_lt, sum_by, if◌then◌else◌}
+use Rattle.std.proofs.Common.{◌≡◌, ℕ, zero, suc, ◌+◌, ◌*◌, ◌/◌, ◌^◌, ◌<◌, ◌≤◌, Bool, true, false, List, [], ◌∷◌, ◌++◌, All, length, map, refl, ap, sym, subst, ◌∙◌, arith, append_assoc, Option, Some, None, Result, Ok, Err, IfErr}
+use Rattle.std.specs.Prelude.{nat_lt, sum_by, if◌then◌else◌}
 use Rattle.std.specs.List.{filter}
-use Rattle.std.proofs.lemmas.Bool.{lt-ltb, ltb-true}
+use Rattle.std.proofs.lemmas.Bool.{lt-ltb}
 use Rattle.std.proofs.lemmas.List.{append-nil}
 use Rattle.std.proofs.lemmas.List.Elements.{All-cons, All-nil}
 use Rattle.std.proofs.lemmas.List.Sums.{sum_by-cons}
@@ -61,7 +61,7 @@ use Rattle.sblock.specs.Form.{Form}
 use Rattle.sblock.specs.declared.block.Bounds.{Bounds}
 use Rattle.std.specs.Global.{Vec}
 use Rattle.std.specs.Option.{is_some}
-use Rattle.sblock.specs.Lists.{IsAhead, Rises}
+use Rattle.sblock.specs.Lists.{IsAhead}
 use Rattle.sblock.specs.declared.kind.Kind.TheVariants.{Ino, Fino}
 use Rattle.xref_scrub.specs.Shown.{fino_shown, ino_shown}
 

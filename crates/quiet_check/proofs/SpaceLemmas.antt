@@ -1,6 +1,6 @@
 -- The faults of a group's free space and reference counts, and the evidence that stands before them, are those of the
 -- state that the image stands for.
-use Rattle.std.proofs.Common.{◌≡◌, ℕ, ◌+◌, ◌*◌, ◌%◌, ◌^◌, ◌<◌, ◌≤◌, Bool, true, false, List, [], ◌∷◌, ◌++◌, length, refl, ap, sym, subst, ◌∙◌, arith, append_assoc, Option, Some, None, Result, Ok, Err}
+use Rattle.std.proofs.Common.{◌≡◌, ℕ, ◌+◌, ◌%◌, ◌^◌, ◌<◌, ◌≤◌, Bool, true, false, List, [], ◌∷◌, ◌++◌, length, refl, ap, sym, subst, ◌∙◌, arith, append_assoc, Option, Some, Ok, Err}
 use Rattle.std.specs.Prelude.{⊤, ◌-◌, ◌==◌, not, if◌then◌else◌}
 use Rattle.std.proofs.lemmas.List.{append-nil}
 use Rattle.ag_headers.specs.declared.agf.Agf.{Agf}
@@ -17,11 +17,10 @@ use Rattle.fs_model.specs.declared.fault.Counter.{Counter}
 use Rattle.fs_model.specs.declared.fault.Counter.TheVariants.{Freeblks, Longest, Btreeblks, RefcountBlocks}
 use Rattle.fs_model.specs.declared.fault.Fault.{Fault}
 use Rattle.fs_model.specs.declared.fault.Fault.TheVariants as faulty
-use Rattle.fs_model.specs.declared.unit.Unit.{Unit as ScrubUnit}
 use Rattle.fs_model.specs.declared.unit.Unit.TheVariants as units
-use Rattle.fs_state.specs.Kinds.{Image, form_of, heads_of}
+use Rattle.fs_state.specs.Kinds.{Image, form_of}
 use Rattle.fs_state.specs.Read.{Read, group_of}
-use Rattle.fs_state.specs.State.{Reading, Readable, State, Unreadable, recs_of}
+use Rattle.fs_state.specs.State.{Reading, Readable, recs_of}
 use Rattle.geom.specs.Apart.{HasFitting}
 use Rattle.geom.specs.Layout.{Layout, group_len_of}
 use Rattle.group_trees.proofs.ReadLemmas.{group_short}
@@ -29,7 +28,7 @@ use Rattle.group_trees.proofs.StateLemmas.{bno_said, cnt_said, refc_said, rmap_s
 use Rattle.group_trees.specs.Trees.{read_as, tree_by, tree_claimed, tree_walked}
 use Rattle.inode_pass.specs.Units.{opened_state}
 use Rattle.quiet_check.specs.Judged.{Decided, IsJudged}
-use Rattle.quiet_check.specs.Space.{IsFreeDecided, IsFreeJudged, IsMapped, IsSharedDecided, IsSharedJudged, free_evidence, later_read, shared_evidence}
+use Rattle.quiet_check.specs.Space.{IsFreeDecided, IsMapped, IsSharedDecided, free_evidence, later_read, shared_evidence}
 use Rattle.quiet_check.specs.declared.judge.Judged.{Judged}
 use Rattle.rmap_recs.specs.Rmap.{rmap_form}
 use Rattle.rmap_recs.specs.RmapLaws.{lawful_rmap}

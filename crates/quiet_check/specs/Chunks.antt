@@ -1,5 +1,5 @@
 -- Chunks among the units that were seen, and bad cores among them.
-use Rattle.std.specs.Prelude.{ℕ, Bool, ◌&&◌, List, [], ◌∷◌, flat_map, Option, None, if◌then◌else◌}
+use Rattle.std.specs.Prelude.{ℕ, ◌&&◌, List, [], ◌∷◌, flat_map, Option, None, if◌then◌else◌}
 use Rattle.std.specs.Option.{is_some}
 use Rattle.fs_model.specs.declared.claim.Evidence.{Evidence}
 use Rattle.inode_pass.specs.declared.unit.UnitSeen.{UnitSeen}

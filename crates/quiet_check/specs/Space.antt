@@ -1,5 +1,5 @@
 -- What the trees of a group's free space and reference counts say against their derivation, and how both are judged.
-use Rattle.std.specs.Prelude.{◌≡◌, ℕ, List, [], ◌∷◌, length, Option, Some, None, Ok, Err}
+use Rattle.std.specs.Prelude.{◌≡◌, ℕ, List, [], ◌∷◌, length, Option, None, Ok, Err}
 use Rattle.ag_headers.specs.declared.agf.Agf.{Agf}
 use Rattle.fs_derive.specs.Contradiction.{later_fault}
 use Rattle.fs_derive.specs.Lists.{first_of_all}

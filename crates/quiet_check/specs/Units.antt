@@ -1,5 +1,5 @@
 -- The units of a group that its btrees list, as the code has them.
-use Rattle.std.specs.Prelude.{◌≡◌, ℕ, ◌/◌, List, [], ◌∷◌, Option, None, if◌then◌else◌}
+use Rattle.std.specs.Prelude.{◌≡◌, ℕ, ◌/◌, [], ◌∷◌, Option, None, if◌then◌else◌}
 use Rattle.fs_derive.specs.Contradiction.{bad_block, later_in}
 use Rattle.fs_derive.specs.Lists.{first_of_all}
 use Rattle.fs_model.specs.declared.claim.Evidence.{Evidence}

@@ -15,7 +15,7 @@ use std::sync::ledger::{Blank, Ledger};
 use std::test::Fail;
 
 // A device with a new image of so many groups of 64 blocks, or one of 256.
-fn fresh(alloc: Global, groups: u32, len: u32) -> Option<MemDevice> {
+pub(crate) fn fresh(alloc: Global, groups: u32, len: u32) -> Option<MemDevice> {
     if groups > 4 || len < 64 || len > 256 {
         return None;
     }
@@ -31,7 +31,7 @@ fn fresh(alloc: Global, groups: u32, len: u32) -> Option<MemDevice> {
 }
 
 // The block as the device reads it.
-fn block_at(device: &mut MemDevice, at: u64) -> Option<Block> {
+pub(crate) fn block_at(device: &mut MemDevice, at: u64) -> Option<Block> {
     if at >= device.size(Region::Image) {
         return None;
     }
@@ -43,7 +43,7 @@ fn block_at(device: &mut MemDevice, at: u64) -> Option<Block> {
 }
 
 // Changes one byte of a block, and leaves its checksum.
-fn change_byte(device: &mut MemDevice, at: u64, place: usize) -> bool {
+pub(crate) fn change_byte(device: &mut MemDevice, at: u64, place: usize) -> bool {
     let Some(mut block) = block_at(device, at) else {
         return false;
     };
@@ -89,7 +89,7 @@ fn geometry_of(device: &mut MemDevice) -> Option<Geometry> {
 }
 
 // What the check of the inodes of a group adds, by what block 0 states.
-fn inodes_of(alloc: Global, device: &mut MemDevice, g: u32) -> Option<Vec<Entry>> {
+pub(crate) fn inodes_of(alloc: Global, device: &mut MemDevice, g: u32) -> Option<Vec<Entry>> {
     match geometry_of(device) {
         Some(geo) => counted(alloc, device, &geo, g),
         None => None,

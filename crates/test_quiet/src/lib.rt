@@ -2,4 +2,6 @@
 #![tactic(auto)]
 
 #[cfg(test)]
+mod damages;
+#[cfg(test)]
 mod inodes;

@@ -1,4 +1,4 @@
-use Rattle.std.proofs.Common.{List, ◌∙◌, subst, sym, arith}
+use Rattle.std.proofs.Common.{List, subst, sym, arith}
 use Rattle.blk_device.specs.declared.device.Region.TheVariants.{Image}
 use Rattle.geom.specs.Places.{layout}
 use Rattle.group_trees.specs.declared.heads.GroupHeads.{GroupHeads}

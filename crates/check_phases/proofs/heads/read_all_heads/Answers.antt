@@ -1,4 +1,4 @@
-use Rattle.std.proofs.Common.{◌≡◌, ◌-◌, ◌+◌, List, [], length, ◌∙◌, sym, ap, refl, subst, arith}
+use Rattle.std.proofs.Common.{◌≡◌, ◌-◌, ◌+◌, List, length, ◌∙◌, sym, ap, refl, subst, arith}
 use Rattle.std.specs.Global.{Vec}
 use Rattle.blk_device.specs.declared.device.Region.TheVariants.{Image}
 use Rattle.blk_device.specs.ReadingLaws.{nothing_read, read_on}

@@ -1,4 +1,4 @@
-use Rattle.std.proofs.Common.{◌≡◌, ◌∙◌, None, Err}
+use Rattle.std.proofs.Common.{None}
 use Rattle.blk_device.specs.declared.device.Region.TheVariants.{Image}
 use Rattle.fs_model.specs.declared.unit.Unit.TheVariants as units
 use Rattle.geom.specs.Places.{layout}

@@ -1,4 +1,4 @@
-use Rattle.std.proofs.Common.{◌≡◌, ◌-◌, ◌+◌, ◌≤◌, ◌∙◌, sym, refl, arith}
+use Rattle.std.proofs.Common.{◌-◌, ◌∙◌, sym, refl, arith}
 use Rattle.blk_device.specs.declared.device.Region.TheVariants.{Image}
 use Rattle.blk_device.specs.ReadingLaws.{nothing_read, read_on}
 use Rattle.geom.specs.Places.{layout}

@@ -1,4 +1,4 @@
-use Rattle.std.proofs.Common.{◌≡◌, ◌∙◌, None, Err}
+use Rattle.std.proofs.Common.{◌∙◌, None}
 use Rattle.blk_device.specs.declared.device.Region.TheVariants.{Image}
 use Rattle.blk_device.specs.ReadingLaws.{read_on}
 use Rattle.geom.specs.Places.{layout}

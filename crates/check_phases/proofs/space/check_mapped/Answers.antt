@@ -1,4 +1,4 @@
-use Rattle.std.proofs.Common.{◌≡◌, ◌∙◌, None, Err, Ok, ap, subst, sym}
+use Rattle.std.proofs.Common.{◌∙◌, None, Ok, ap, subst}
 use Rattle.blk_device.specs.ReadingLaws.{read_on}
 use Rattle.blk_device.specs.declared.device.Region.TheVariants.{Image}
 use Rattle.geom.specs.Places.{layout}
@@ -6,9 +6,7 @@ use Rattle.inode_pass.specs.Units.{opened_state}
 use Rattle.rmap_recs.specs.Rmap.{rmap_form}
 use Rattle.space_check.proofs.EventLemmas.{with_err}
 use Rattle.space_check.specs.Groups.{tree_of}
-use Rattle.space_check.specs.Progress.{IsOutside}
 use Rattle.space_check.specs.Reads.{IsReading, reading_of}
-use Rattle.space_check.specs.declared.halt.Halt.{Halt}
 use Rattle.tree_blocks.specs.declared.tree.TreeAt.{TreeAt}
 use Rattle.check_phases.specs.Checks.{ChecksSpace}
 use Rattle.check_phases.proofs.SpaceLemmas.{never_bad}

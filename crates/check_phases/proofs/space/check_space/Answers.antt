@@ -1,4 +1,4 @@
-use Rattle.std.proofs.Common.{◌≡◌, ◌∙◌, Option, subst, sym}
+use Rattle.std.proofs.Common.{◌∙◌, Option, subst, sym}
 use Rattle.blk_device.specs.declared.device.Region.TheVariants.{Image}
 use Rattle.fs_derive.specs.Session.{Place}
 use Rattle.geom.specs.Places.{layout}

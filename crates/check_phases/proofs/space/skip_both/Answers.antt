@@ -1,4 +1,4 @@
-use Rattle.std.proofs.Common.{◌≡◌, Some, Err}
+use Rattle.std.proofs.Common.{Some, Err}
 use Rattle.fs_model.specs.declared.unit.Unit.TheVariants as units
 use Rattle.check_phases.specs.Checks.{ChecksSpace}
 use Rattle.check_phases.proofs.UnitLemmas.{both_full, first_stops, second_checks, unit_full, unit_skipped}

@@ -1,7 +1,7 @@
-use Rattle.std.proofs.Common.{◌≡◌, ◌++◌, ◌∙◌, ap, Some}
+use Rattle.std.proofs.Common.{◌≡◌, ◌++◌}
 use Rattle.std.proofs.lemmas.Result.{on_ok_weaker}
 use Rattle.fs_derive.specs.Faults.{counter_fault}
-use Rattle.fs_model.specs.declared.fault.Counter.TheVariants.{Count, Freecount, Iblocks, Fblocks}
+use Rattle.fs_model.specs.declared.fault.Counter.TheVariants.{Fblocks}
 use Rattle.group_trees.specs.Trees.{reading_of}
 use Rattle.quiet_check.proofs.FaultLemmas.{four_put}
 use Rattle.quiet_check.proofs.faults.add_counters.Goals as goal

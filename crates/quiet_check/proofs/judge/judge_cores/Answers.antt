@@ -1,4 +1,4 @@
-use Rattle.std.proofs.Common.{◌≡◌, ◌∙◌, ◌/◌, ℕ, List, Some, ap, sym, subst, arith}
+use Rattle.std.proofs.Common.{◌∙◌, ◌/◌, ℕ, ap, sym, subst, arith}
 use Rattle.std.proofs.lemmas.Result.{IfOk-weaker}
 use Rattle.blk_device.specs.declared.device.Region.TheVariants.{Image}
 use Rattle.fs_derive.specs.Faults.{faults}
@@ -9,7 +9,6 @@ use Rattle.geom.specs.Layout.{group_len_of}
 use Rattle.geom.specs.Places.{layout}
 use Rattle.index_derive.specs.Units.{is_listed_by}
 use Rattle.inode_pass.specs.Units.{AreSeen, opened_state, unit_numbers, units_in}
-use Rattle.inode_pass.specs.declared.unit.UnitSeen.{UnitSeen}
 use Rattle.tree_defs.specs.Sites.{bounds_of}
 use Rattle.quiet_check.specs.Judged.{Decided, Gathered, later_evidence}
 use Rattle.group_trees.specs.Trees.{reading_of}

@@ -1,4 +1,4 @@
-use Rattle.std.proofs.Common.{◌≡◌, ◌≤◌, ◌∙◌, List, subst, sym, arith, Ok}
+use Rattle.std.proofs.Common.{◌≤◌, List, subst, sym, arith, Ok}
 use Rattle.blk_device.specs.declared.device.Region.TheVariants.{Image}
 use Rattle.derive_defs.specs.Mappings.{EndWithin}
 use Rattle.derive_defs.proofs.ConditionLemmas.{end_within, end_further}

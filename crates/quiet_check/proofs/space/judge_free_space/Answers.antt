@@ -1,4 +1,4 @@
-use Rattle.std.proofs.Common.{◌≡◌, ℕ, ◌∙◌, subst, sym, Ok}
+use Rattle.std.proofs.Common.{ℕ, ◌∙◌, subst, sym, Ok}
 use Rattle.blk_device.specs.ReadingLaws.{read_on}
 use Rattle.blk_device.specs.declared.device.Region.TheVariants.{Image}
 use Rattle.derive_defs.specs.Mappings.{EndWithin}
