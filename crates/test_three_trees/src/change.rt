@@ -25,7 +25,7 @@ use tree_edit::{EditFault, insert, remove};
 
 /// Takes a run out of both trees of free space, and puts in who owns it now, all in one transaction;
 /// refused as the first of the three edits that is refused.
-pub fn change_trees<D: Device, L: Ledger>(
+pub(crate) fn change_trees<D: Device, L: Ledger>(
     alloc: Global,
     dev: &mut D,
     cache: &mut BlkCache,

@@ -5,5 +5,4 @@
 mod change;
 mod give;
 
-pub use change::change_trees;
 pub use give::give_run;
