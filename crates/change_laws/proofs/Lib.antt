@@ -1,4 +1,9 @@
 mod Chunks
+mod Convert
+mod Covers
+mod Firsts
+mod Lists
 mod Members
+mod Pieces
 mod Rows
 mod Settled

@@ -106,6 +106,7 @@ pub record IsSplit (at : Layout) (n g b : ℕ) : Type 0 where
   pub group : g < at.agcount
   pub block : b < group_len_of at g
   pub number : fs_block_of at g b ≡ n
+  pub high : n / 2 ^ at.agblklog ≡ g
 
 nothing : {X : Type 0} (x : X) → None ≡ Some x → ⊥
 nothing x h = false≢true (ap (λ o. (elim o [ None ↦ false | Some y ↦ true ])) h)
@@ -125,6 +126,7 @@ split_parts at n g b h =
             group = subst (λ m. m < at.agcount) first (ltb-true x at.agcount v.0);
             block = subst (λ m. m < group_len_of at g) second (subst (λ m. y < group_len_of at m) first (ltb-true y (group_len_of at x) v.1));
             number = ap₂ (λ p q. p * 2 ^ at.agblklog + q) (sym first) (sym second) ∙ div-add-mod' n (2 ^ at.agblklog);
+            high = first;
           }
       | false ↦ λ e k. absurd (nothing (g, b) k)
     ]) refl h

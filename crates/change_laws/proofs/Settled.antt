@@ -246,7 +246,7 @@ row_owes a x left (entries.Reply writer line code done refused begun) r l F t sk
 -- ---- settled owners
 
 -- what decides them, tuple by tuple
-settled_alike : (a b : State) (h : ℕ) → ((t : Tuple) → has (owed_gifts b h) t ≡ has (owed_gifts a h) t) → ((t : Tuple) → has (owed_takings b h) t ≡ has (owed_takings a h) t) → ((t : Tuple) → has (fork_owners b h) t ≡ has (fork_owners a h) t)
+pub settled_alike : (a b : State) (h : ℕ) → ((t : Tuple) → has (owed_gifts b h) t ≡ has (owed_gifts a h) t) → ((t : Tuple) → has (owed_takings b h) t ≡ has (owed_takings a h) t) → ((t : Tuple) → has (fork_owners b h) t ≡ has (fork_owners a h) t)
     → settled_forks b h ≡ settled_forks a h
 unfolding settled_forks
 settled_alike a b h gifts takings owners =

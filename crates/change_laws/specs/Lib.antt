@@ -1,3 +1,4 @@
 pub mod Chunks
+pub mod Forks
 pub mod Owners
 pub mod Settled

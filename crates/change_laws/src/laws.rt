@@ -1,3 +1,4 @@
+ghost use Rattle.change_laws.specs.Forks.{ConvertedKeeps, MappedKeeps, SharedKeeps, UnmappedKeeps};
 ghost use Rattle.change_laws.specs.Chunks.{StepKeepsChunks};
 ghost use Rattle.change_laws.specs.Settled.{FinishedStepMoves, OtherEntriesKeep, ShadowFollows, ShadowStays};
 ghost use Rattle.change_laws.specs.Owners.{OwnersByInode};
@@ -33,4 +34,25 @@ pub fn shadow_stays()
 /// leaves all else.
 pub fn shadow_follows()
     ensures { ShadowFollows }
+{}
+
+/// A law: a mapping that is made leaves the settled owners of all forks in every group as they were, where the
+/// fork that it changes is one that can be read and the run lies in a group.
+pub fn mapped_keeps()
+    ensures { MappedKeeps }
+{}
+
+/// A law: so does one that is taken away.
+pub fn unmapped_keeps()
+    ensures { UnmappedKeeps }
+{}
+
+/// A law: so does a piece that is mapped a second time.
+pub fn shared_keeps()
+    ensures { SharedKeeps }
+{}
+
+/// A law: so does a piece that becomes written, and one that was written already.
+pub fn converted_keeps()
+    ensures { ConvertedKeeps }
 {}

@@ -4,6 +4,6 @@
 mod laws;
 
 pub use laws::{
-    finished_step_moves, other_entries_keep, owners_by_inode, shadow_follows, shadow_stays,
-    step_keeps_chunks,
+    converted_keeps, finished_step_moves, mapped_keeps, other_entries_keep, owners_by_inode,
+    shadow_follows, shadow_stays, shared_keeps, step_keeps_chunks, unmapped_keeps,
 };

@@ -1,5 +1,5 @@
 -- How far an entry, or a mark by itself, may go: rows on both sides of each bound.
-use Rattle.std.specs.Prelude.{◌≡◌, ℕ, true, false, [], ◌∷◌, None}
+use Rattle.std.specs.Prelude.{◌≡◌, ◌*◌, ℕ, true, false, [], ◌∷◌, None}
 use Rattle.fs_model.specs.declared.entry.Entry.TheVariants as entries
 use Rattle.fs_model.specs.declared.fault.Cause.TheVariants.{Missing, Large, Short}
 use Rattle.fs_model.specs.declared.fault.Counter.TheVariants.{Iblocks, Fblocks, Freecount}
@@ -15,6 +15,7 @@ use Rattle.fs_change.specs.Met.{nothing}
 use Rattle.fs_change.specs.Run.{Leads}
 use Rattle.fs_change.specs.Switch.{owned_by}
 use Rattle.test_states.specs.Images.{image_a, ag, inobt}
+use Rattle.test_changes.specs.Files.{piece}
 use Rattle.test_changes.specs.Lists.{long_list, before_step}
 use Rattle.test_changes.specs.Refused.{NoneAfter}
 
@@ -76,3 +77,8 @@ Uncounted =
     × ((uncounted_file.group 0).counters Iblocks ≡ (uncounted.group 0).counters Iblocks)
     × ((uncounted_file.group 0).counters Fblocks ≡ (uncounted.group 0).counters Fblocks)
     × ((uncounted_file.group 0).counters Freecount ≡ 60)
+
+-- ---- a number that no inode btree lists, and a block outside of all groups, are no files: nothing is mapped there
+
+abbrev pub NoFile : Type 0
+NoFile = NoneAfter image_a (entries.Mapped (record (piece 0 32 6) { ino = 300 })) × NoneAfter image_a (entries.Unmapped (record (piece 0 32 6) { ino = 8 * 256 }))

@@ -1,4 +1,4 @@
-ghost use Rattle.test_changes.specs.Bounds.{ClosedGates, DoTurn, LimboDue, MarksBounded, TrimsFront, Uncounted};
+ghost use Rattle.test_changes.specs.Bounds.{ClosedGates, DoTurn, LimboDue, MarksBounded, NoFile, TrimsFront, Uncounted};
 ghost use Rattle.test_changes.specs.Crashes.{ClaimsKept, CutReserved, CutRun, CutSwitched, EitherRoot, GivenUpSpace, GivenUpWhole};
 ghost use Rattle.test_changes.specs.Scans.{BehindCursor, HeldInode};
 ghost use Rattle.test_changes.specs.Files.{ConvertedPiece, CutUnmapping, GrowingFile, MappedHalfway, MarkedOnce, OwnerFound, SharedPieceRow, ShrinkingFile};
@@ -219,4 +219,9 @@ pub fn closed_gates()
 /// A whole step of an image whose heads don't count the blocks of inode btrees.
 pub fn uncounted()
     ensures { Uncounted }
+{}
+
+/// What no inode btree lists is no file.
+pub fn no_file()
+    ensures { NoFile }
 {}
