@@ -43,7 +43,7 @@ impl Shadow {
     ghost use Rattle.std.specs.Prelude.{◌≤◌, ◌+◌, List, [], IfOk, OnOk, OnErr};
     ghost use Rattle.rmap_recs.specs.declared.tuples.Tuple.{Tuple};
     ghost use Rattle.run_edits.specs.EditLaws.{AreGiven, AreTaken, AreUntied};
-    ghost use Rattle.run_edits.specs.Edits.{HasRoom};
+    ghost use Rattle.run_edits.specs.Edits.{HasRoom, give_run, take_run};
     ghost use Rattle.shadow_rmap.specs.Kept.{Keeps, first_behind, NextRun};
 
     /// An empty shadow of the group of this number.
@@ -65,10 +65,12 @@ impl Shadow {
     }
 
     /// Puts in the tuples of a record, of which none is there: it joins the runs that it goes on
-    /// from and that go on from it. Without memory all stays.
+    /// from and that go on from it. Where some are there already, the record is put in all the same,
+    /// and the list is no set's maximal runs any more. Without memory all stays.
     pub fn add(&mut self, rec: &RmapRec) -> Result<(), Memory>
         requires { HasRoom rec.now }
         ensures kept { OnOk result ((ts us : List Tuple) → AreUntied us → AreGiven ts us rec.now → Keeps ts self.old → Keeps us self.new) }
+        ensures list { OnOk result (self.new.runs ≡ give_run rec.now self.old.runs) }
         ensures group { self.new.group ≡ self.old.group }
         ensures refused { OnErr result (self.new.runs ≡ self.old.runs) }
         ensures room { self.old.room ≤ self.new.room + 1 }
@@ -82,6 +84,7 @@ impl Shadow {
     pub fn remove(&mut self, rec: &RmapRec) -> Result<(), Memory>
         requires { HasRoom rec.now }
         ensures kept { OnOk result ((ts us : List Tuple) → AreUntied us → AreTaken ts us rec.now → Keeps ts self.old → Keeps us self.new) }
+        ensures list { OnOk result (self.new.runs ≡ take_run rec.now self.old.runs) }
         ensures group { self.new.group ≡ self.old.group }
         ensures refused { OnErr result (self.new.runs ≡ self.old.runs) }
         ensures room { self.old.room ≤ self.new.room + 1 }

@@ -1,5 +1,5 @@
-//! Tests of what is added to a fork's list of mappings, of what of it is made written, and of stretches
-//! of reference counts, over public calls alone.
+//! Tests of what is added to a fork's list of mappings, of what of it is made written, of the list in its
+//! inode, and of stretches of reference counts, over public calls alone.
 #![tactic(auto)]
 
 #[cfg(test)]
@@ -10,3 +10,5 @@ mod converts;
 mod maps;
 #[cfg(test)]
 mod stretches;
+#[cfg(test)]
+mod written;

@@ -1,0 +1,3 @@
+pub mod ForkLemmas
+pub mod GroupLemmas
+pub mod LimboLemmas

@@ -1,0 +1,3 @@
+pub mod Forks
+pub mod Groups
+pub mod Limbo

@@ -1,0 +1,8 @@
+//! The rules of a writer and of a repair, crate by crate, say what the steps of a state say.
+#![tactic(auto)]
+
+mod laws;
+
+pub use laws::{
+    adds_alike, chooses_alike, counts_alike, leaves_alike, quiet_alike, switches_alike, takes_alike,
+};
