@@ -3,7 +3,9 @@ mod Covers
 mod First
 mod Follow
 mod Free
+mod Guards
 mod Holders
+mod Lists
 mod Mappings
 mod Runs
 mod Shapes

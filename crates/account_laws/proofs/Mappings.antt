@@ -36,13 +36,13 @@ module _ (left : List Kind) (f : List RmapRec → List RmapRec) (p : Group) (w :
   edited : edit left Rmap f p ≡ changed
   edited = ap (λ t. cond t changed p) w.edited
 
-  edited_recs : records_in (edit left Rmap f p) Rmap ≡ f (records_in p Rmap)
+  pub edited_recs : records_in (edit left Rmap f p) Rmap ≡ f (records_in p Rmap)
   edited_recs = ap (λ (q : Group). records_in q Rmap) edited ∙ with_read (f (records_in p Rmap)) (p.tree Rmap).reading w.readable
 
-  spans_stay : records_in (edit left Rmap f p) Bno ≡ records_in p Bno
+  pub spans_stay : records_in (edit left Rmap f p) Bno ≡ records_in p Bno
   spans_stay = ap (λ (q : Group). records_in q Bno) edited
 
-  counts_stay : records_in (edit left Rmap f p) Refc ≡ records_in p Refc
+  pub counts_stay : records_in (edit left Rmap f p) Refc ≡ records_in p Refc
   counts_stay = ap (λ (q : Group). records_in q Refc) edited
 
 -- ---- the intent leaves, and its mapping comes or goes

@@ -71,22 +71,22 @@ module _ (left : List Kind) (e : Extent) (p : Group) (w : IsListing left p) wher
   abbrev mid_give : Group
   mid_give = edit left Bno (give_span by_start (records_in p Bno) run) p
 
-  take_spans : records_in (take_free left e p) Bno ≡ take_span by_start (records_in p Bno) run (records_in p Bno)
+  pub take_spans : records_in (take_free left e p) Bno ≡ take_span by_start (records_in p Bno) run (records_in p Bno)
   take_spans = spans_beside left (take_span by_count (known_spans p) run) mid_take (is_edited left mid_take Cnt) ∙ new_spans left (take_span by_start (records_in p Bno) run) p w
 
-  take_maps : records_in (take_free left e p) Rmap ≡ records_in p Rmap
+  pub take_maps : records_in (take_free left e p) Rmap ≡ records_in p Rmap
   take_maps = maps_beside left (take_span by_count (known_spans p) run) mid_take (is_edited left mid_take Cnt) ∙ old_maps left (take_span by_start (records_in p Bno) run) p w
 
-  take_counts : records_in (take_free left e p) Refc ≡ records_in p Refc
+  pub take_counts : records_in (take_free left e p) Refc ≡ records_in p Refc
   take_counts = counts_beside left (take_span by_count (known_spans p) run) mid_take (is_edited left mid_take Cnt) ∙ old_counts left (take_span by_start (records_in p Bno) run) p w
 
-  give_spans : records_in (give_free left e p) Bno ≡ give_span by_start (records_in p Bno) run (records_in p Bno)
+  pub give_spans : records_in (give_free left e p) Bno ≡ give_span by_start (records_in p Bno) run (records_in p Bno)
   give_spans = spans_beside left (give_span by_count (known_spans p) run) mid_give (is_edited left mid_give Cnt) ∙ new_spans left (give_span by_start (records_in p Bno) run) p w
 
-  give_maps : records_in (give_free left e p) Rmap ≡ records_in p Rmap
+  pub give_maps : records_in (give_free left e p) Rmap ≡ records_in p Rmap
   give_maps = maps_beside left (give_span by_count (known_spans p) run) mid_give (is_edited left mid_give Cnt) ∙ old_maps left (give_span by_start (records_in p Bno) run) p w
 
-  give_counts : records_in (give_free left e p) Refc ≡ records_in p Refc
+  pub give_counts : records_in (give_free left e p) Refc ≡ records_in p Refc
   give_counts = counts_beside left (give_span by_count (known_spans p) run) mid_give (is_edited left mid_give Cnt) ∙ old_counts left (give_span by_start (records_in p Bno) run) p w
 
 -- ---- a mapped run
@@ -94,16 +94,16 @@ module _ (left : List Kind) (e : Extent) (p : Group) (w : IsListing left p) wher
 keep_one : (x y : ℕ) → x ≡ y + 0 → y ≡ x
 keep_one x y e = omega (arith, e)
 
-stay : (x y s : ℕ) → x ≡ y + s → s ≡ 0 → y ≡ x
+pub stay : (x y s : ℕ) → x ≡ y + s → s ≡ 0 → y ≡ x
 stay x y s e f = omega (arith, e, f)
 
-more : (x y s : ℕ) → x ≡ y + s → s ≡ 1 → y + 1 ≡ x
+pub more : (x y s : ℕ) → x ≡ y + s → s ≡ 1 → y + 1 ≡ x
 more x y s e f = omega (arith, e, f)
 
-none_left : (x y s : ℕ) → x + s ≡ y → s ≡ 0 → y ≡ x
+pub none_left : (x y s : ℕ) → x + s ≡ y → s ≡ 0 → y ≡ x
 none_left x y s e f = omega (arith, e, f)
 
-one_less : (x s y : ℕ) → x + s ≡ y → s ≡ 1 → y ≡ x + 1
+pub one_less : (x s y : ℕ) → x + s ≡ y → s ≡ 1 → y ≡ x + 1
 one_less x s y e f = omega (arith, e, f)
 
 plus_none : (x s : ℕ) → s ≡ 0 → x ≡ x + s
@@ -150,7 +150,7 @@ module _ (p : Group) (cs : ℕ → List Intent) (c ino word : ℕ) (e : Extent) 
         (run_taken l h m.spans (one_less m.spans (hits e.group b e) l.spans spans z))
   ]
 
-own_group : (g : ℕ) (f : Group → Group) (a : State) → (in_group g f a).group g ≡ f (a.group g)
+pub own_group : (g : ℕ) (f : Group → Group) (a : State) → (in_group g f a).group g ≡ f (a.group g)
 own_group g f a = ap (λ t. cond t (f (a.group g)) (a.group g)) (eq-eqb g g refl)
 
 mapped_in : (a : State) (m : Piece) (b owned alone : ℕ) → m.chain < most_chains → a.chains m.chain ≡ [] → IsListing [] (a.group m.group) → is_some (holder_of (records_in (a.group m.group) Bno) (span m.block m.count)) ≡ true

@@ -1,7 +1,9 @@
 pub mod Accounts
 pub mod Chained
 pub mod Firsts
+pub mod Guard
 pub mod Ledger
+pub mod Listed
 pub mod Rows
 pub mod Space
 pub mod Steps

@@ -1,8 +1,10 @@
 ghost use Rattle.account_laws.specs.Chained.{ChainsFollow, FewRise, FirstsBegin, PairsFound, RestStays, StretchStays};
 ghost use Rattle.account_laws.specs.Firsts.{ConvertedSound, ConvertedStays, SharedSound, UnmappedSound};
 ghost use Rattle.account_laws.specs.Steps.{GivenCovers, RmapDoneSound, TakenCovers};
+ghost use Rattle.account_laws.specs.Listed.{RefilledSound, TrimmedSound};
 ghost use Rattle.account_laws.specs.Rows.{Rows};
 ghost use Rattle.account_laws.specs.Space.{FreedSound, GivenSpans, MappedSound, TakenSpans};
+ghost use Rattle.account_laws.specs.Guard.{GuardPasses};
 ghost use Rattle.account_laws.specs.Ledger.{EntriesOfABlock, SettledIsDerived};
 
 /// A law: each change of a block's numbers that an entry makes keeps the block sound; and where nothing is
@@ -66,4 +68,17 @@ pub fn runs_keep()
 /// and a run joins a record that isn't the list's neighbour.
 pub fn worked_rows()
     ensures { Rows }
+{}
+
+/// A law: a run that fills the free list, and one that leaves it, keep each block sound
+/// (XFS Algorithms and Data Structures, "AG Free List").
+pub fn list_keeps()
+    ensures refilled { RefilledSound }
+    ensures trimmed { TrimmedSound }
+{}
+
+/// A law: a run that is to be freed, each block of which is sound, has no owner: it isn't kept
+/// (XFS Online Fsck Design, "Eventual Consistency").
+pub fn guard_passes()
+    ensures { GuardPasses }
 {}

@@ -1,6 +1,7 @@
 mod Ending
 mod Groups
 mod Keeping
+mod Owners
 mod Releases
 mod Same
 mod Switches

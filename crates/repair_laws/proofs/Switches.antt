@@ -70,20 +70,20 @@ beside g f s h out = ap (λ t. cond t (f (s.group g)) (s.group h)) out
 -- ---- one switch
 
 module _ (a : State) (g : ℕ) (own : ScrubUnit) (blocks : Kind → List ℕ) where
-  abbrev there : State
+  abbrev pub there : State
   there = moved a g own blocks
 
-  abbrev laid : State
+  abbrev pub laid : State
   laid = derived_in there g own
 
   abbrev after : State
   after = switched a g own blocks
 
-  there_group : there.group g ≡ move_blocks a g own blocks (a.group g)
+  pub there_group : there.group g ≡ move_blocks a g own blocks (a.group g)
   unfolding moved
   there_group = in_own_group g (move_blocks a g own blocks) a
 
-  laid_group : laid.group g ≡ hold (derive there g) (kinds_of own) (there.group g)
+  pub laid_group : laid.group g ≡ hold (derive there g) (kinds_of own) (there.group g)
   laid_group = in_own_group g (hold (derive there g) (kinds_of own)) there
 
   pub after_group : after.group g ≡ record (laid.group g) { counters = exact_counters laid g own }

@@ -3,4 +3,5 @@ pub mod Ends
 pub mod Kept
 pub mod Letters
 pub mod Moves
+pub mod Owners
 pub mod Rows

@@ -1,6 +1,7 @@
 ghost use Rattle.repair_laws.specs.Alike.{AlikeLaw, GoodStays};
 ghost use Rattle.repair_laws.specs.Ends.{EndsWithoutFaults, ForgetsNothing};
 ghost use Rattle.repair_laws.specs.Moves.{ReleasedKeeps, SpaceKeepsChunks, SwitchedIsGood, SwitchedKeeps};
+ghost use Rattle.repair_laws.specs.Owners.{SpaceKeepsMappings};
 ghost use Rattle.repair_laws.specs.Rows.{Rows};
 ghost use Rattle.repair_laws.specs.Kept.{FaultKeeps, MarkedKeeps, NoneMoves, ReplyKeeps, VerdictKeeps};
 
@@ -55,4 +56,11 @@ pub fn released_keeps()
 /// run of no blocks that loses its owner cuts a record in two.
 pub fn worked_rows()
     ensures { Rows }
+{}
+
+/// A law: the switches of free space and of reference counts keep what is known of the reverse mappings: the
+/// blocks of an old tree wait in limbo with the owner that they had, where nobody else has them
+/// (XFS Online Fsck Design, "Reaping After Repairing Ondisk Metadata").
+pub fn space_keeps_mappings()
+    ensures { SpaceKeepsMappings }
 {}

@@ -3,4 +3,7 @@
 
 mod laws;
 
-pub use laws::{alike, ends, kept, released_keeps, switched_beside, switched_is_good, worked_rows};
+pub use laws::{
+    alike, ends, kept, released_keeps, space_keeps_mappings, switched_beside, switched_is_good,
+    worked_rows,
+};
