@@ -1,5 +1,5 @@
 -- A fork that is read piece by piece.
-use Rattle.std.proofs.Common.{◌≡◌, ℕ, zero, suc, ◌+◌, ◌*◌, ◌<◌, ◌≤◌, Bool, true, false, List, [], ◌∷◌, ◌++◌, length, get_or, drop, map, Option, Some, None, Result, Ok, Err, refl, ap, sym, subst, ◌∙◌, inl, inr, arith, append_assoc}
+use Rattle.std.proofs.Common.{◌≡◌, ℕ, zero, suc, ◌+◌, ◌<◌, ◌≤◌, Bool, true, false, List, [], ◌∷◌, ◌++◌, length, get_or, drop, Option, Some, None, Result, Ok, refl, ap, sym, subst, ◌∙◌, arith, append_assoc}
 use Rattle.std.specs.Prelude.{IfOk, flat_map, not, ◌&&◌, ◌==◌, if◌then◌else◌}
 use Rattle.std.specs.Option.{option_or}
 use Rattle.std.proofs.Math.Seq.{drop-cons}
@@ -9,7 +9,7 @@ use Rattle.std.proofs.lemmas.Bool.{eqb-true, false≢true}
 use Rattle.byte_fields.proofs.TestLemmas.{all_pass}
 use Rattle.byte_fields.specs.Fields.{field}
 use Rattle.dinode_core.specs.Core.{core_fault, core_of, core_tests}
-use Rattle.dinode_core.specs.ForkTree.{Image, Met as MetOf, fork_fault, has_number, is_tree, met_of, walk_fault}
+use Rattle.dinode_core.specs.ForkTree.{Image, fork_fault, has_number, is_tree, met_of, walk_fault}
 use Rattle.dinode_core.specs.Frame.{fork_in, list_of, list_or}
 use Rattle.dinode_core.specs.Inline.{or_else}
 use Rattle.dinode_core.specs.Shape.{count_of}
@@ -38,11 +38,11 @@ use Rattle.fs_state.specs.State.{ForkList}
 use Rattle.geom.specs.Layout.{Layout, split_of}
 use Rattle.unit_plan.specs.declared.claims.ClaimSet.{ClaimSet}
 use Rattle.unit_plan.specs.declared.piece.Piece.{Piece}
-use Rattle.fork_pass.specs.Pieces.{block_piece, block_pieces, blocks_in, mapped_in, mapping_piece, mapping_pieces, piece_where, pieces_for}
-use Rattle.fork_pass.specs.Read.{Come, HasRead, HasTaken, IsForkRead, IsGood, IsInodeRead, IsPut, IsRefusal, IsRestRead, IsSlotRead, IsWorst, fault_for, is_number_wrong, lists_of, rest_pieces, slot_fork, worst_of}
-use Rattle.fork_pass.specs.Sets.{Adds, Leaves, pieces_at}
+use Rattle.fork_pass.specs.Pieces.{block_pieces, blocks_in, mapped_in, mapping_piece, mapping_pieces, piece_where, pieces_for}
+use Rattle.fork_pass.specs.Read.{Come, IsForkRead, IsGood, IsInodeRead, IsPut, IsRefusal, IsRestRead, IsSlotRead, IsWorst, fault_for, is_number_wrong, lists_of, rest_pieces, slot_fork, worst_of}
+use Rattle.fork_pass.specs.Sets.{Adds}
 use Rattle.fork_pass.specs.declared.fork.ForkRead.{ForkRead}
-use Rattle.fork_pass.specs.declared.fork.ForkRead.TheVariants.{Blocks, Bad}
+use Rattle.fork_pass.specs.declared.fork.ForkRead.TheVariants.{Bad}
 use Rattle.fork_pass.specs.declared.fork.Met.{Met}
 use Rattle.fork_pass.proofs.SetLemmas.{adds_none, adds_same, adds_then, not_last}
 

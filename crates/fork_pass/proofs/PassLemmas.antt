@@ -1,13 +1,11 @@
 -- One inode after the other.
-use Rattle.std.proofs.Common.{◌≡◌, ℕ, zero, suc, ◌+◌, ◌*◌, ◌/◌, ◌%◌, ◌-◌, ◌<◌, ◌≤◌, Bool, true, false, List, [], ◌∷◌, ◌++◌, length, get_or, drop, map, filter, Option, Some, None, Result, refl, ap, sym, subst, ◌∙◌, arith, append_assoc}
+use Rattle.std.proofs.Common.{◌≡◌, ℕ, zero, suc, ◌+◌, ◌*◌, ◌/◌, ◌%◌, ◌-◌, ◌<◌, ◌≤◌, Bool, true, false, List, [], ◌∷◌, ◌++◌, length, get_or, drop, map, filter, Option, Some, None, Result, refl, ap, sym, subst, ◌∙◌, arith}
 use Rattle.std.specs.Prelude.{flat_map}
 use Rattle.std.specs.Global.{Vec}
 use Rattle.std.proofs.Math.Seq.{drop-cons}
 use Rattle.std.proofs.lemmas.Grind.{flat_map-append}
 use Rattle.std.proofs.lemmas.List.{append-nil}
-use Rattle.std.proofs.lemmas.Bool.{cases_Bool}
 use Rattle.dinode_core.specs.declared.mapping.Fork.{Fork}
-use Rattle.dinode_core.specs.declared.mapping.Fork.TheVariants as forks
 use Rattle.dinode_core.specs.declared.mapping.ForkFault.{ForkFault}
 use Rattle.fs_derive.specs.Chunks.{chunks, inode_in, inodes, inodes_in}
 use Rattle.fs_derive.specs.Claims.{read_fork}
@@ -24,10 +22,10 @@ use Rattle.geom.specs.Layout.{Layout, device_block_of, group_len_of, inode_at}
 use Rattle.inode_pass.specs.Units.{opened_state}
 use Rattle.unit_plan.specs.declared.claims.ClaimSet.{ClaimSet}
 use Rattle.unit_plan.specs.declared.piece.Piece.{Piece}
-use Rattle.fork_pass.specs.Passed.{AreChunks, AreForkClaims, AreForksOf, AreLeft, ArePassed, all_pieces, block_inodes, group_inodes, inodes_from, unit_inodes, units_at}
+use Rattle.fork_pass.specs.Passed.{AreChunks, AreForkClaims, AreLeft, ArePassed, all_pieces, group_inodes, inodes_from, unit_inodes, units_at}
 use Rattle.fork_pass.specs.Pieces.{fork_pieces, inode_pieces, pieces_for}
 use Rattle.fork_pass.specs.Read.{IsSlotRead, fault_for, slot_fork}
-use Rattle.fork_pass.specs.Sets.{Adds, AreFresh, Leaves, pieces_at}
+use Rattle.fork_pass.specs.Sets.{AreFresh}
 use Rattle.fork_pass.proofs.SetLemmas.{adds_same, leaves_all, leaves_first, leaves_on}
 use Rattle.fork_pass.proofs.StateLemmas.{fork_there, verified}
 

@@ -1,20 +1,17 @@
 -- The forks of an inode in a chunk are those that its bytes lead to.
-use Rattle.std.proofs.Common.{◌≡◌, ℕ, ◌+◌, ◌*◌, ◌/◌, ◌%◌, ◌<◌, ◌≤◌, Bool, true, false, List, Option, Some, None, Result, refl, ap, sym, subst, ◌∙◌, arith}
-use Rattle.std.specs.Prelude.{◌&&◌}
+use Rattle.std.proofs.Common.{◌≡◌, ℕ, ◌+◌, ◌*◌, ◌/◌, ◌%◌, ◌<◌, true, List, Option, Some, None, refl, ap, sym, subst, ◌∙◌, arith}
 use Rattle.std.proofs.lemmas.Bool.{and_parts, false≢true}
 use Rattle.byte_fields.proofs.BelowLemmas.{each_below}
 use Rattle.dinode_core.specs.Core.{core_fault, core_of}
 use Rattle.dinode_core.specs.declared.inode.CoreFault.{CoreFault}
-use Rattle.dinode_core.specs.declared.inode.Core3.{Core3}
 use Rattle.dinode_core.specs.declared.mapping.Fork.{Fork}
-use Rattle.dinode_core.specs.declared.mapping.ForkFault.{ForkFault}
 use Rattle.fs_state.specs.Apart.{block_verifies, ino_lists, is_chunk, is_inode, is_listed, rmap_lists, unit_verifies, verifies}
 use Rattle.fs_state.specs.Inodes.{core_in, fork_by, slot_in, whole_or}
 use Rattle.fs_state.specs.Kinds.{Image}
-use Rattle.fs_state.specs.Read.{core_of_ino, fork_in_chunk, fork_of_ino, inode_bytes, opened, reserved, without_forks}
-use Rattle.fs_state.specs.State.{CoreState, ForkList, State, Broken, Whole}
+use Rattle.fs_state.specs.Read.{core_of_ino, fork_in_chunk, fork_of_ino, inode_bytes, opened, without_forks}
+use Rattle.fs_state.specs.State.{CoreState}
 use Rattle.geom.specs.Apart.{Splits}
-use Rattle.geom.specs.Layout.{Layout, device_block_of, fs_block_of, group_len_of, inode_at, split_of}
+use Rattle.geom.specs.Layout.{Layout, device_block_of, fs_block_of, group_len_of, inode_at}
 use Rattle.inode_pass.specs.Units.{opened_state}
 use Rattle.fork_pass.specs.Read.{slot_fork}
 

@@ -1,6 +1,5 @@
 -- What is read of one fork, of one inode, and of one core's slot.
-use Rattle.std.specs.Global.{Vec}
-use Rattle.std.specs.Prelude.{◌≡◌, ℕ, ◌-◌, ◌^◌, ◌==◌, List, [], ◌∷◌, ◌++◌, map, length, Option, Some, None, Result, Ok, Err, Bool, not, ◌&&◌, if◌then◌else◌}
+use Rattle.std.specs.Prelude.{◌≡◌, ℕ, ◌-◌, ◌^◌, ◌==◌, List, ◌++◌, map, length, Option, Some, None, Result, Ok, Err, Bool, not, ◌&&◌, if◌then◌else◌}
 use Rattle.std.specs.Option.{option_or}
 use Rattle.dinode_core.specs.Core.{core_of}
 use Rattle.dinode_core.specs.ForkTree.{Image, fork_fault, is_tree, met_of, walk_fault}

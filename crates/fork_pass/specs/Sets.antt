@@ -1,5 +1,5 @@
 -- Sets of claims, one a group, and what is put into them.
-use Rattle.std.specs.Prelude.{◌≡◌, ℕ, zero, suc, ◌<◌, List, [], ◌∷◌, ◌++◌, length}
+use Rattle.std.specs.Prelude.{◌≡◌, ℕ, zero, suc, List, [], ◌∷◌, ◌++◌, length}
 use Rattle.unit_plan.specs.Sets.{pieces_of}
 use Rattle.unit_plan.specs.declared.claims.ClaimSet.{ClaimSet}
 use Rattle.unit_plan.specs.declared.piece.Piece.{Piece}

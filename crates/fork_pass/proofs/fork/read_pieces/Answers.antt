@@ -1,4 +1,4 @@
-use Rattle.std.proofs.Common.{◌≡◌, ℕ, ◌*◌, ◌≤◌, List, Option, Some, None, refl, sym, subst, ◌∙◌, arith}
+use Rattle.std.proofs.Common.{Option, refl, subst, ◌∙◌, arith}
 use Rattle.blk_device.specs.ReadingLaws.{nothing_read, read_on}
 use Rattle.blk_device.specs.declared.device.Region.TheVariants.{Image}
 use Rattle.dinode_core.specs.declared.mapping.ForkFault.{ForkFault}

@@ -1,4 +1,4 @@
-use Rattle.std.proofs.Common.{◌≡◌, List, Option, Some, None, sym, subst, ap, ◌∙◌}
+use Rattle.std.proofs.Common.{Option, sym, subst, ◌∙◌}
 use Rattle.std.proofs.lemmas.Result.{IfOk-weaker}
 use Rattle.blk_device.specs.ReadingLaws.{cause_on, read_on}
 use Rattle.blk_device.specs.declared.device.Region.TheVariants.{Image}

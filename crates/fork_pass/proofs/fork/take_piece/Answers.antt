@@ -1,16 +1,12 @@
-use Rattle.std.proofs.Common.{◌≡◌, ℕ, ◌+◌, ◌*◌, ◌<◌, ◌≤◌, Bool, true, List, length, Option, Some, None, Err, refl, ap, sym, subst, ◌∙◌, arith}
+use Rattle.std.proofs.Common.{◌≡◌, true, List, Err, sym, subst, ◌∙◌, arith}
 use Rattle.std.specs.Prelude.{All}
-use Rattle.blk_device.specs.Contents.{Contents}
 use Rattle.blk_device.specs.declared.device.Region.TheVariants.{Image}
 use Rattle.dinode_core.specs.Inline.{in_range}
-use Rattle.dinode_core.specs.declared.mapping.ForkFault.{ForkFault}
 use Rattle.dinode_core.specs.declared.mapping.Mapping.{Mapping}
 use Rattle.fork_read.specs.Pieces.{IsForkAnswer}
 use Rattle.fork_read.specs.declared.fault.ReadFault.{ReadFault}
 use Rattle.geom.specs.Places.{layout}
-use Rattle.unit_plan.specs.declared.claims.ClaimSet.{ClaimSet}
 use Rattle.fork_pass.specs.Pieces.{mapping_pieces}
-use Rattle.fork_pass.specs.Read.{Come, HasTaken}
 use Rattle.fork_pass.specs.Sets.{Adds}
 use Rattle.fork_pass.proofs.ForkLemmas.{come_more, refused_cause, refused_none, refused_so, taken_bad}
 use Rattle.fork_pass.proofs.fork.take_piece.Goals as goal

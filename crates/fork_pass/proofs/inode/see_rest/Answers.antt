@@ -1,4 +1,4 @@
-use Rattle.std.proofs.Common.{◌≡◌, List, ℕ, sym, subst, ◌∙◌}
+use Rattle.std.proofs.Common.{List, ℕ, subst}
 use Rattle.blk_device.specs.declared.device.Region.TheVariants.{Image}
 use Rattle.dinode_core.specs.declared.mapping.Fork.TheVariants as forks
 use Rattle.geom.specs.Places.{layout}

@@ -1,19 +1,14 @@
-use Rattle.std.proofs.Common.{◌≡◌, ℕ, ◌+◌, ◌-◌, ◌*◌, ◌/◌, ◌<◌, ◌≤◌, true, List, [], ◌∷◌, length, map, drop, get_or, Option, Some, None, refl, ap, sym, subst, ◌∙◌, arith}
-use Rattle.std.specs.Prelude.{All, flat_map}
+use Rattle.std.proofs.Common.{◌≡◌, ℕ, ◌+◌, ◌-◌, ◌*◌, ◌<◌, List, Option, refl, ap, sym, subst, ◌∙◌, arith}
+use Rattle.std.specs.Prelude.{All}
 use Rattle.std.specs.Global.{Vec}
-use Rattle.blk_device.specs.Reading.{OnlyRead}
 use Rattle.blk_device.specs.ReadingLaws.{nothing_read, read_on}
 use Rattle.blk_device.specs.declared.device.Region.TheVariants.{Image}
-use Rattle.fs_derive.specs.Chunks.{chunks}
-use Rattle.fs_derive.specs.Lists.{numbers}
 use Rattle.fs_model.specs.declared.claim.Evidence.{Evidence}
-use Rattle.fs_state.specs.Apart.{is_chunk}
-use Rattle.geom.proofs.ApartLemmas.{splits_in}
-use Rattle.geom.specs.Layout.{group_len_of, inode_at}
+use Rattle.geom.specs.Layout.{group_len_of}
 use Rattle.geom.specs.Places.{layout}
 use Rattle.inode_pass.specs.Units.{opened_state}
-use Rattle.fork_pass.specs.Passed.{ArePassed, AreChunks, block_inodes, group_inodes, inodes_from, unit_inodes, units_at}
-use Rattle.fork_pass.proofs.PassLemmas.{chunk_at, left_end, left_first, left_found, left_on, list_at, list_end, list_first, row_end, row_first, slot_passed, spread_end, spread_first}
+use Rattle.fork_pass.specs.Passed.{ArePassed, group_inodes, inodes_from, units_at}
+use Rattle.fork_pass.proofs.PassLemmas.{left_end, left_first, left_found, left_on, list_at, spread_end, spread_first}
 use Rattle.fork_pass.proofs.pass.pass_groups.Goals as goal
 
 pub loop-g-init : goal.loop-g-init

@@ -1,15 +1,10 @@
-use Rattle.std.proofs.Common.{◌≡◌, ℕ, ◌+◌, ◌-◌, ◌*◌, ◌/◌, true, length, map, drop, Some}
-use Rattle.std.specs.Prelude.{flat_map}
+use Rattle.std.proofs.Common.{◌≡◌, ◌-◌, length, Some}
 use Rattle.blk_device.specs.Contents.{Contents}
 use Rattle.blk_device.specs.Reading.{OnlyRead}
 use Rattle.blk_device.specs.declared.device.Region.TheVariants.{Image}
-use Rattle.fs_derive.specs.Chunks.{chunks}
-use Rattle.fs_derive.specs.Lists.{numbers}
-use Rattle.fs_state.specs.Apart.{is_chunk}
-use Rattle.geom.specs.Layout.{inode_at}
 use Rattle.geom.specs.Places.{layout}
 use Rattle.inode_pass.specs.Units.{opened_state}
-use Rattle.fork_pass.specs.Passed.{AreChunks, AreLeft, block_inodes, group_inodes, inodes_from, unit_inodes, units_at}
+use Rattle.fork_pass.specs.Passed.{AreChunks, AreLeft, inodes_from}
 use Rattle.fork_pass.proofs.pass.pass_groups.Given as goal
 
 -- the inodes so far are passed

@@ -1,7 +1,6 @@
-use Rattle.std.proofs.Common.{◌≡◌, ℕ, false, refl, drop, get_or, ◌∙◌, ◌+◌, arith}
+use Rattle.std.proofs.Common.{ℕ, refl, drop, ◌∙◌, ◌+◌, arith}
 use Rattle.geom.specs.Layout.{split_of}
 use Rattle.geom.specs.Places.{layout}
-use Rattle.dinode_core.specs.declared.mapping.Mapping.{Mapping}
 use Rattle.fork_pass.specs.Pieces.{block_piece, block_pieces, piece_where}
 use Rattle.fork_pass.proofs.ForkLemmas.{more_first, none_more}
 use Rattle.fork_pass.proofs.SetLemmas.{leaves_all, leaves_first, leaves_on}

@@ -1,4 +1,4 @@
-use Rattle.std.proofs.Common.{◌≡◌, refl, sym, ◌∙◌}
+use Rattle.std.proofs.Common.{refl, sym, ◌∙◌}
 use Rattle.geom.specs.Layout.{split_of}
 use Rattle.geom.specs.Places.{layout}
 use Rattle.fork_pass.specs.Pieces.{mapping_piece}

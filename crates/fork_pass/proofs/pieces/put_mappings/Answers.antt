@@ -1,4 +1,4 @@
-use Rattle.std.proofs.Common.{◌≡◌, ℕ, false, refl, drop, get_or, ◌∙◌, ◌+◌, arith}
+use Rattle.std.proofs.Common.{false, refl, drop, ◌∙◌, ◌+◌, arith}
 use Rattle.geom.specs.Layout.{split_of}
 use Rattle.geom.specs.Places.{layout}
 use Rattle.dinode_core.specs.declared.mapping.Mapping.{Mapping}
