@@ -13,4 +13,6 @@ mod heads;
 #[cfg(test)]
 mod limbo;
 #[cfg(test)]
+mod rows;
+#[cfg(test)]
 mod space;
