@@ -15,7 +15,7 @@ words() {
   expect 'the job repair' 4 'unbuilt job' repair a --redo b
   expect 'the job run' 4 'unbuilt job' run a --redo b --script c
   expect 'the job drill' 4 'unbuilt job' drill 7
-  expect 'the job make' 4 'unbuilt job' make a
+  expect 'the job make with a redo file' 2 "$usage" make a --redo b
   expect 'a check with a redo file' 4 'unbuilt redo' check a --redo b
   expect 'no such file' 5 'host failed' check nothing.img
   advised 'no such file' 'nothing.img: '

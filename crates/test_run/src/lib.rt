@@ -13,6 +13,8 @@ mod heads;
 #[cfg(test)]
 mod lines;
 #[cfg(test)]
+mod makes;
+#[cfg(test)]
 mod refusals;
 #[cfg(test)]
 mod runs;

@@ -1,10 +1,13 @@
 -- What a host keeps under a name, and what it is asked.
-use Rattle.std.specs.Prelude.{◌≡◌, ⊤, ℕ, List, ◌++◌, Option, Some, None}
+use Rattle.std.specs.Prelude.{◌≡◌, ◌⊎◌, ⊤, ℕ, Bool, if◌then◌else◌, List, [], ◌∷◌, ◌++◌, Option, Some, None}
+use Rattle.std.specs.Str.{bytes_eq}
 use Rattle.byte_fields.specs.Zeros.{zeros}
 use Rattle.blk_device.specs.Contents.{Contents}
+use Rattle.blk_device.specs.Stored.{blank}
 use Rattle.blk_device.specs.declared.device.Region.{Region}
 use Rattle.blk_device.specs.declared.device.Region.TheVariants.{Image, Redo}
 use Rattle.xscrub.specs.declared.host.Purpose.{Purpose}
+use Rattle.xscrub.specs.declared.host.Purpose.TheVariants.{Make}
 
 -- a file of blocks: how many, and the bytes of each
 pub record Stored : Type 0 where
@@ -39,7 +42,33 @@ abbrev pub IsOpened : Option Stored → Option Contents → (Region → ℕ) →
 IsOpened None content blocks = content ≡ None
 IsOpened (Some file) content blocks = (content ≡ Some (opened file)) × (blocks Image ≡ file.size)
 
+-- a device over a new image of so many blocks: zeros, where the host tells what its images hold
+abbrev pub IsNew : Bool → ℕ → Option Contents → (Region → ℕ) → Type 0
+IsNew tells n content blocks = (content ≡ (if tells then Some blank else None)) × (blocks Image ≡ n)
+
+-- the device that is handed out for a purpose: over the image of that name, or over a new one
+abbrev pub IsLent : Purpose → Bool → Option Stored → Option Contents → (Region → ℕ) → Type 0
+IsLent (Make n) tells file content blocks = IsNew tells n content blocks
+IsLent other tells file content blocks = IsOpened file content blocks
+
+-- so many blocks are enough for the purpose: a new image has as many as are wanted
+abbrev pub HasRoomFor : Purpose → ℕ → Type 0
+HasRoomFor (Make n) blocks = blocks ≡ n
+HasRoomFor other blocks = ⊤
+
 -- the image of a device that comes back, where the device tells it
 abbrev pub stored_image : Option Contents → (Region → ℕ) → Option Stored
 stored_image None blocks = None
 stored_image (Some content) blocks = Some (record { size = blocks Image; at = content Image })
+
+-- the images with this one under its name
+abbrev pub stored_with : List ℕ → Option Stored → (List ℕ → Option Stored) → List ℕ → Option Stored
+stored_with name file stored n = if bytes_eq n name then file else stored n
+
+-- the request for a device
+abbrev pub asks : List ℕ → Option (List ℕ) → Purpose → Request
+asks image redo purpose = record { image = image; redo = redo; purpose = purpose }
+
+-- the request was kept; or it wasn't, as there was no memory for it
+abbrev pub IsAskedFor : (short : Type 0) → Request → (old new : List Request) → Type 0
+IsAskedFor short request old new = (short × (new ≡ old)) ⊎ (new ≡ old ++ request ∷ [])

@@ -6,11 +6,12 @@ use crate::last_lines::Form;
 use command_line::{Job, Request, parse};
 use std::alloc::{AllocError, Global};
 
-/// What the words of a command line ask for: the check of the named image, a form that isn't
-/// built yet, or nothing that is understood.
+/// What the words of a command line ask for: the check of the named image, a new image of that
+/// name, a form that isn't built yet, or nothing that is understood.
 #[derive(Clone, Copy, Debug, PartialEq, Eq)]
 pub enum Command<'a> {
     Check(&'a str),
+    Make(&'a str),
     Unbuilt(Form),
     Usage,
 }
@@ -24,7 +25,8 @@ fn command_in<'a>(request: &Request<'a>) -> Command<'a>
             None => Command::Check(request.target),
             Some(_) => Command::Unbuilt(Form::Redo),
         },
-        Job::Repair | Job::Run | Job::Drill | Job::Make => Command::Unbuilt(Form::Job),
+        Job::Make => Command::Make(request.target),
+        Job::Repair | Job::Run | Job::Drill => Command::Unbuilt(Form::Job),
     }
 }
 

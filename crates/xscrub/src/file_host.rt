@@ -1,5 +1,6 @@
 //! The host of the program: images are files, and the report goes to standard output.
-ghost use Rattle.std.specs.Prelude.{◌≡◌, ◌/◌, [], None, IsNone, IfOk};
+ghost use Rattle.std.specs.Prelude.{◌≡◌, ◌/◌, [], None, IsNone, IfOk, false};
+ghost use Rattle.xscrub.specs.Stored.{HasRoomFor, IsLent};
 
 use crate::advice::{NamedFile, explain, tell_failure};
 use crate::asked::{DeviceAsked, count_failed, count_fault, keep_request};
@@ -57,6 +58,24 @@ fn whole_blocks(bytes: u64) -> u64
 // device.
 fn blocks_of<F: Seek>(file: &mut F) -> io::Result<u64> {
     Ok(whole_blocks(file.seek(SeekFrom::End(0))?))
+}
+
+// How many blocks the image of a device has that is opened for this. A new image has as many as are wanted,
+// or it couldn't be made: a block device, say, keeps its size.
+fn blocks_for<F: Seek>(file: &mut F, purpose: Purpose) -> io::Result<u64>
+    ensures { IfOk result (HasRoomFor purpose) }
+{
+    let blocks = blocks_of(file)?;
+    match purpose {
+        Purpose::Check => Ok(blocks),
+        Purpose::Change => Ok(blocks),
+        Purpose::Make(wanted) => {
+            if blocks == wanted {
+                return Ok(blocks);
+            }
+            Err(io::Error::new(ErrorKind::InvalidInput, "its size can't be changed"))
+        }
+    }
 }
 
 // Opens a file to be read. A pipe would wait for a writer, and has no blocks: it is refused.
@@ -123,10 +142,11 @@ fn open_device<'a, R: Files + Eprint>(
     ensures redo_blocks { IsNone redo.entry →
         IfOk result (λ d. ⟦<FileDevice<NamedFile<'a, R>> as Device>⟧.blocks d Region.Redo ≡ 162) }
     ensures fresh { IfOk result (λ d. ⟦<FileDevice<NamedFile<'a, R>> as Device>⟧.faults d ≡ 0) }
-    ensures untold { IfOk result (λ d. ⟦<FileDevice<NamedFile<'a, R>> as Device>⟧.content d ≡ None) }
+    ensures told { IfOk result (λ d. IsLent purpose false None
+        (⟦<FileDevice<NamedFile<'a, R>> as Device>⟧.content d) (⟦<FileDevice<NamedFile<'a, R>> as Device>⟧.blocks d)) }
 {
     let mut image = named(alloc, rt, image, open_image(rt, image, purpose))?;
-    let image_blocks = blocks_of(&mut image)?;
+    let image_blocks = blocks_for(&mut image, purpose)?;
     let Some(name) = redo else {
         return Ok(FileDevice::new(alloc, image, None, image_blocks, REDO_BLOCKS));
     };
@@ -174,6 +194,8 @@ where
     ghost use Rattle.std.specs.Prelude.{map};
     ghost use Rattle.std.proofs.Common.{rules};
     ghost use Rattle.xscrub.specs.Asked.{request_of};
+
+    ghost tells = { λ h. false };
 
     ghost stored = { λ h n. None };
 

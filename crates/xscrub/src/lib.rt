@@ -1,5 +1,6 @@
 //! The top call over any host: checks an XFS version 5 image, which is the free space and the
-//! reference counts of each group against its reverse mapping btree, and reports what was found.
+//! reference counts of each group against its reverse mapping btree, and reports what was found; or
+//! makes a new image.
 #![tactic(auto)]
 
 mod advice;
@@ -10,6 +11,7 @@ mod file_host;
 mod host;
 mod judging;
 mod last_lines;
+mod making;
 mod mem_host;
 mod telling;
 mod top;

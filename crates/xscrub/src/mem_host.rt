@@ -1,11 +1,11 @@
 //! A host in memory, for tests.
-ghost use Rattle.std.specs.Prelude.{◌≡◌, ℕ, List, [], Some, IsSome, IfOk, if◌then◌else◌};
+ghost use Rattle.std.specs.Prelude.{◌≡◌, ℕ, List, [], Some, IsSome, IfOk, true, if◌then◌else◌};
 ghost use Rattle.std.specs.BTreeMap.{get_by_text};
 ghost use Rattle.std.specs.Str.{bytes_eq};
 ghost use Rattle.blk_device.specs.Memory.{calls_asked, failing_calls};
 ghost use Rattle.blk_device.specs.Stored.{stored};
 ghost use Rattle.xscrub.specs.MemFiles.{file_of, file_named, failing_named};
-ghost use Rattle.xscrub.specs.Stored.{IsOpened};
+ghost use Rattle.xscrub.specs.Stored.{IsLent, IsNew, IsOpened, stored_with};
 
 use crate::asked::{DeviceAsked, count_failed, count_fault, keep_request};
 use crate::host::{Host, OpenFault, Purpose};
@@ -27,7 +27,8 @@ pub struct MemImage {
 }
 
 /// Images by name, what was asked, and the report. Calls of `put` are numbered from 0, and those
-/// of chosen numbers fail; an image that isn't there is a fault of the host.
+/// of chosen numbers fail; an image that isn't there is a fault of the host, also where it is to be
+/// made: a new image takes the place of one that is there.
 #[derive(Drop)]
 pub struct MemHost {
     pub images: BTreeMap<String, MemImage>,
@@ -127,7 +128,7 @@ fn replace_image(
 )
     requires { IsSome (get_by_text images.old name.now) }
     ensures image { (n : List ℕ) → file_named images.new n
-        ≡ (if bytes_eq n name.now then Some (record { size = size; at = stored blocks }) else file_named images.old n) }
+        ≡ stored_with name.now (Some (record { size = size; at = stored blocks })) (file_named images.old) n }
     ensures failing { (n : List ℕ) → failing_named images.new n ≡ failing_named images.old n }
 {
     if let Some(file) = images.get_mut(name) {
@@ -151,14 +152,47 @@ fn open_copy(alloc: Global, image: &MemImage) -> Result<MemDevice, AllocError>
     Ok(dev)
 }
 
+// A device over a new image, of whose calls those that are chosen for the image in whose place it comes
+// will fail.
+fn open_new(alloc: Global, image: &MemImage, blocks: u64) -> Result<MemDevice, AllocError>
+    ensures told { IfOk result (λ d. IsNew true blocks
+        (⟦<MemDevice as Device>⟧.content d) (⟦<MemDevice as Device>⟧.blocks d)) }
+    ensures redo_blocks { IfOk result (λ d. ⟦<MemDevice as Device>⟧.blocks d Region.Redo ≡ 162) }
+    ensures fresh { IfOk result (λ d. ⟦<MemDevice as Device>⟧.faults d ≡ 0) }
+    ensures failing { IfOk result (λ d. failing_calls d ≡ image.now.failing.items) }
+    ensures asked { IfOk result (λ d. calls_asked d ≡ 0) }
+{
+    let failing = image.failing.clone()?;
+    let dev = MemDevice::new(alloc, blocks, REDO_BLOCKS, failing);
+    Ok(dev)
+}
+
+// A device over this image, or over a new one in its place.
+fn open_for(alloc: Global, image: &MemImage, purpose: Purpose) -> Result<MemDevice, AllocError>
+    ensures told { IfOk result (λ d. IsLent purpose true (Some (file_of image.now))
+        (⟦<MemDevice as Device>⟧.content d) (⟦<MemDevice as Device>⟧.blocks d)) }
+    ensures redo_blocks { IfOk result (λ d. ⟦<MemDevice as Device>⟧.blocks d Region.Redo ≡ 162) }
+    ensures fresh { IfOk result (λ d. ⟦<MemDevice as Device>⟧.faults d ≡ 0) }
+    ensures failing { IfOk result (λ d. failing_calls d ≡ image.now.failing.items) }
+    ensures asked { IfOk result (λ d. calls_asked d ≡ 0) }
+{
+    match purpose {
+        Purpose::Check => open_copy(alloc, image),
+        Purpose::Change => open_copy(alloc, image),
+        Purpose::Make(blocks) => open_new(alloc, image, blocks),
+    }
+}
+
 impl Host for MemHost {
     type Dev = MemDevice;
 
-    ghost use Rattle.std.specs.Prelude.{◌≤◌, ◌==◌, ◌++◌, ◌∷◌, ◌⊎◌, IsNone, IsErrOf, OnOk, OnErr, IfSome, false};
+    ghost use Rattle.std.specs.Prelude.{◌≤◌, ◌==◌, ◌∷◌, IsNone, IsErrOf, OnOk, OnErr, IfSome, false};
     ghost use Rattle.std.specs.Option.{option_map};
     ghost use Rattle.blk_device.specs.Causes.{Rose, one_more};
     ghost use Rattle.xscrub.specs.MemHost.{stored_by, Awaits, asked_of, failing_by, loans_of};
-    ghost use Rattle.xscrub.specs.Stored.{stored_image, Out, Back, Lends};
+    ghost use Rattle.xscrub.specs.Stored.{stored_image, Out, Back, Lends, IsAskedFor, asks};
+
+    ghost tells = { λ h. true };
 
     ghost stored = { stored_by };
 
@@ -174,8 +208,8 @@ impl Host for MemHost {
 
     ghost report_keeps = { λ a b kept. kept };
 
-    /// Opens a copy of the image, on which the calls that are chosen for this image will fail. The
-    /// host fails exactly where there is no image of that name.
+    /// Opens a copy of the image, or a new one, on which the calls that are chosen for this image will
+    /// fail. The host fails exactly where there is no image of that name.
     fn device(
         &mut self,
         image: &str,
@@ -183,7 +217,7 @@ impl Host for MemHost {
         purpose: Purpose,
     ) -> Result<MemDevice, OpenFault>
         ensures told { IsNone redo.entry →
-            IfOk result (λ dev. IsOpened (stored_by self.old image.now) (⟦<MemDevice as Device>⟧.content dev) (⟦<MemDevice as Device>⟧.blocks dev)) }
+            IfOk result (λ dev. IsLent purpose true (stored_by self.old image.now) (⟦<MemDevice as Device>⟧.content dev) (⟦<MemDevice as Device>⟧.blocks dev)) }
         ensures redo_blocks { IsNone redo.entry → IfOk result (λ dev. ⟦<MemDevice as Device>⟧.blocks dev Region.Redo ≡ 162) }
         ensures fresh { IfOk result (λ dev. ⟦<MemDevice as Device>⟧.faults dev ≡ 0) }
         ensures lent { IfOk result (λ dev. Lends (Out dev ∷ []) (loans_of self.old) (loans_of self.new)) }
@@ -196,9 +230,8 @@ impl Host for MemHost {
         ensures calm { OnOk result (self.new.host_faults ≡ self.old.host_faults) }
         ensures later { self.old.host_faults ≤ self.new.host_faults }
         ensures memory { IsErrOf result OpenFault.Memory → self.new.host_faults ≡ self.old.host_faults }
-        ensures asked { (IsErrOf result OpenFault.Memory × (asked_of self.new ≡ asked_of self.old))
-            ⊎ (asked_of self.new ≡ asked_of self.old
-            ++ record { image = image.now; redo = option_map (λ s. s.now) redo.entry; purpose = purpose } ∷ []) }
+        ensures asked { IsAskedFor (IsErrOf result OpenFault.Memory)
+            (asks image.now (option_map (λ s. s.now) redo.entry) purpose) (asked_of self.old) (asked_of self.new) }
         ensures devices { self.new.dev_faults ≡ self.old.dev_faults }
         ensures report { Some self.new.report.items ≡ Some self.old.report.items }
         ensures sink { self.new.sink_faults ≡ self.old.sink_faults }
@@ -215,7 +248,7 @@ impl Host for MemHost {
             count_fault(&mut self.host_faults);
             return Err(OpenFault::Failed);
         };
-        match open_copy(alloc, file) {
+        match open_for(alloc, file, purpose) {
             Ok(dev) => Ok(dev),
             Err(_) => Err(OpenFault::Memory),
         }
@@ -225,9 +258,8 @@ impl Host for MemHost {
     fn put_back(&mut self, image: &str, dev: MemDevice)
         requires { Awaits self.old image.now }
         ensures lent { Lends (Back dev ∷ []) (loans_of self.old) (loans_of self.new) }
-        ensures image { (n : List ℕ) → stored_by self.new n ≡ (if bytes_eq n image.now
-            then stored_image (⟦<MemDevice as Device>⟧.content dev) (⟦<MemDevice as Device>⟧.blocks dev)
-            else stored_by self.old n) }
+        ensures image { (n : List ℕ) → stored_by self.new n ≡ stored_with image.now
+            (stored_image (⟦<MemDevice as Device>⟧.content dev) (⟦<MemDevice as Device>⟧.blocks dev)) (stored_by self.old) n }
         ensures host { self.new.host_faults ≡ self.old.host_faults }
         ensures devices { self.new.dev_faults ≡ (if ⟦<MemDevice as Device>⟧.faults dev == 0
             then self.old.dev_faults
