@@ -12,8 +12,10 @@ use std::alloc::Global;
 // A new image has one group.
 const NEW_GROUPS: u32 = 1;
 
-// The blocks of that group.
+// The blocks of that group, and so of the image.
 const NEW_LENGTH: u32 = 256;
+
+const NEW_BLOCKS: u64 = 256;
 
 /// Makes a new image under this name, and makes it durable. The device that is handed out for it is
 /// always given back.
@@ -30,8 +32,7 @@ pub fn make<H: Host>(alloc: Global, host: &mut H, image: &str) -> Finding
     ensures report { H.taken host.new ≡ H.taken host.old }
     ensures sink { H.sink_faults host.new ≡ H.sink_faults host.old }
 {
-    let purpose = Purpose::Make(u64::from(NEW_LENGTH));
-    let mut dev = match host.device(image, None, purpose) {
+    let mut dev = match host.device(image, None, Purpose::Make(NEW_BLOCKS)) {
         Ok(dev) => dev,
         Err(OpenFault::Failed) => return Finding::HostFailed,
         Err(OpenFault::Memory) => return Finding::Memory(Vec::new(alloc)),
