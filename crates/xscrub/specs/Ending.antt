@@ -1,5 +1,5 @@
 -- What a whole run owes to whoever called it.
-use Rattle.std.specs.Prelude.{◌≡◌, ◌<◌, ◌≤◌, ◌⊎◌, ℕ, Bool, true, false, List, [], ◌∷◌, ◌++◌, length, Option, Some, None, IfSome, ⊤}
+use Rattle.std.specs.Prelude.{◌≡◌, ◌<◌, ◌≤◌, ◌⊎◌, ℕ, Bool, true, false, List, [], ◌∷◌, ◌++◌, Option, Some, None, IfSome, ⊤}
 use Rattle.std.specs.Str.{bytes_eq}
 use Rattle.std.specs.List.{list_all}
 use Rattle.blk_device.specs.Causes.{Rose}
@@ -13,7 +13,7 @@ use Rattle.xscrub.specs.Command.{Job, check_of, make_of, unbuilt, usage}
 use Rattle.blk_device.specs.declared.device.Device.{Ghosts}
 use Rattle.blk_device.specs.declared.device.Region.TheVariants.{Image}
 use Rattle.xscrub.specs.Image.{image_events, image_outcome}
-use Rattle.xscrub.specs.Outcome.{Outcome, outcome_of, code_of, is_calm, is_image_line, judged_outcome, made_outcome, filled_outcome, stopped_outcome, ended_outcome}
+use Rattle.xscrub.specs.Outcome.{Outcome, outcome_of, is_calm, is_image_line, judged_outcome, made_outcome, filled_outcome, stopped_outcome, ended_outcome}
 use Rattle.run_text.specs.Report.{report_of}
 use Rattle.xscrub.specs.LastLines.{is_fixed}
 use Rattle.xscrub.specs.Shown.{TakesFronts, last_text}
@@ -30,7 +30,6 @@ use Rattle.xscrub.specs.declared.host.Purpose.TheVariants.{Check as ForCheck, Ma
 use Rattle.xscrub.specs.declared.last_lines.Form.{Form}
 use Rattle.xscrub.specs.declared.last_lines.LastLine.{LastLine}
 use Rattle.xscrub.specs.declared.last_lines.LastLine.TheVariants as lines
-use Rattle.xscrub.specs.declared.top.RunEnd.{RunEnd}
 
 -- ---- what words and bytes decide
 
