@@ -3,9 +3,11 @@ use crate::fresh::{image_of, small_heads};
 use crate::runs::{expect_end, run_words, words_of};
 use byte_fields::Block;
 use fresh_image::fresh_block;
+use std::alloc::{AllocError, Global};
+use std::collections::BTreeMap;
 use std::process::Abort;
 use std::test::Fail;
-use xscrub::{MemHost, MemImage, Purpose, fsck_main};
+use xscrub::{MemHost, MemImage, Purpose, RunEnd, fsck_main};
 
 // Asserts that the stored image is the new one, block for block.
 fn expect_fresh<R: Abort>(rt: &R, image: &MemImage) {
@@ -52,14 +54,23 @@ fn a_new_image_takes_the_place_of_what_was_there_and_is_good(rt: HostRuntime) ->
     Ok(())
 }
 
+// Makes an image on a device whose call of this number fails.
+fn make_failing(alloc: Global, call: u64) -> Result<(RunEnd, MemHost), AllocError> {
+    let mut failing = Vec::new(alloc);
+    failing.push(call)?;
+    let before = MemImage {
+        size: 0,
+        blocks: BTreeMap::new(alloc),
+        failing,
+    };
+    run_words(alloc, &["make", "a.img"], before, Vec::new(alloc))
+}
+
 #[test]
 fn each_call_of_the_device_that_fails_ends_the_making(rt: HostRuntime) -> Result<(), Fail> {
-    let alloc = rt.alloc();
     // 256 writes, and a sync.
     for call in 0..257 {
-        let mut before = image_of(alloc, 0, &[])?;
-        before.failing.push(call)?;
-        let (end, host) = run_words(alloc, &["make", "a.img"], before, Vec::new(alloc))?;
+        let (end, host) = make_failing(rt.alloc(), call)?;
         expect_end(&rt, &end, &host, 5, "device failed\n")?;
         assert_eq!(rt; host.dev_faults, 1);
         expect_asked(&rt, &host);
