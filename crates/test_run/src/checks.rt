@@ -13,7 +13,7 @@ const USAGE: &str =
 #[test]
 fn words_that_ask_for_no_check_open_no_image(rt: HostRuntime) -> Result<(), Fail> {
     let none: [&str; 0] = [];
-    let rows: [(&[&str], u8, &str); 14] = [
+    let rows: [(&[&str], u8, &str); 13] = [
         (&none, 2, USAGE),
         (&["check"], 2, USAGE),
         (&["check", "a.img", "b.img"], 2, USAGE),
@@ -31,7 +31,6 @@ fn words_that_ask_for_no_check_open_no_image(rt: HostRuntime) -> Result<(), Fail
         (&["drill", "7"], 4, "unbuilt job\n"),
         (&["make"], 2, USAGE),
         (&["make", "a.img", "--redo", "b"], 2, USAGE),
-        (&["check", "a.img", "--redo", "b"], 4, "unbuilt redo\n"),
     ];
     for (words, status, report) in &rows {
         let image = small_image(rt.alloc())?;

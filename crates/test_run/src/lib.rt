@@ -15,6 +15,8 @@ mod lines;
 #[cfg(test)]
 mod makes;
 #[cfg(test)]
+mod redos;
+#[cfg(test)]
 mod refusals;
 #[cfg(test)]
 mod runs;

@@ -1,17 +1,17 @@
 -- A journal that was told, and the line behind it.
-use Rattle.std.proofs.Common.{◌≡◌, ◌<◌, ◌≤◌, ℕ, List, [], ◌∷◌, ◌++◌, Bool, true, false, cond, IfSome, length, take, drop, Option, Some, None, ◌⊎◌, inl, inr, refl, sym, ◌∙◌, ap, subst, append_assoc, append-nil, arith}
+use Rattle.std.proofs.Common.{◌≡◌, ◌<◌, ◌≤◌, ℕ, List, [], ◌∷◌, ◌++◌, Bool, true, false, cond, IfSome, length, take, drop, Option, Some, None, is_some, ◌⊎◌, inl, inr, refl, sym, ◌∙◌, ap, subst, append_assoc, append-nil, arith}
 use Rattle.std.proofs.lemmas.List.{take-append-drop}
 use Rattle.blk_device.specs.Causes.{Rose}
 use Rattle.blk_device.specs.Taken.{Takes, TakesFront, IsFront}
 use Rattle.blk_device.proofs.TakenLemmas.{then, whole_front, takes_nothing}
 use Rattle.xscrub.proofs.ShownLemmas.{told_nothing}
 use Rattle.std.specs.List.{list_all}
-use Rattle.xscrub.specs.Ending.{IsShown, IsToldOf, IsFoundBy, Decides, EndsFor, HasOutcomeCause, IsSettled, IsOutcome, IsAsked, IsShort, IsOfImage, IsOfMake, IsWorded, IsImageLine, IsToldOrShort, EndsByWords, HasUnitsOf}
+use Rattle.xscrub.specs.Ending.{IsShown, IsToldOf, IsFoundBy, Decides, EndsFor, HasOutcomeCause, IsSettled, IsOutcome, IsAsked, IsShort, IsOfImage, IsOfMake, IsWorded, IsImageLine, IsToldOrShort, NeedsMemory, EndsByWords, HasUnitsOf}
 use Rattle.xscrub.specs.Command.{Job, check_of, make_of, unbuilt, usage}
 use Rattle.xscrub.specs.Stored.{Request}
 use Rattle.xscrub.specs.Units.{HasAllUnits, HasFirstUnits, HasUnits}
 use Rattle.xscrub.proofs.UnitLemmas.{no_units, all_are_first, most_are_first}
-use Rattle.xscrub.specs.Outcome.{Outcome, is_calm, is_image_line, judged_status, judged_outcome, filled_outcome, made_outcome, stopped_outcome, ended_outcome, outcome_of}
+use Rattle.xscrub.specs.Outcome.{Outcome, is_calm, is_refusal, judged_status, judged_outcome, filled_outcome, made_outcome, stopped_outcome, ended_outcome, outcome_of}
 use Rattle.xscrub.specs.declared.ending.Finding.{Finding}
 use Rattle.xscrub.specs.declared.ending.Finding.TheVariants as findings
 use Rattle.run_text.specs.Report.{report_of}
@@ -20,7 +20,6 @@ use Rattle.xscrub.specs.Shown.{IsLineShown, EndsWith, last_text}
 use Rattle.xscrub.specs.declared.ending.Status.{Status}
 use Rattle.xscrub.specs.declared.ending.Status.TheVariants as statuses
 use Rattle.fs_model.specs.declared.entry.Entry.{Entry}
-use Rattle.xscrub.specs.declared.last_lines.Form.{Form}
 use Rattle.xscrub.specs.declared.last_lines.LastLine.{LastLine}
 use Rattle.xscrub.specs.declared.last_lines.LastLine.TheVariants as lines
 
@@ -242,41 +241,41 @@ judged_not_usage journal e = either (list_all is_calm journal) e
     either true e = cc
     either false e = cc
 
-found_not_usage : (finding : Finding) → IsOfImage finding → (outcome_of finding).status ≡ statuses.Usage → ⊥
-found_not_usage (findings.Judged journal) of e = judged_not_usage journal.items e
-found_not_usage (findings.Full journal) of e = cc
-found_not_usage (findings.Refused line) of e = cc
-found_not_usage findings.Made of e = of
-found_not_usage findings.Usage of e = of
-found_not_usage (findings.DeviceFailed journal) of e = cc
-found_not_usage findings.HostFailed of e = cc
-found_not_usage (findings.Memory journal) of e = cc
+found_not_usage : (given : Bool) (finding : Finding) → IsOfImage given finding → (outcome_of finding).status ≡ statuses.Usage → ⊥
+found_not_usage given (findings.Judged journal) of e = judged_not_usage journal.items e
+found_not_usage given (findings.Full journal) of e = cc
+found_not_usage given (findings.Refused line) of e = cc
+found_not_usage given findings.Made of e = of
+found_not_usage given findings.Usage of e = of
+found_not_usage given (findings.DeviceFailed journal) of e = cc
+found_not_usage given findings.HostFailed of e = cc
+found_not_usage given (findings.Memory journal) of e = cc
 
-not_unbuilt : (line : LastLine) (form : Form) → is_image_line line ≡ true → Some line ≡ Some (lines.Unbuilt form) → ⊥
-not_unbuilt line form image e = let same : line ≡ lines.Unbuilt form = cc in clash (subst (λ (l : LastLine). is_image_line l ≡ true) same image)
+not_unbuilt : (given : Bool) (line : LastLine) → is_refusal given line ≡ true → Some line ≡ Some lines.Unbuilt → ⊥
+not_unbuilt given line image e = let same : line ≡ lines.Unbuilt = cc in clash (subst (λ (l : LastLine). is_refusal given l ≡ true) same image)
   where
     clash : false ≡ true → ⊥
     clash e = cc
 
-found_not_unbuilt : (finding : Finding) (form : Form) → IsOfImage finding → (outcome_of finding).last ≡ Some (lines.Unbuilt form) → ⊥
-found_not_unbuilt (findings.Judged journal) form of e = cc
-found_not_unbuilt (findings.Full journal) form of e = cc
-found_not_unbuilt (findings.Refused line) form of e = not_unbuilt line form of e
-found_not_unbuilt findings.Made form of e = of
-found_not_unbuilt findings.Usage form of e = of
-found_not_unbuilt (findings.DeviceFailed journal) form of e = cc
-found_not_unbuilt findings.HostFailed form of e = cc
-found_not_unbuilt (findings.Memory journal) form of e = cc
+found_not_unbuilt : (given : Bool) (finding : Finding) → IsOfImage given finding → (outcome_of finding).last ≡ Some lines.Unbuilt → ⊥
+found_not_unbuilt given (findings.Judged journal) of e = cc
+found_not_unbuilt given (findings.Full journal) of e = cc
+found_not_unbuilt given (findings.Refused line) of e = not_unbuilt given line of e
+found_not_unbuilt given findings.Made of e = of
+found_not_unbuilt given findings.Usage of e = of
+found_not_unbuilt given (findings.DeviceFailed journal) of e = cc
+found_not_unbuilt given findings.HostFailed of e = cc
+found_not_unbuilt given (findings.Memory journal) of e = cc
 
-told_not_usage : (finding : Finding) (told : Outcome) (k k' : ℕ) → IsOfImage finding → IsToldOf (outcome_of finding) k k' told → told.status ≡ statuses.Usage → ⊥
-told_not_usage finding told k k' of (inl whole) e = found_not_usage finding of (ap (λ (q : Outcome). q.status) (sym whole.0) ∙ e)
-told_not_usage finding told k k' of (inr (inl failed)) e = let clash : statuses.Failed ≡ statuses.Usage = ap (λ (q : Outcome). q.status) (sym failed.0) ∙ e in cc
-told_not_usage finding told k k' of (inr (inr memory)) e = let clash : statuses.Memory ≡ statuses.Usage = sym memory.0 ∙ e in cc
+told_not_usage : (given : Bool) (finding : Finding) (told : Outcome) (k k' : ℕ) → IsOfImage given finding → IsToldOf (outcome_of finding) k k' told → told.status ≡ statuses.Usage → ⊥
+told_not_usage given finding told k k' of (inl whole) e = found_not_usage given finding of (ap (λ (q : Outcome). q.status) (sym whole.0) ∙ e)
+told_not_usage given finding told k k' of (inr (inl failed)) e = let clash : statuses.Failed ≡ statuses.Usage = ap (λ (q : Outcome). q.status) (sym failed.0) ∙ e in cc
+told_not_usage given finding told k k' of (inr (inr memory)) e = let clash : statuses.Memory ≡ statuses.Usage = sym memory.0 ∙ e in cc
 
-told_not_unbuilt : (finding : Finding) (told : Outcome) (k k' : ℕ) (form : Form) → IsOfImage finding → IsToldOf (outcome_of finding) k k' told → told.last ≡ Some (lines.Unbuilt form) → ⊥
-told_not_unbuilt finding told k k' form of (inl whole) e = found_not_unbuilt finding form of (ap (λ (q : Outcome). q.last) (sym whole.0) ∙ e)
-told_not_unbuilt finding told k k' form of (inr (inl failed)) e = let clash : Some lines.HostFailed ≡ Some (lines.Unbuilt form) = ap (λ (q : Outcome). q.last) (sym failed.0) ∙ e in cc
-told_not_unbuilt finding told k k' form of (inr (inr memory)) e = let clash : Some lines.Memory ≡ Some (lines.Unbuilt form) = sym memory.1 ∙ e in cc
+told_not_unbuilt : (given : Bool) (finding : Finding) (told : Outcome) (k k' : ℕ) → IsOfImage given finding → IsToldOf (outcome_of finding) k k' told → told.last ≡ Some lines.Unbuilt → ⊥
+told_not_unbuilt given finding told k k' of (inl whole) e = found_not_unbuilt given finding of (ap (λ (q : Outcome). q.last) (sym whole.0) ∙ e)
+told_not_unbuilt given finding told k k' of (inr (inl failed)) e = let clash : Some lines.HostFailed ≡ Some lines.Unbuilt = ap (λ (q : Outcome). q.last) (sym failed.0) ∙ e in cc
+told_not_unbuilt given finding told k k' of (inr (inr memory)) e = let clash : Some lines.Memory ≡ Some lines.Unbuilt = sym memory.1 ∙ e in cc
 
 judged_not_refused : (journal : List Entry) → judged_status journal ≡ statuses.Refused → ⊥
 judged_not_refused journal e = either (list_all is_calm journal) e
@@ -285,21 +284,21 @@ judged_not_refused journal e = either (list_all is_calm journal) e
     either true e = cc
     either false e = cc
 
-found_image : (finding : Finding) → IsOfImage finding → (outcome_of finding).status ≡ statuses.Refused → IsImageLine (outcome_of finding).last
-found_image (findings.Judged journal) of e = absurd (judged_not_refused journal.items e)
-found_image (findings.Full journal) of e = absurd (full_not_refused e)
-found_image (findings.Refused line) of e = (line, refl, of)
-found_image findings.Made of e = absurd of
-found_image findings.Usage of e = absurd of
-found_image (findings.DeviceFailed journal) of e = absurd (failed_not_refused e)
-found_image findings.HostFailed of e = absurd (failed_not_refused e)
-found_image (findings.Memory journal) of e = absurd (memory_not_refused e)
+found_image : (given : Bool) (finding : Finding) → IsOfImage given finding → (outcome_of finding).status ≡ statuses.Refused → IsImageLine given (outcome_of finding).last
+found_image given (findings.Judged journal) of e = absurd (judged_not_refused journal.items e)
+found_image given (findings.Full journal) of e = absurd (full_not_refused e)
+found_image given (findings.Refused line) of e = (line, refl, of)
+found_image given findings.Made of e = absurd of
+found_image given findings.Usage of e = absurd of
+found_image given (findings.DeviceFailed journal) of e = absurd (failed_not_refused e)
+found_image given findings.HostFailed of e = absurd (failed_not_refused e)
+found_image given (findings.Memory journal) of e = absurd (memory_not_refused e)
 
-told_image : (finding : Finding) (told : Outcome) (k k' : ℕ) → IsOfImage finding → IsToldOf (outcome_of finding) k k' told → told.status ≡ statuses.Refused → IsImageLine told.last
-told_image finding told k k' of (inl whole) e =
-    subst (λ (o : Outcome). IsImageLine o.last) (sym whole.0) (found_image finding of (ap (λ (q : Outcome). q.status) (sym whole.0) ∙ e))
-told_image finding told k k' of (inr (inl failed)) e = absurd (failed_not_refused (ap (λ (q : Outcome). q.status) (sym failed.0) ∙ e))
-told_image finding told k k' of (inr (inr memory)) e = absurd (memory_not_refused (sym memory.0 ∙ e))
+told_image : (given : Bool) (finding : Finding) (told : Outcome) (k k' : ℕ) → IsOfImage given finding → IsToldOf (outcome_of finding) k k' told → told.status ≡ statuses.Refused → IsImageLine given told.last
+told_image given finding told k k' of (inl whole) e =
+    subst (λ (o : Outcome). IsImageLine given o.last) (sym whole.0) (found_image given finding of (ap (λ (q : Outcome). q.status) (sym whole.0) ∙ e))
+told_image given finding told k k' of (inr (inl failed)) e = absurd (failed_not_refused (ap (λ (q : Outcome). q.status) (sym failed.0) ∙ e))
+told_image given finding told k k' of (inr (inr memory)) e = absurd (memory_not_refused (sym memory.0 ∙ e))
 
 -- a finding that there was no memory before the first unit
 short_told : (finding : Finding) (told : Outcome) (k k' : ℕ) → IsShort finding → IsToldOf (outcome_of finding) k k' told → told ≡ ended_outcome statuses.Memory lines.Memory
@@ -335,10 +334,10 @@ made_told (findings.Memory journal) told k k' of ends = inr (told_none (outcome_
 
 pub told_by_words : (job : Job) (finding : Finding) (told : Outcome) (k k' : ℕ) → IsWorded job finding → IsToldOf (outcome_of finding) k k' told → EndsByWords job told
 told_by_words usage finding told k k' worded ends = worded_told finding findings.Usage statuses.Usage lines.Usage told k k' refl refl worded ends
-told_by_words (unbuilt form) finding told k k' worded ends =
-    worded_told finding (findings.Refused (lines.Unbuilt form)) statuses.Refused (lines.Unbuilt form) told k k' refl refl worded ends
-told_by_words (check_of name) finding told k k' worded ends =
-    (told_not_usage finding told k k' worded ends, λ form. told_not_unbuilt finding told k k' form worded ends, told_image finding told k k' worded ends)
+told_by_words unbuilt finding told k k' worded ends =
+    worded_told finding (findings.Refused lines.Unbuilt) statuses.Refused lines.Unbuilt told k k' refl refl worded ends
+told_by_words (check_of name redo) finding told k k' worded ends =
+    (told_not_usage (is_some redo) finding told k k' worded ends, told_not_unbuilt (is_some redo) finding told k k' worded ends, told_image (is_some redo) finding told k k' worded ends)
 told_by_words (make_of name) finding told k k' worded ends = made_told finding told k k' worded ends
 
 -- ---- the units of a journal
@@ -350,35 +349,35 @@ judged_units journal all = either (list_all is_calm journal)
     either true = all
     either false = all
 
-found_units : (finding : Finding) → IsOfImage finding → HasUnits (outcome_of finding).status (outcome_of finding).journal
-found_units (findings.Judged journal) of = judged_units journal.items of
-found_units (findings.Full journal) of = of
-found_units (findings.Refused line) of = tt
-found_units findings.Made of = absurd of
-found_units findings.Usage of = tt
-found_units (findings.DeviceFailed journal) of = of
-found_units findings.HostFailed of = no_units
-found_units (findings.Memory journal) of = (journal.items, of, ([], sym (append-nil journal.items)))
+found_units : (given : Bool) (finding : Finding) → IsOfImage given finding → HasUnits (outcome_of finding).status (outcome_of finding).journal
+found_units given (findings.Judged journal) of = judged_units journal.items of
+found_units given (findings.Full journal) of = of
+found_units given (findings.Refused line) of = tt
+found_units given findings.Made of = absurd of
+found_units given findings.Usage of = tt
+found_units given (findings.DeviceFailed journal) of = of
+found_units given findings.HostFailed of = no_units
+found_units given (findings.Memory journal) of = (journal.items, of, ([], sym (append-nil journal.items)))
 
-found_first : (finding : Finding) → IsOfImage finding → HasFirstUnits (outcome_of finding).journal
-found_first (findings.Judged journal) of = all_are_first journal.items of
-found_first (findings.Full journal) of = most_are_first journal.items of
-found_first (findings.Refused line) of = no_units
-found_first findings.Made of = no_units
-found_first findings.Usage of = no_units
-found_first (findings.DeviceFailed journal) of = of
-found_first findings.HostFailed of = no_units
-found_first (findings.Memory journal) of = of
+found_first : (given : Bool) (finding : Finding) → IsOfImage given finding → HasFirstUnits (outcome_of finding).journal
+found_first given (findings.Judged journal) of = all_are_first journal.items of
+found_first given (findings.Full journal) of = most_are_first journal.items of
+found_first given (findings.Refused line) of = no_units
+found_first given findings.Made of = no_units
+found_first given findings.Usage of = no_units
+found_first given (findings.DeviceFailed journal) of = of
+found_first given findings.HostFailed of = no_units
+found_first given (findings.Memory journal) of = of
 
-short_of_image : (finding : Finding) → IsShort finding → IsOfImage finding
-short_of_image (findings.Judged journal) short = absurd short
-short_of_image (findings.Full journal) short = absurd short
-short_of_image (findings.Refused line) short = absurd short
-short_of_image findings.Made short = absurd short
-short_of_image findings.Usage short = absurd short
-short_of_image (findings.DeviceFailed journal) short = absurd short
-short_of_image findings.HostFailed short = absurd short
-short_of_image (findings.Memory journal) short = subst HasFirstUnits (sym short) no_units
+short_of_image : (given : Bool) (finding : Finding) → IsShort finding → IsOfImage given finding
+short_of_image given (findings.Judged journal) short = absurd short
+short_of_image given (findings.Full journal) short = absurd short
+short_of_image given (findings.Refused line) short = absurd short
+short_of_image given findings.Made short = absurd short
+short_of_image given findings.Usage short = absurd short
+short_of_image given (findings.DeviceFailed journal) short = absurd short
+short_of_image given findings.HostFailed short = absurd short
+short_of_image given (findings.Memory journal) short = subst HasFirstUnits (sym short) no_units
 
 short_of_make : (finding : Finding) → IsShort finding → IsOfMake finding
 short_of_make (findings.Judged journal) short = absurd short
@@ -393,18 +392,18 @@ short_of_make (findings.Memory journal) short = short
 -- there was no memory for the words
 pub short_worded : (job : Job) (finding : Finding) → IsShort finding → IsWorded job finding
 short_worded usage finding short = inr short
-short_worded (unbuilt form) finding short = inr short
-short_worded (check_of name) finding short = short_of_image finding short
+short_worded unbuilt finding short = inr short
+short_worded (check_of name redo) finding short = short_of_image (is_some redo) finding short
 short_worded (make_of name) finding short = short_of_make finding short
 
 -- words alone have no units
 no_words_units : (finding wanted : Finding) → HasUnits (outcome_of wanted).status (outcome_of wanted).journal → (finding ≡ wanted) ⊎ IsShort finding → HasUnits (outcome_of finding).status (outcome_of finding).journal
 no_words_units finding wanted none (inl same) = subst (λ (f : Finding). HasUnits (outcome_of f).status (outcome_of f).journal) (sym same) none
-no_words_units finding wanted none (inr short) = found_units finding (short_of_image finding short)
+no_words_units finding wanted none (inr short) = found_units true finding (short_of_image true finding short)
 
 no_words_first : (finding wanted : Finding) → HasFirstUnits (outcome_of wanted).journal → (finding ≡ wanted) ⊎ IsShort finding → HasFirstUnits (outcome_of finding).journal
 no_words_first finding wanted none (inl same) = subst (λ (f : Finding). HasFirstUnits (outcome_of f).journal) (sym same) none
-no_words_first finding wanted none (inr short) = found_first finding (short_of_image finding short)
+no_words_first finding wanted none (inr short) = found_first true finding (short_of_image true finding short)
 
 -- the units that a finding has, told
 units_told : (finding : Finding) (told : Outcome) (k k' : ℕ) → HasUnits (outcome_of finding).status (outcome_of finding).journal → HasFirstUnits (outcome_of finding).journal
@@ -422,7 +421,7 @@ no_made_units told (inr stopped) = stopped.0
 pub told_units : (job : Job) (finding : Finding) (told : Outcome) (k k' : ℕ) → IsWorded job finding → IsToldOf (outcome_of finding) k k' told → HasUnitsOf job told.status told.journal
 told_units usage finding told k k' worded ends =
     units_told finding told k k' (no_words_units finding findings.Usage tt worded) (no_words_first finding findings.Usage no_units worded) ends
-told_units (unbuilt form) finding told k k' worded ends =
-    units_told finding told k k' (no_words_units finding (findings.Refused (lines.Unbuilt form)) tt worded) (no_words_first finding (findings.Refused (lines.Unbuilt form)) no_units worded) ends
-told_units (check_of name) finding told k k' worded ends = units_told finding told k k' (found_units finding worded) (found_first finding worded) ends
+told_units unbuilt finding told k k' worded ends =
+    units_told finding told k k' (no_words_units finding (findings.Refused lines.Unbuilt) tt worded) (no_words_first finding (findings.Refused lines.Unbuilt) no_units worded) ends
+told_units (check_of name redo) finding told k k' worded ends = units_told finding told k k' (found_units (is_some redo) finding worded) (found_first (is_some redo) finding worded) ends
 told_units (make_of name) finding told k k' worded ends = no_made_units told (made_told finding told k k' worded ends)

@@ -1,5 +1,5 @@
 -- What a whole run owes to whoever called it.
-use Rattle.std.specs.Prelude.{◌≡◌, ◌<◌, ◌≤◌, ◌⊎◌, ℕ, Bool, true, false, List, [], ◌∷◌, ◌++◌, Option, Some, None, IfSome, ⊤}
+use Rattle.std.specs.Prelude.{◌≡◌, ◌<◌, ◌≤◌, ◌⊎◌, ℕ, Bool, true, false, List, [], ◌∷◌, ◌++◌, length, Option, Some, None, IfSome, is_some, ⊤}
 use Rattle.std.specs.Str.{bytes_eq}
 use Rattle.std.specs.List.{list_all}
 use Rattle.blk_device.specs.Causes.{Rose}
@@ -11,14 +11,14 @@ use Rattle.fresh_image.specs.Fresh.{fresh}
 use Rattle.fresh_image.specs.Written.{AllButFresh, BecomesFresh, OthersStay}
 use Rattle.xscrub.specs.Command.{Job, check_of, make_of, unbuilt, usage}
 use Rattle.blk_device.specs.declared.device.Device.{Ghosts}
-use Rattle.blk_device.specs.declared.device.Region.TheVariants.{Image}
-use Rattle.xscrub.specs.Image.{image_events, image_outcome}
-use Rattle.xscrub.specs.Outcome.{Outcome, outcome_of, is_calm, is_image_line, judged_outcome, made_outcome, filled_outcome, stopped_outcome, ended_outcome}
+use Rattle.blk_device.specs.declared.device.Region.TheVariants.{Image, Redo}
+use Rattle.xscrub.specs.Image.{device_events, device_outcome}
+use Rattle.xscrub.specs.Outcome.{Outcome, outcome_of, code_of, is_calm, is_refusal, judged_outcome, made_outcome, filled_outcome, stopped_outcome, ended_outcome}
 use Rattle.run_text.specs.Report.{report_of}
 use Rattle.xscrub.specs.LastLines.{is_fixed}
 use Rattle.xscrub.specs.Shown.{TakesFronts, last_text}
 use Rattle.xscrub.specs.Judged.{IsKept}
-use Rattle.xscrub.specs.Stored.{Stored, Request, Loan, Out, Back, Lends, IsOpened, asks}
+use Rattle.xscrub.specs.Stored.{Stored, Request, Loan, Out, Back, Lends, IsOpened, asks, opened, redo_named}
 use Rattle.xscrub.specs.Units.{HasAllUnits, HasItsMost, HasFirstUnits, HasUnits}
 use Rattle.xscrub.specs.declared.ending.Finding.{Finding}
 use Rattle.xscrub.specs.declared.ending.Finding.TheVariants as findings
@@ -27,28 +27,30 @@ use Rattle.xscrub.specs.declared.ending.Status.TheVariants as statuses
 use Rattle.xscrub.specs.declared.ending.Told.{Told}
 use Rattle.fs_model.specs.declared.entry.Entry.{Entry}
 use Rattle.xscrub.specs.declared.host.Purpose.TheVariants.{Check as ForCheck, Make as ForMake}
-use Rattle.xscrub.specs.declared.last_lines.Form.{Form}
 use Rattle.xscrub.specs.declared.last_lines.LastLine.{LastLine}
 use Rattle.xscrub.specs.declared.last_lines.LastLine.TheVariants as lines
+use Rattle.xscrub.specs.declared.top.RunEnd.{RunEnd}
 
 -- ---- what words and bytes decide
 
-abbrev pub stored_outcome : Option Stored → Option Outcome
-stored_outcome None = None
-stored_outcome (Some file) = Some (image_outcome file.size file.at)
+-- an image with a redo region, whose redo file is looked at where one is given
+abbrev pub stored_outcome : (given : Bool) → (image redo : Option Stored) → Option Outcome
+stored_outcome given None redo = None
+stored_outcome given (Some file) None = None
+stored_outcome given (Some file) (Some redo) = Some (device_outcome given redo.size file.size (opened file redo))
 
--- how a run ends that nothing stops: None where the host doesn't tell the image that is named
-abbrev pub decided_by : Job → (List ℕ → Option Stored) → Option Outcome
-decided_by usage stored = Some (ended_outcome statuses.Usage lines.Usage)
-decided_by (unbuilt form) stored = Some (ended_outcome statuses.Refused (lines.Unbuilt form))
-decided_by (check_of name) stored = stored_outcome (stored name)
-decided_by (make_of name) stored = Some made_outcome
+-- how a run ends that nothing stops: None where the host doesn't tell the files that are named
+abbrev pub decided_by : Job → (stored redos : List ℕ → Option Stored) → Option Outcome
+decided_by usage stored redos = Some (ended_outcome statuses.Usage lines.Usage)
+decided_by unbuilt stored redos = Some (ended_outcome statuses.Refused lines.Unbuilt)
+decided_by (check_of name redo) stored redos = stored_outcome (is_some redo) (stored name) (redo_named redos redo)
+decided_by (make_of name) stored redos = Some made_outcome
 
 -- what the host is asked for
 abbrev pub requests_of : Job → List Request
 requests_of usage = []
-requests_of (unbuilt form) = []
-requests_of (check_of name) = asks name None ForCheck ∷ []
+requests_of unbuilt = []
+requests_of (check_of name redo) = asks name redo ForCheck ∷ []
 requests_of (make_of name) = asks name None (ForMake 256) ∷ []
 
 -- ---- what a check of an image finds, before it is told
@@ -75,16 +77,16 @@ IsFoundBy (findings.DeviceFailed journal) host host' devices devices' = Rose dev
 IsFoundBy findings.HostFailed host host' devices devices' = Rose host host'
 IsFoundBy (findings.Memory journal) host host' devices devices' = ⊤
 
--- a finding that an image may have
-abbrev pub IsOfImage : Finding → Type 0
-IsOfImage (findings.Judged journal) = HasAllUnits journal.items
-IsOfImage (findings.Full journal) = HasItsMost journal.items
-IsOfImage (findings.Refused line) = is_image_line line ≡ true
-IsOfImage findings.Made = ⊥
-IsOfImage findings.Usage = ⊥
-IsOfImage (findings.DeviceFailed journal) = HasFirstUnits journal.items
-IsOfImage findings.HostFailed = ⊤
-IsOfImage (findings.Memory journal) = HasFirstUnits journal.items
+-- a finding that an image may have, and the redo file that is given
+abbrev pub IsOfImage : Bool → Finding → Type 0
+IsOfImage given (findings.Judged journal) = HasAllUnits journal.items
+IsOfImage given (findings.Full journal) = HasItsMost journal.items
+IsOfImage given (findings.Refused line) = is_refusal given line ≡ true
+IsOfImage given findings.Made = ⊥
+IsOfImage given findings.Usage = ⊥
+IsOfImage given (findings.DeviceFailed journal) = HasFirstUnits journal.items
+IsOfImage given findings.HostFailed = ⊤
+IsOfImage given (findings.Memory journal) = HasFirstUnits journal.items
 
 -- a finding that the making of an image may have
 abbrev pub IsOfMake : Finding → Type 0
@@ -108,16 +110,16 @@ IsShort (findings.DeviceFailed journal) = ⊥
 IsShort findings.HostFailed = ⊥
 IsShort (findings.Memory journal) = journal.items ≡ []
 
--- A device with this image was handed out, and came back. It was only read, and the journal has all
+-- A device with this image and redo region was handed out, and came back. It was only read, and the journal has all
 -- that was judged by what was read of it.
-pub record CameBack {D : Type 0} (g : Ghosts D) (file : Option Stored) (loans loans' : Option (List (Loan D))) (journal : List Entry) : Type 0 where
+pub record CameBack {D : Type 0} (g : Ghosts D) (given : Bool) (file redo : Option Stored) (loans loans' : Option (List (Loan D))) (journal : List Entry) : Type 0 where
   pub dev : D
   pub back : D
   pub lent : Lends (Out dev ∷ Back back ∷ []) loans loans'
-  pub opened : IsOpened file (g.content dev) (g.blocks dev)
+  pub opened_so : IsOpened file redo (g.content dev) (g.blocks dev)
   pub same : g.content back ≡ g.content dev
   pub crash : Keeps g EachBlock dev back
-  pub kept : IfSome (g.content dev) (λ m. IsKept (image_events (g.blocks dev Image) (m Image)) (g.reads dev) (g.reads back) journal)
+  pub kept : IfSome (g.content dev) (λ m. IsKept (device_events given (g.blocks dev Redo) (g.blocks dev Image) m) (g.reads dev) (g.reads back) journal)
 
 -- A device with room for a new image was handed out, and came back. Once it is done, the new image is on
 -- it and durable; until then blocks of that image alone may have changed.
@@ -143,12 +145,12 @@ IsUnopened findings.HostFailed = ⊤
 IsUnopened (findings.Memory journal) = journal.items ≡ []
 
 -- what is found for these words, with the device that was handed out for them
-abbrev pub FindsBy : {D : Type 0} → Ghosts D → Job → (List ℕ → Option Stored) → (loans loans' : Option (List (Loan D))) → Finding → Type 0
-FindsBy g usage stored loans loans' finding = loans' ≡ loans
-FindsBy g (unbuilt form) stored loans loans' finding = loans' ≡ loans
-FindsBy g (check_of name) stored loans loans' finding =
-    (IsUnopened finding × (loans' ≡ loans)) ⊎ CameBack g (stored name) loans loans' (outcome_of finding).journal
-FindsBy g (make_of name) stored loans loans' finding = (IsUnopened finding × (loans' ≡ loans)) ⊎ WasMade g (finding ≡ findings.Made) loans loans'
+abbrev pub FindsBy : {D : Type 0} → Ghosts D → Job → (stored redos : List ℕ → Option Stored) → (loans loans' : Option (List (Loan D))) → Finding → Type 0
+FindsBy g usage stored redos loans loans' finding = loans' ≡ loans
+FindsBy g unbuilt stored redos loans loans' finding = loans' ≡ loans
+FindsBy g (check_of name redo) stored redos loans loans' finding =
+    (IsUnopened finding × (loans' ≡ loans)) ⊎ CameBack g (is_some redo) (stored name) (redo_named redos redo) loans loans' (outcome_of finding).journal
+FindsBy g (make_of name) stored redos loans loans' finding = (IsUnopened finding × (loans' ≡ loans)) ⊎ WasMade g (finding ≡ findings.Made) loans loans'
 
 -- a stored image is the new one of one group of 256 blocks
 abbrev pub IsFreshFile : Option Stored → Type 0
@@ -169,8 +171,8 @@ LeavesStored other tells done unopened stored stored' = (n : List ℕ) → store
 -- what the words alone say of a finding
 abbrev pub IsWorded : Job → Finding → Type 0
 IsWorded usage finding = (finding ≡ findings.Usage) ⊎ IsShort finding
-IsWorded (unbuilt form) finding = (finding ≡ findings.Refused (lines.Unbuilt form)) ⊎ IsShort finding
-IsWorded (check_of name) finding = IsOfImage finding
+IsWorded unbuilt finding = (finding ≡ findings.Refused lines.Unbuilt) ⊎ IsShort finding
+IsWorded (check_of name redo) finding = IsOfImage (is_some redo) finding
 IsWorded (make_of name) finding = IsOfMake finding
 
 pub record IsFound (decided : Option Outcome) (host host' devices devices' : ℕ) (finding : Finding) : Type 0 where
@@ -240,9 +242,9 @@ pub record IsOutcome (told decided : Outcome) : Type 0 where
 abbrev pub IsAsked : Job → (short : Type 0) → (asked asked' : List Request) → Type 0
 IsAsked command short asked asked' = (short × (asked' ≡ asked)) ⊎ (asked' ≡ asked ++ requests_of command)
 
--- a line that tells of the image
-abbrev pub IsImageLine : Option LastLine → Type 0
-IsImageLine last = (line : LastLine) × (last ≡ Some line) × (is_image_line line ≡ true)
+-- a line that tells of the image, or of the redo file that is given
+abbrev pub IsImageLine : Bool → Option LastLine → Type 0
+IsImageLine given last = (line : LastLine) × (last ≡ Some line) × (is_refusal given line ≡ true)
 
 -- this is told; or that there was no memory, and nothing else
 abbrev pub IsToldOrShort : (wanted told : Outcome) → Type 0
@@ -252,22 +254,22 @@ IsToldOrShort wanted told = (told ≡ wanted) ⊎ (told ≡ ended_outcome status
 -- refused tells of the image.
 abbrev pub EndsByWords : Job → Outcome → Type 0
 EndsByWords usage told = IsToldOrShort (ended_outcome statuses.Usage lines.Usage) told
-EndsByWords (unbuilt form) told = IsToldOrShort (ended_outcome statuses.Refused (lines.Unbuilt form)) told
-EndsByWords (check_of name) told =
-    (told.status ≡ statuses.Usage → ⊥) × ((form : Form) → told.last ≡ Some (lines.Unbuilt form) → ⊥)
-    × (told.status ≡ statuses.Refused → IsImageLine told.last)
+EndsByWords unbuilt told = IsToldOrShort (ended_outcome statuses.Refused lines.Unbuilt) told
+EndsByWords (check_of name redo) told =
+    (told.status ≡ statuses.Usage → ⊥) × (told.last ≡ Some lines.Unbuilt → ⊥)
+    × (told.status ≡ statuses.Refused → IsImageLine (is_some redo) told.last)
 EndsByWords (make_of name) told = (told ≡ made_outcome) ⊎ ((told.journal ≡ []) × (IsSettled told.status → ⊥))
 
 -- Words that ask for no check have no device. A check has one, and tells all that was judged by what
 -- was read of it, or where memory was short a front of that; or the host handed none out.
-abbrev pub TellsBy : {D : Type 0} → Ghosts D → Job → (List ℕ → Option Stored) → (loans loans' : Option (List (Loan D))) → Outcome → Type 0
-TellsBy g usage stored loans loans' told = loans' ≡ loans
-TellsBy g (unbuilt form) stored loans loans' told = loans' ≡ loans
-TellsBy g (check_of name) stored loans loans' told =
+abbrev pub TellsBy : {D : Type 0} → Ghosts D → Job → (stored redos : List ℕ → Option Stored) → (loans loans' : Option (List (Loan D))) → Outcome → Type 0
+TellsBy g usage stored redos loans loans' told = loans' ≡ loans
+TellsBy g unbuilt stored redos loans loans' told = loans' ≡ loans
+TellsBy g (check_of name redo) stored redos loans loans' told =
     ((loans' ≡ loans) × (told.journal ≡ []) × (IsSettled told.status → ⊥))
-    ⊎ ((found : List Entry) × CameBack g (stored name) loans loans' found × IsFront told.journal found
+    ⊎ ((found : List Entry) × CameBack g (is_some redo) (stored name) (redo_named redos redo) loans loans' found × IsFront told.journal found
     × ((told.status ≡ statuses.Memory → ⊥) → told.journal ≡ found))
-TellsBy g (make_of name) stored loans loans' told =
+TellsBy g (make_of name) stored redos loans loans' told =
     ((loans' ≡ loans) × (told.journal ≡ []) × (IsSettled told.status → ⊥)) ⊎ WasMade g (told.status ≡ statuses.Clean) loans loans'
 
 -- the units of a journal; a new image has none

@@ -68,11 +68,17 @@ abbrev pub is_image_line : LastLine → Bool
 is_image_line (lines.Image fault) = true
 is_image_line (lines.Head group head fault) = true
 is_image_line lines.Usage = false
-is_image_line (lines.Unbuilt form) = false
+is_image_line lines.Unbuilt = false
+is_image_line (lines.Redo refusal) = false
 is_image_line lines.DeviceFailed = false
 is_image_line lines.HostFailed = false
 is_image_line lines.JournalFull = false
 is_image_line lines.Memory = false
+
+-- a line that tells of an image, or of the redo file that was given beside it
+abbrev pub is_refusal : Bool → LastLine → Bool
+is_refusal given (lines.Redo refusal) = given
+is_refusal given line = is_image_line line
 
 abbrev pub outcome_of : Finding → Outcome
 outcome_of (findings.Judged journal) = judged_outcome journal.items

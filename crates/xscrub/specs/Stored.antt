@@ -32,24 +32,36 @@ Lends loans None (Some new) = ⊥
 Lends loans (Some old) None = ⊥
 Lends loans (Some old) (Some new) = new ≡ old ++ loans
 
--- an image that was opened without a redo file: its redo region is zeros
-abbrev pub opened : Stored → Contents
-opened file Image b = file.at b
-opened file Redo b = zeros
+-- the redo region without a redo file: 162 blocks of zeros
+abbrev pub no_redo : Stored
+no_redo = record { size = 162; at = λ b. zeros }
 
--- the device that was handed out has the named image, where the host tells that
-abbrev pub IsOpened : Option Stored → Option Contents → (Region → ℕ) → Type 0
-IsOpened None content blocks = content ≡ None
-IsOpened (Some file) content blocks = (content ≡ Some (opened file)) × (blocks Image ≡ file.size)
+-- the redo region by the name of a redo file, where one is given
+abbrev pub redo_named : (List ℕ → Option Stored) → Option (List ℕ) → Option Stored
+redo_named redos None = Some no_redo
+redo_named redos (Some name) = redos name
+
+-- an image with a redo region beside it
+abbrev pub opened : Stored → Stored → Contents
+opened file redo Image b = file.at b
+opened file redo Redo b = redo.at b
+
+-- the device that was handed out has the named image and redo region, where the host tells the image; one that
+-- tells images tells redo files too
+abbrev pub IsOpened : Option Stored → Option Stored → Option Contents → (Region → ℕ) → Type 0
+IsOpened None redo content blocks = content ≡ None
+IsOpened (Some file) None content blocks = ⊥
+IsOpened (Some file) (Some redo) content blocks = (content ≡ Some (opened file redo)) × (blocks Image ≡ file.size) × (blocks Redo ≡ redo.size)
 
 -- a device over a new image of so many blocks: zeros, where the host tells what its images hold
 abbrev pub IsNew : Bool → ℕ → Option Contents → (Region → ℕ) → Type 0
 IsNew tells n content blocks = (content ≡ (if tells then Some blank else None)) × (blocks Image ≡ n)
 
--- the device that is handed out for a purpose: over the image of that name, or over a new one
-abbrev pub IsLent : Purpose → Bool → Option Stored → Option Contents → (Region → ℕ) → Type 0
-IsLent (Make n) tells file content blocks = IsNew tells n content blocks
-IsLent other tells file content blocks = IsOpened file content blocks
+-- the device that is handed out for a purpose: over the image of that name and its redo region, or over a new
+-- image
+abbrev pub IsLent : Purpose → Bool → (image redo : Option Stored) → Option Contents → (Region → ℕ) → Type 0
+IsLent (Make n) tells file redo content blocks = IsNew tells n content blocks
+IsLent other tells file redo content blocks = IsOpened file redo content blocks
 
 -- so many blocks are enough for the purpose: a new image has as many as are wanted
 abbrev pub HasRoomFor : Purpose → ℕ → Type 0

@@ -13,6 +13,7 @@ mod judging;
 mod last_lines;
 mod making;
 mod mem_host;
+mod redo;
 mod telling;
 mod top;
 
@@ -23,7 +24,7 @@ pub use crate::ending::{Finding, Status, Told};
 pub use crate::file_host::FileHost;
 pub use crate::host::{Host, OpenFault, Purpose};
 pub use crate::judging::{JudgeFault, Judgement, judge};
-pub use crate::last_lines::{Form, LastLine, fixed_line, last_line};
-pub use crate::mem_host::{MemHost, MemImage};
+pub use crate::last_lines::{LastLine, RedoRefusal, fixed_line, last_line};
+pub use crate::mem_host::{MemHost, MemImage, MemRedo};
 pub use crate::telling::tell;
 pub use crate::top::{RunEnd, fsck_main};

@@ -24,10 +24,11 @@ pub fn make<H: Host>(alloc: Global, host: &mut H, image: &str) -> Finding
         (H.host_faults host.old) (H.host_faults host.new)
         (H.dev_faults host.old) (H.dev_faults host.new) result }
     ensures words { IsOfMake result }
-    ensures device { FindsBy H.Dev.Device (make_of image.now) (H.stored host.old)
+    ensures device { FindsBy H.Dev.Device (make_of image.now) (H.stored host.old) (H.redo_files host.old)
         (H.loans host.old) (H.loans host.new) result }
     ensures stored { LeavesStored (make_of image.now) (H.tells host.old)
         (result ≡ Finding.Made) (IsUnopened result) (H.stored host.old) (H.stored host.new) }
+    ensures redo { (n : List ℕ) → H.redo_files host.new n ≡ H.redo_files host.old n }
     ensures asked { IsAsked (make_of image.now) (IsShort result) (H.asked host.old) (H.asked host.new) }
     ensures report { H.taken host.new ≡ H.taken host.old }
     ensures sink { H.sink_faults host.new ≡ H.sink_faults host.old }

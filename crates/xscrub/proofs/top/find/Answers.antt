@@ -6,7 +6,7 @@ use Rattle.xscrub.proofs.top.find.Goals as goal
 
 pub returns-in_default-clause-found : goal.returns-in_default-clause-found
 returns-in_default-clause-found g c = record {
-  decides = front_before (decided_by (job_of c.args.words.now) (g.H.Host.stored c.args.host.now)) c.new.result.items c.new.ensures.items;
+  decides = front_before (decided_by (job_of c.args.words.now) (g.H.Host.stored c.args.host.now) (g.H.Host.redo_files c.args.host.now)) c.new.result.items c.new.ensures.items;
   cause = tt;
 }
 

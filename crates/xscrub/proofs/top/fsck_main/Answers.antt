@@ -1,4 +1,4 @@
-use Rattle.std.proofs.Common.{ℕ, List, ◌∷◌, [], ◌≡◌, length, refl, ap, arith}
+use Rattle.std.proofs.Common.{ℕ, List, ◌∷◌, [], ◌≡◌, length, refl, ap, arith, ◌∙◌}
 use Rattle.xscrub.specs.Ending.{told_outcome}
 use Rattle.fs_model.specs.declared.entry.Entry.{Entry}
 use Rattle.xscrub.proofs.EndingLemmas.{told_cause, told_decided, told_by_words, told_units, asked_so}
@@ -11,7 +11,7 @@ returns g c =
     let ends = rw c.find-finding.ensures.sink at c.tell-told.ensures.told in record {
       run = (
         told_outcome c.tell-told.result,
-        told_by _ _ _ _ _ _ c.find-finding.result _ _ _ c.find-finding.ensures.device kept.4 c.find-finding.ensures.words ends,
+        told_by _ _ _ _ _ _ _ c.find-finding.result _ _ _ c.find-finding.ensures.device kept.4 c.find-finding.ensures.words ends,
         record {
           status = c.code.ensures;
           journal = refl {A = List Entry};
@@ -22,6 +22,7 @@ returns g c =
           units = told_units _ c.find-finding.result _ _ _ c.find-finding.ensures.words ends;
           shown = rw (c.find-finding.ensures.sink, c.find-finding.ensures.report) at c.tell-told.ensures.shown;
           stored = told_stored _ _ c.find-finding.result _ _ _ _ _ _ c.find-finding.ensures.words ends c.find-finding.ensures.stored kept.3;
+          redo_files = λ n. kept.5 n ∙ c.find-finding.ensures.redo n;
           asked_for = asked_so _ _ c.find-finding.result _ _ _ _ _ ends kept.2 c.find-finding.ensures.asked;
         },
       );
