@@ -15,8 +15,17 @@ words() {
   expect 'the job repair' 4 'unbuilt job' repair a --redo b
   expect 'the job run' 4 'unbuilt job' run a --redo b --script c
   expect 'the job drill' 4 'unbuilt job' drill 7
-  expect 'the job make' 4 'unbuilt job' make a
-  expect 'a check with a redo file' 4 'unbuilt redo' check a --redo b
+  expect 'the job make with a redo file' 2 "$usage" make a --redo b
+  printf '\1' >waiting && truncate -s 663552 waiting && touch -r old waiting
+  expect 'a change that waits in the redo file' 4 'redo waiting' check --redo waiting /dev/null
+  advised 'a change that waits in the redo file' 'waits in the redo file'
+  printf '\7' >closed && truncate -s 663552 closed
+  expect 'a redo file whose gate is closed' 4 'image deviceshort' check --redo closed /dev/null
+  printf '\1' >short && truncate -s 663551 short && touch -r old short
+  expect 'a redo file that is too short' 4 'redo short' check /dev/null --redo=short
+  expect 'a redo file that is made' 4 'image deviceshort' check --redo made /dev/null
+  cmp -s -n 663552 made /dev/zero && [ "$(stat -c %s made)" = 663552 ] && ! [ waiting -nt old ] && ! [ short -nt old ]
+  verdict 'it is of zeros, and the others are as they were' $? "$(ls -l made waiting short)"
   expect 'no such file' 5 'host failed' check nothing.img
   advised 'no such file' 'nothing.img: '
   mkfifo pipe

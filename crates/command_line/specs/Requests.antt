@@ -1,6 +1,7 @@
 -- What the words of a command line ask for: the command as it is told to `clap`, and the table of
 -- which job takes which option.
 use Rattle.std.specs.Prelude.{◌≡◌, ℕ, List, [], ◌∷◌, Option, Some, None, Bool, true, false, not, ◌&&◌, ◌==◌, is_some, codes, option_map, option_and_then, if◌then◌else◌}
+use Rattle.std.specs.Borrow.{Bor}
 use Rattle.std.specs.Str.{bytes_eq}
 use Rattle.clap.specs.Words.{App, Kinds, Row, Rule, fault_of, first_of, found_of, matches_of, new_app, new_rule, rows_of, with_rule}
 use Rattle.clap.specs.Walk.{is_empty}
@@ -14,6 +15,10 @@ use Rattle.command_line.specs.declared.request.Request.{Request}
 
 abbrev pub Text : Type 0
 Text = List ℕ
+
+-- the bytes of a word that may be there
+abbrev pub bytes : Option (Bor Text) → Option Text
+bytes word = option_map (λ s. s.now) word
 
 -- ---- the command
 

@@ -1,5 +1,5 @@
 ghost use Rattle.std.specs.Prelude.{◌≡◌, option_map};
-ghost use Rattle.command_line.specs.Requests.{all_fit as all_fit_of, asked_of, job_named, redo_fits as redo_fits_of, script_fits as script_fits_of, rebuild_fits as rebuild_fits_of, turns_fit as turns_fit_of, target_fits as target_fits_of, turns_of as turns_of_text, told};
+ghost use Rattle.command_line.specs.Requests.{bytes, all_fit as all_fit_of, asked_of, job_named, redo_fits as redo_fits_of, script_fits as script_fits_of, rebuild_fits as rebuild_fits_of, turns_fit as turns_fit_of, target_fits as target_fits_of, turns_of as turns_of_text, told};
 
 use crate::numbers::number_of;
 
@@ -100,7 +100,7 @@ fn target_fits(job: Job, target: &str) -> bool
 
 #[tactic(auto, unfolding(crate::specs::Requests::turns_of))]
 fn turns_of(text: Option<&str>) -> Option<u32>
-    ensures { result ≡ turns_of_text (option_map (λ s. s.now) text.entry) }
+    ensures { result ≡ turns_of_text (bytes text.entry) }
 {
     let Some(text) = text else {
         return Some(DEFAULT_TURNS);
@@ -118,8 +118,8 @@ fn turns_of(text: Option<&str>) -> Option<u32>
 
 // Whether the job may have what is given, and lack what isn't.
 fn all_fit(request: &Request<'_>, turns: Option<&str>) -> bool
-    ensures { result ≡ all_fit_of request.now.job request.now.target.now (option_map (λ s. s.now) request.now.redo)
-        (option_map (λ s. s.now) request.now.script) request.now.is_rebuild (option_map (λ s. s.now) turns.entry) }
+    ensures { result ≡ all_fit_of request.now.job request.now.target.now (bytes request.now.redo)
+        (bytes request.now.script) request.now.is_rebuild (bytes turns.entry) }
 {
     let job = request.job;
     redo_fits(job, request.redo.is_some())
@@ -139,8 +139,8 @@ pub fn fitting<'a>(
     is_rebuild: bool,
     turns: Option<&str>,
 ) -> Option<Request<'a>>
-    ensures { option_map told result ≡ asked_of (option_map (λ s. s.now) job.entry) (option_map (λ s. s.now) target.entry)
-        (option_map (λ s. s.now) redo.entry) (option_map (λ s. s.now) script.entry) is_rebuild (option_map (λ s. s.now) turns.entry) }
+    ensures { option_map told result ≡ asked_of (bytes job.entry) (bytes target.entry)
+        (bytes redo.entry) (bytes script.entry) is_rebuild (bytes turns.entry) }
 {
     let job = job_of(job?)?;
     let target = target?;

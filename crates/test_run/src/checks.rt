@@ -29,8 +29,8 @@ fn words_that_ask_for_no_check_open_no_image(rt: HostRuntime) -> Result<(), Fail
             "unbuilt job\n",
         ),
         (&["drill", "7"], 4, "unbuilt job\n"),
-        (&["make", "a.img"], 4, "unbuilt job\n"),
-        (&["check", "a.img", "--redo", "b"], 4, "unbuilt redo\n"),
+        (&["make"], 2, USAGE),
+        (&["make", "a.img", "--redo", "b"], 2, USAGE),
     ];
     for (words, status, report) in &rows {
         let image = small_image(rt.alloc())?;

@@ -13,6 +13,10 @@ mod heads;
 #[cfg(test)]
 mod lines;
 #[cfg(test)]
+mod makes;
+#[cfg(test)]
+mod redos;
+#[cfg(test)]
 mod refusals;
 #[cfg(test)]
 mod runs;

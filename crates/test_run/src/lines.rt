@@ -45,7 +45,10 @@ fn only_check_and_a_name_ask_for_a_check(rt: HostRuntime) -> Result<(), Fail> {
     let check = String::from_str(rt.alloc(), "check")?;
     let name = String::from_str(rt.alloc(), "a.img")?;
     let words = [check, name];
-    assert_eq!(rt; command_of(rt.alloc(), &words)?, Command::Check("a.img"));
+    assert_eq!(rt;
+        command_of(rt.alloc(), &words)?,
+        Command::Check("a.img", None)
+    );
     assert_eq!(rt; command_of(rt.alloc(), &words[..1])?, Command::Usage);
     Ok(())
 }

@@ -5,6 +5,15 @@ use std::process::Abort;
 use std::test::Fail;
 use xscrub::{MemHost, MemImage, RunEnd, fsck_main};
 
+/// Words as a program is handed them.
+pub(crate) fn words_of(alloc: Global, words: &[&str]) -> Result<Vec<String>, AllocError> {
+    let mut texts = Vec::new(alloc);
+    for word in words {
+        texts.push(String::from_str(alloc, word)?)?;
+    }
+    Ok(texts)
+}
+
 /// Runs the words over a host whose one image has the name `a.img`, and of whose calls of `put`
 /// those of these numbers fail.
 pub(crate) fn run_words(
@@ -13,10 +22,7 @@ pub(crate) fn run_words(
     image: MemImage,
     failing_puts: Vec<u64>,
 ) -> Result<(RunEnd, MemHost), AllocError> {
-    let mut texts = Vec::new(alloc);
-    for word in words {
-        texts.push(String::from_str(alloc, word)?)?;
-    }
+    let texts = words_of(alloc, words)?;
     let mut images = BTreeMap::new(alloc);
     images.insert(String::from_str(alloc, "a.img")?, image)?;
     let mut host = MemHost::new(alloc, images, failing_puts);

@@ -1,17 +1,17 @@
 -- A journal that was told, and the line behind it.
-use Rattle.std.proofs.Common.{◌≡◌, ◌<◌, ◌≤◌, ℕ, List, [], ◌++◌, Bool, true, false, cond, IfSome, length, take, drop, Option, Some, None, ◌⊎◌, inl, inr, refl, sym, ◌∙◌, ap, subst, append_assoc, append-nil, arith}
+use Rattle.std.proofs.Common.{◌≡◌, ◌<◌, ◌≤◌, ℕ, List, [], ◌∷◌, ◌++◌, Bool, true, false, cond, IfSome, length, take, drop, Option, Some, None, is_some, ◌⊎◌, inl, inr, refl, sym, ◌∙◌, ap, subst, append_assoc, append-nil, arith}
 use Rattle.std.proofs.lemmas.List.{take-append-drop}
 use Rattle.blk_device.specs.Causes.{Rose}
 use Rattle.blk_device.specs.Taken.{Takes, TakesFront, IsFront}
 use Rattle.blk_device.proofs.TakenLemmas.{then, whole_front, takes_nothing}
 use Rattle.xscrub.proofs.ShownLemmas.{told_nothing}
 use Rattle.std.specs.List.{list_all}
-use Rattle.xscrub.specs.Ending.{IsShown, IsToldOf, IsFoundBy, Decides, EndsFor, HasOutcomeCause, IsSettled, IsOutcome, IsAsked, IsShort, IsOfImage, IsWorded, IsImageLine, IsToldOrShort, EndsByWords}
-use Rattle.xscrub.specs.Command.{Job, check_of, unbuilt, usage}
+use Rattle.xscrub.specs.Ending.{IsShown, IsToldOf, IsFoundBy, Decides, EndsFor, HasOutcomeCause, IsSettled, IsOutcome, IsAsked, IsShort, IsOfImage, IsOfMake, IsWorded, IsImageLine, IsToldOrShort, NeedsMemory, EndsByWords, HasUnitsOf}
+use Rattle.xscrub.specs.Command.{Job, check_of, make_of, unbuilt, usage}
 use Rattle.xscrub.specs.Stored.{Request}
 use Rattle.xscrub.specs.Units.{HasAllUnits, HasFirstUnits, HasUnits}
 use Rattle.xscrub.proofs.UnitLemmas.{no_units, all_are_first, most_are_first}
-use Rattle.xscrub.specs.Outcome.{Outcome, is_calm, is_image_line, judged_status, judged_outcome, filled_outcome, stopped_outcome, ended_outcome, outcome_of}
+use Rattle.xscrub.specs.Outcome.{Outcome, is_calm, is_refusal, judged_status, judged_outcome, filled_outcome, made_outcome, stopped_outcome, ended_outcome, outcome_of}
 use Rattle.xscrub.specs.declared.ending.Finding.{Finding}
 use Rattle.xscrub.specs.declared.ending.Finding.TheVariants as findings
 use Rattle.run_text.specs.Report.{report_of}
@@ -20,7 +20,6 @@ use Rattle.xscrub.specs.Shown.{IsLineShown, EndsWith, last_text}
 use Rattle.xscrub.specs.declared.ending.Status.{Status}
 use Rattle.xscrub.specs.declared.ending.Status.TheVariants as statuses
 use Rattle.fs_model.specs.declared.entry.Entry.{Entry}
-use Rattle.xscrub.specs.declared.last_lines.Form.{Form}
 use Rattle.xscrub.specs.declared.last_lines.LastLine.{LastLine}
 use Rattle.xscrub.specs.declared.last_lines.LastLine.TheVariants as lines
 
@@ -31,6 +30,10 @@ shown_alone journal f g a b calm takes = record {
   whole = λ _. subst (λ (text : List ℕ). Takes text a b) (sym (append-nil (report_of journal))) takes;
   fronts = (b, (whole_front (report_of journal) a b takes, whole_front [] b b (takes_nothing b b refl)));
 }
+
+-- nothing was told
+pub shown_none : (journal : List Entry) (f : ℕ) (a : Option (List ℕ)) → journal ≡ [] → IsShown journal None f f a a
+shown_none journal f a none = shown_alone journal f f a a refl (subst (λ (js : List Entry). Takes (report_of js) a a) (sym none) (told_nothing a a refl))
 
 -- a journal that was told whole, and a line
 pub shown_then : (journal : List Entry) (last : Option LastLine) (f g h : ℕ) (a b c : Option (List ℕ)) → g ≡ f → Takes (report_of journal) a b
@@ -129,6 +132,7 @@ found_ends : (finding : Finding) (h h' d d' k k' : ℕ) → IsFoundBy finding h 
 found_ends (findings.Judged journal) h h' d d' k k' cause calm = judged_ends journal.items h h' d d' k k' cause.0 cause.1 (calm refl)
 found_ends (findings.Full journal) h h' d d' k k' cause calm = refl
 found_ends (findings.Refused line) h h' d d' k k' cause calm = (line, refl)
+found_ends findings.Made h h' d d' k k' cause calm = (refl, refl, cause.0, cause.1, calm refl)
 found_ends findings.Usage h h' d d' k k' cause calm = refl
 found_ends (findings.DeviceFailed journal) h h' d d' k k' cause calm = inl (refl, cause)
 found_ends findings.HostFailed h h' d d' k k' cause calm = inr (refl, inl cause)
@@ -177,6 +181,7 @@ told_decided None finding told k k' decides ends = tt
 told_decided (Some o) (findings.Judged journal) told k k' decides ends = told_same told (judged_outcome journal.items) o k k' decides ends
 told_decided (Some o) (findings.Full journal) told k k' decides ends = told_same told (filled_outcome journal.items) o k k' decides ends
 told_decided (Some o) (findings.Refused line) told k k' decides ends = told_same told (ended_outcome statuses.Refused line) o k k' decides ends
+told_decided (Some o) findings.Made told k k' decides ends = told_same told made_outcome o k k' decides ends
 told_decided (Some o) findings.Usage told k k' decides ends = told_same told (ended_outcome statuses.Usage lines.Usage) o k k' decides ends
 told_decided (Some o) (findings.DeviceFailed journal) told k k' decides ends = told_stop told o statuses.Failed journal.items lines.DeviceFailed k k' (λ h. h) decides ends
 told_decided (Some o) findings.HostFailed told k k' decides ends = told_stop told o statuses.Failed [] lines.HostFailed k k' (λ h. h) (o.journal, refl) ends
@@ -187,6 +192,7 @@ told_short : (told : Outcome) (finding : Finding) (k k' : ℕ) → IsShort findi
 told_short told (findings.Judged journal) k k' is ends = absurd is
 told_short told (findings.Full journal) k k' is ends = absurd is
 told_short told (findings.Refused line) k k' is ends = absurd is
+told_short told findings.Made k k' is ends = absurd is
 told_short told findings.Usage k k' is ends = absurd is
 told_short told (findings.DeviceFailed journal) k k' is ends = absurd is
 told_short told findings.HostFailed k k' is ends = absurd is
@@ -200,6 +206,18 @@ asked_so command told finding k k' a b c ends same (inl short) = inl (told_short
 asked_so command told finding k k' a b c ends same (inr whole) = inr (same ∙ whole)
 
 -- ---- what the words alone decide
+
+nothing : (xs rest : List Entry) → [] ≡ xs ++ rest → xs ≡ []
+nothing [] rest e = refl
+nothing (x ∷ xs) rest e = cc
+
+-- a run that was stopped, with nothing to tell
+pub told_none : (found told : Outcome) (k k' : ℕ) → found.journal ≡ [] → (IsSettled found.status → ⊥) → IsToldOf found k k' told → (told.journal ≡ []) × (IsSettled told.status → ⊥)
+told_none found told k k' none stops (inl whole) =
+    subst (λ (o : Outcome). (o.journal ≡ []) × (IsSettled o.status → ⊥)) (sym whole.0) (none, stops)
+told_none found told k k' none stops (inr (inl failed)) = absurd (failed.2 none)
+told_none found told k k' none stops (inr (inr memory)) =
+    (nothing told.journal memory.2.0 (sym none ∙ memory.2.1), λ settled. subst IsSettled memory.0 settled)
 
 -- a line without a number is told as it is
 told_fixed : (told : Outcome) (s : Status) (line : LastLine) (k k' : ℕ) → is_fixed line ≡ true → IsToldOf (ended_outcome s line) k k' told → told ≡ ended_outcome s line
@@ -223,39 +241,41 @@ judged_not_usage journal e = either (list_all is_calm journal) e
     either true e = cc
     either false e = cc
 
-found_not_usage : (finding : Finding) → IsOfImage finding → (outcome_of finding).status ≡ statuses.Usage → ⊥
-found_not_usage (findings.Judged journal) of e = judged_not_usage journal.items e
-found_not_usage (findings.Full journal) of e = cc
-found_not_usage (findings.Refused line) of e = cc
-found_not_usage findings.Usage of e = of
-found_not_usage (findings.DeviceFailed journal) of e = cc
-found_not_usage findings.HostFailed of e = cc
-found_not_usage (findings.Memory journal) of e = cc
+found_not_usage : (given : Bool) (finding : Finding) → IsOfImage given finding → (outcome_of finding).status ≡ statuses.Usage → ⊥
+found_not_usage given (findings.Judged journal) of e = judged_not_usage journal.items e
+found_not_usage given (findings.Full journal) of e = cc
+found_not_usage given (findings.Refused line) of e = cc
+found_not_usage given findings.Made of e = of
+found_not_usage given findings.Usage of e = of
+found_not_usage given (findings.DeviceFailed journal) of e = cc
+found_not_usage given findings.HostFailed of e = cc
+found_not_usage given (findings.Memory journal) of e = cc
 
-not_unbuilt : (line : LastLine) (form : Form) → is_image_line line ≡ true → Some line ≡ Some (lines.Unbuilt form) → ⊥
-not_unbuilt line form image e = let same : line ≡ lines.Unbuilt form = cc in clash (subst (λ (l : LastLine). is_image_line l ≡ true) same image)
+not_unbuilt : (given : Bool) (line : LastLine) → is_refusal given line ≡ true → Some line ≡ Some lines.Unbuilt → ⊥
+not_unbuilt given line image e = let same : line ≡ lines.Unbuilt = cc in clash (subst (λ (l : LastLine). is_refusal given l ≡ true) same image)
   where
     clash : false ≡ true → ⊥
     clash e = cc
 
-found_not_unbuilt : (finding : Finding) (form : Form) → IsOfImage finding → (outcome_of finding).last ≡ Some (lines.Unbuilt form) → ⊥
-found_not_unbuilt (findings.Judged journal) form of e = cc
-found_not_unbuilt (findings.Full journal) form of e = cc
-found_not_unbuilt (findings.Refused line) form of e = not_unbuilt line form of e
-found_not_unbuilt findings.Usage form of e = of
-found_not_unbuilt (findings.DeviceFailed journal) form of e = cc
-found_not_unbuilt findings.HostFailed form of e = cc
-found_not_unbuilt (findings.Memory journal) form of e = cc
+found_not_unbuilt : (given : Bool) (finding : Finding) → IsOfImage given finding → (outcome_of finding).last ≡ Some lines.Unbuilt → ⊥
+found_not_unbuilt given (findings.Judged journal) of e = cc
+found_not_unbuilt given (findings.Full journal) of e = cc
+found_not_unbuilt given (findings.Refused line) of e = not_unbuilt given line of e
+found_not_unbuilt given findings.Made of e = of
+found_not_unbuilt given findings.Usage of e = of
+found_not_unbuilt given (findings.DeviceFailed journal) of e = cc
+found_not_unbuilt given findings.HostFailed of e = cc
+found_not_unbuilt given (findings.Memory journal) of e = cc
 
-told_not_usage : (finding : Finding) (told : Outcome) (k k' : ℕ) → IsOfImage finding → IsToldOf (outcome_of finding) k k' told → told.status ≡ statuses.Usage → ⊥
-told_not_usage finding told k k' of (inl whole) e = found_not_usage finding of (ap (λ (q : Outcome). q.status) (sym whole.0) ∙ e)
-told_not_usage finding told k k' of (inr (inl failed)) e = let clash : statuses.Failed ≡ statuses.Usage = ap (λ (q : Outcome). q.status) (sym failed.0) ∙ e in cc
-told_not_usage finding told k k' of (inr (inr memory)) e = let clash : statuses.Memory ≡ statuses.Usage = sym memory.0 ∙ e in cc
+told_not_usage : (given : Bool) (finding : Finding) (told : Outcome) (k k' : ℕ) → IsOfImage given finding → IsToldOf (outcome_of finding) k k' told → told.status ≡ statuses.Usage → ⊥
+told_not_usage given finding told k k' of (inl whole) e = found_not_usage given finding of (ap (λ (q : Outcome). q.status) (sym whole.0) ∙ e)
+told_not_usage given finding told k k' of (inr (inl failed)) e = let clash : statuses.Failed ≡ statuses.Usage = ap (λ (q : Outcome). q.status) (sym failed.0) ∙ e in cc
+told_not_usage given finding told k k' of (inr (inr memory)) e = let clash : statuses.Memory ≡ statuses.Usage = sym memory.0 ∙ e in cc
 
-told_not_unbuilt : (finding : Finding) (told : Outcome) (k k' : ℕ) (form : Form) → IsOfImage finding → IsToldOf (outcome_of finding) k k' told → told.last ≡ Some (lines.Unbuilt form) → ⊥
-told_not_unbuilt finding told k k' form of (inl whole) e = found_not_unbuilt finding form of (ap (λ (q : Outcome). q.last) (sym whole.0) ∙ e)
-told_not_unbuilt finding told k k' form of (inr (inl failed)) e = let clash : Some lines.HostFailed ≡ Some (lines.Unbuilt form) = ap (λ (q : Outcome). q.last) (sym failed.0) ∙ e in cc
-told_not_unbuilt finding told k k' form of (inr (inr memory)) e = let clash : Some lines.Memory ≡ Some (lines.Unbuilt form) = sym memory.1 ∙ e in cc
+told_not_unbuilt : (given : Bool) (finding : Finding) (told : Outcome) (k k' : ℕ) → IsOfImage given finding → IsToldOf (outcome_of finding) k k' told → told.last ≡ Some lines.Unbuilt → ⊥
+told_not_unbuilt given finding told k k' of (inl whole) e = found_not_unbuilt given finding of (ap (λ (q : Outcome). q.last) (sym whole.0) ∙ e)
+told_not_unbuilt given finding told k k' of (inr (inl failed)) e = let clash : Some lines.HostFailed ≡ Some lines.Unbuilt = ap (λ (q : Outcome). q.last) (sym failed.0) ∙ e in cc
+told_not_unbuilt given finding told k k' of (inr (inr memory)) e = let clash : Some lines.Memory ≡ Some lines.Unbuilt = sym memory.1 ∙ e in cc
 
 judged_not_refused : (journal : List Entry) → judged_status journal ≡ statuses.Refused → ⊥
 judged_not_refused journal e = either (list_all is_calm journal) e
@@ -264,26 +284,28 @@ judged_not_refused journal e = either (list_all is_calm journal) e
     either true e = cc
     either false e = cc
 
-found_image : (finding : Finding) → IsOfImage finding → (outcome_of finding).status ≡ statuses.Refused → IsImageLine (outcome_of finding).last
-found_image (findings.Judged journal) of e = absurd (judged_not_refused journal.items e)
-found_image (findings.Full journal) of e = absurd (full_not_refused e)
-found_image (findings.Refused line) of e = (line, refl, of)
-found_image findings.Usage of e = absurd of
-found_image (findings.DeviceFailed journal) of e = absurd (failed_not_refused e)
-found_image findings.HostFailed of e = absurd (failed_not_refused e)
-found_image (findings.Memory journal) of e = absurd (memory_not_refused e)
+found_image : (given : Bool) (finding : Finding) → IsOfImage given finding → (outcome_of finding).status ≡ statuses.Refused → IsImageLine given (outcome_of finding).last
+found_image given (findings.Judged journal) of e = absurd (judged_not_refused journal.items e)
+found_image given (findings.Full journal) of e = absurd (full_not_refused e)
+found_image given (findings.Refused line) of e = (line, refl, of)
+found_image given findings.Made of e = absurd of
+found_image given findings.Usage of e = absurd of
+found_image given (findings.DeviceFailed journal) of e = absurd (failed_not_refused e)
+found_image given findings.HostFailed of e = absurd (failed_not_refused e)
+found_image given (findings.Memory journal) of e = absurd (memory_not_refused e)
 
-told_image : (finding : Finding) (told : Outcome) (k k' : ℕ) → IsOfImage finding → IsToldOf (outcome_of finding) k k' told → told.status ≡ statuses.Refused → IsImageLine told.last
-told_image finding told k k' of (inl whole) e =
-    subst (λ (o : Outcome). IsImageLine o.last) (sym whole.0) (found_image finding of (ap (λ (q : Outcome). q.status) (sym whole.0) ∙ e))
-told_image finding told k k' of (inr (inl failed)) e = absurd (failed_not_refused (ap (λ (q : Outcome). q.status) (sym failed.0) ∙ e))
-told_image finding told k k' of (inr (inr memory)) e = absurd (memory_not_refused (sym memory.0 ∙ e))
+told_image : (given : Bool) (finding : Finding) (told : Outcome) (k k' : ℕ) → IsOfImage given finding → IsToldOf (outcome_of finding) k k' told → told.status ≡ statuses.Refused → IsImageLine given told.last
+told_image given finding told k k' of (inl whole) e =
+    subst (λ (o : Outcome). IsImageLine given o.last) (sym whole.0) (found_image given finding of (ap (λ (q : Outcome). q.status) (sym whole.0) ∙ e))
+told_image given finding told k k' of (inr (inl failed)) e = absurd (failed_not_refused (ap (λ (q : Outcome). q.status) (sym failed.0) ∙ e))
+told_image given finding told k k' of (inr (inr memory)) e = absurd (memory_not_refused (sym memory.0 ∙ e))
 
 -- a finding that there was no memory before the first unit
 short_told : (finding : Finding) (told : Outcome) (k k' : ℕ) → IsShort finding → IsToldOf (outcome_of finding) k k' told → told ≡ ended_outcome statuses.Memory lines.Memory
 short_told (findings.Judged journal) told k k' short ends = absurd short
 short_told (findings.Full journal) told k k' short ends = absurd short
 short_told (findings.Refused line) told k k' short ends = absurd short
+short_told findings.Made told k k' short ends = absurd short
 short_told findings.Usage told k k' short ends = absurd short
 short_told (findings.DeviceFailed journal) told k k' short ends = absurd short
 short_told findings.HostFailed told k k' short ends = absurd short
@@ -297,12 +319,26 @@ worded_told finding wanted s line told k k' is fixed (inl same) ends =
     inl (told_fixed told s line k k' fixed (subst (λ (o : Outcome). IsToldOf o k k' told) (ap outcome_of same ∙ is) ends))
 worded_told finding wanted s line told k k' is fixed (inr short) ends = inr (short_told finding told k k' short ends)
 
+-- the making of an image is told as that, or why it was stopped
+made_told : (finding : Finding) (told : Outcome) (k k' : ℕ) → IsOfMake finding → IsToldOf (outcome_of finding) k k' told → (told ≡ made_outcome) ⊎ ((told.journal ≡ []) × (IsSettled told.status → ⊥))
+made_told (findings.Judged journal) told k k' of ends = absurd of
+made_told (findings.Full journal) told k k' of ends = absurd of
+made_told (findings.Refused line) told k k' of ends = absurd of
+made_told findings.Made told k k' of (inl whole) = inl whole.0
+made_told findings.Made told k k' of (inr (inl failed)) = absurd (failed.2 refl)
+made_told findings.Made told k k' of (inr (inr memory)) = absurd (memory.3 refl)
+made_told findings.Usage told k k' of ends = absurd of
+made_told (findings.DeviceFailed journal) told k k' of ends = inr (told_none (outcome_of (findings.DeviceFailed journal)) told k k' of (λ settled. settled) ends)
+made_told findings.HostFailed told k k' of ends = inr (told_none (outcome_of findings.HostFailed) told k k' refl (λ settled. settled) ends)
+made_told (findings.Memory journal) told k k' of ends = inr (told_none (outcome_of (findings.Memory journal)) told k k' of (λ settled. settled) ends)
+
 pub told_by_words : (job : Job) (finding : Finding) (told : Outcome) (k k' : ℕ) → IsWorded job finding → IsToldOf (outcome_of finding) k k' told → EndsByWords job told
 told_by_words usage finding told k k' worded ends = worded_told finding findings.Usage statuses.Usage lines.Usage told k k' refl refl worded ends
-told_by_words (unbuilt form) finding told k k' worded ends =
-    worded_told finding (findings.Refused (lines.Unbuilt form)) statuses.Refused (lines.Unbuilt form) told k k' refl refl worded ends
-told_by_words (check_of name) finding told k k' worded ends =
-    (told_not_usage finding told k k' worded ends, λ form. told_not_unbuilt finding told k k' form worded ends, told_image finding told k k' worded ends)
+told_by_words unbuilt finding told k k' worded ends =
+    worded_told finding (findings.Refused lines.Unbuilt) statuses.Refused lines.Unbuilt told k k' refl refl worded ends
+told_by_words (check_of name redo) finding told k k' worded ends =
+    (told_not_usage (is_some redo) finding told k k' worded ends, told_not_unbuilt (is_some redo) finding told k k' worded ends, told_image (is_some redo) finding told k k' worded ends)
+told_by_words (make_of name) finding told k k' worded ends = made_told finding told k k' worded ends
 
 -- ---- the units of a journal
 
@@ -313,60 +349,79 @@ judged_units journal all = either (list_all is_calm journal)
     either true = all
     either false = all
 
-found_units : (finding : Finding) → IsOfImage finding → HasUnits (outcome_of finding).status (outcome_of finding).journal
-found_units (findings.Judged journal) of = judged_units journal.items of
-found_units (findings.Full journal) of = of
-found_units (findings.Refused line) of = tt
-found_units findings.Usage of = tt
-found_units (findings.DeviceFailed journal) of = of
-found_units findings.HostFailed of = no_units
-found_units (findings.Memory journal) of = (journal.items, of, ([], sym (append-nil journal.items)))
+found_units : (given : Bool) (finding : Finding) → IsOfImage given finding → HasUnits (outcome_of finding).status (outcome_of finding).journal
+found_units given (findings.Judged journal) of = judged_units journal.items of
+found_units given (findings.Full journal) of = of
+found_units given (findings.Refused line) of = tt
+found_units given findings.Made of = absurd of
+found_units given findings.Usage of = tt
+found_units given (findings.DeviceFailed journal) of = of
+found_units given findings.HostFailed of = no_units
+found_units given (findings.Memory journal) of = (journal.items, of, ([], sym (append-nil journal.items)))
 
-found_first : (finding : Finding) → IsOfImage finding → HasFirstUnits (outcome_of finding).journal
-found_first (findings.Judged journal) of = all_are_first journal.items of
-found_first (findings.Full journal) of = most_are_first journal.items of
-found_first (findings.Refused line) of = no_units
-found_first findings.Usage of = no_units
-found_first (findings.DeviceFailed journal) of = of
-found_first findings.HostFailed of = no_units
-found_first (findings.Memory journal) of = of
+found_first : (given : Bool) (finding : Finding) → IsOfImage given finding → HasFirstUnits (outcome_of finding).journal
+found_first given (findings.Judged journal) of = all_are_first journal.items of
+found_first given (findings.Full journal) of = most_are_first journal.items of
+found_first given (findings.Refused line) of = no_units
+found_first given findings.Made of = no_units
+found_first given findings.Usage of = no_units
+found_first given (findings.DeviceFailed journal) of = of
+found_first given findings.HostFailed of = no_units
+found_first given (findings.Memory journal) of = of
 
-short_of_image : (finding : Finding) → IsShort finding → IsOfImage finding
-short_of_image (findings.Judged journal) short = absurd short
-short_of_image (findings.Full journal) short = absurd short
-short_of_image (findings.Refused line) short = absurd short
-short_of_image findings.Usage short = absurd short
-short_of_image (findings.DeviceFailed journal) short = absurd short
-short_of_image findings.HostFailed short = absurd short
-short_of_image (findings.Memory journal) short = subst HasFirstUnits (sym short) no_units
+short_of_image : (given : Bool) (finding : Finding) → IsShort finding → IsOfImage given finding
+short_of_image given (findings.Judged journal) short = absurd short
+short_of_image given (findings.Full journal) short = absurd short
+short_of_image given (findings.Refused line) short = absurd short
+short_of_image given findings.Made short = absurd short
+short_of_image given findings.Usage short = absurd short
+short_of_image given (findings.DeviceFailed journal) short = absurd short
+short_of_image given findings.HostFailed short = absurd short
+short_of_image given (findings.Memory journal) short = subst HasFirstUnits (sym short) no_units
+
+short_of_make : (finding : Finding) → IsShort finding → IsOfMake finding
+short_of_make (findings.Judged journal) short = absurd short
+short_of_make (findings.Full journal) short = absurd short
+short_of_make (findings.Refused line) short = absurd short
+short_of_make findings.Made short = absurd short
+short_of_make findings.Usage short = absurd short
+short_of_make (findings.DeviceFailed journal) short = absurd short
+short_of_make findings.HostFailed short = absurd short
+short_of_make (findings.Memory journal) short = short
 
 -- there was no memory for the words
 pub short_worded : (job : Job) (finding : Finding) → IsShort finding → IsWorded job finding
 short_worded usage finding short = inr short
-short_worded (unbuilt form) finding short = inr short
-short_worded (check_of name) finding short = short_of_image finding short
+short_worded unbuilt finding short = inr short
+short_worded (check_of name redo) finding short = short_of_image (is_some redo) finding short
+short_worded (make_of name) finding short = short_of_make finding short
 
 -- words alone have no units
 no_words_units : (finding wanted : Finding) → HasUnits (outcome_of wanted).status (outcome_of wanted).journal → (finding ≡ wanted) ⊎ IsShort finding → HasUnits (outcome_of finding).status (outcome_of finding).journal
 no_words_units finding wanted none (inl same) = subst (λ (f : Finding). HasUnits (outcome_of f).status (outcome_of f).journal) (sym same) none
-no_words_units finding wanted none (inr short) = found_units finding (short_of_image finding short)
+no_words_units finding wanted none (inr short) = found_units true finding (short_of_image true finding short)
 
 no_words_first : (finding wanted : Finding) → HasFirstUnits (outcome_of wanted).journal → (finding ≡ wanted) ⊎ IsShort finding → HasFirstUnits (outcome_of finding).journal
 no_words_first finding wanted none (inl same) = subst (λ (f : Finding). HasFirstUnits (outcome_of f).journal) (sym same) none
-no_words_first finding wanted none (inr short) = found_first finding (short_of_image finding short)
+no_words_first finding wanted none (inr short) = found_first true finding (short_of_image true finding short)
 
-worded_units : (job : Job) (finding : Finding) → IsWorded job finding → HasUnits (outcome_of finding).status (outcome_of finding).journal
-worded_units usage finding worded = no_words_units finding findings.Usage tt worded
-worded_units (unbuilt form) finding worded = no_words_units finding (findings.Refused (lines.Unbuilt form)) tt worded
-worded_units (check_of name) finding worded = found_units finding worded
+-- the units that a finding has, told
+units_told : (finding : Finding) (told : Outcome) (k k' : ℕ) → HasUnits (outcome_of finding).status (outcome_of finding).journal → HasFirstUnits (outcome_of finding).journal
+    → IsToldOf (outcome_of finding) k k' told → HasUnits told.status told.journal
+units_told finding told k k' units first (inl whole) = subst (λ (o : Outcome). HasUnits o.status o.journal) (sym whole.0) units
+units_told finding told k k' units first (inr (inl failed)) = subst (λ (o : Outcome). HasUnits o.status o.journal) (sym failed.0) first
+units_told finding told k k' units first (inr (inr memory)) =
+    subst (λ (s : Status). HasUnits s told.journal) (sym memory.0) ((outcome_of finding).journal, first, memory.2)
 
-worded_first : (job : Job) (finding : Finding) → IsWorded job finding → HasFirstUnits (outcome_of finding).journal
-worded_first usage finding worded = no_words_first finding findings.Usage no_units worded
-worded_first (unbuilt form) finding worded = no_words_first finding (findings.Refused (lines.Unbuilt form)) no_units worded
-worded_first (check_of name) finding worded = found_first finding worded
+-- a new image has no units
+no_made_units : (told : Outcome) → (told ≡ made_outcome) ⊎ ((told.journal ≡ []) × (IsSettled told.status → ⊥)) → told.journal ≡ []
+no_made_units told (inl made) = ap (λ (o : Outcome). o.journal) made
+no_made_units told (inr stopped) = stopped.0
 
-pub told_units : (job : Job) (finding : Finding) (told : Outcome) (k k' : ℕ) → IsWorded job finding → IsToldOf (outcome_of finding) k k' told → HasUnits told.status told.journal
-told_units job finding told k k' worded (inl whole) = subst (λ (o : Outcome). HasUnits o.status o.journal) (sym whole.0) (worded_units job finding worded)
-told_units job finding told k k' worded (inr (inl failed)) = subst (λ (o : Outcome). HasUnits o.status o.journal) (sym failed.0) (worded_first job finding worded)
-told_units job finding told k k' worded (inr (inr memory)) =
-    subst (λ (s : Status). HasUnits s told.journal) (sym memory.0) ((outcome_of finding).journal, worded_first job finding worded, memory.2)
+pub told_units : (job : Job) (finding : Finding) (told : Outcome) (k k' : ℕ) → IsWorded job finding → IsToldOf (outcome_of finding) k k' told → HasUnitsOf job told.status told.journal
+told_units usage finding told k k' worded ends =
+    units_told finding told k k' (no_words_units finding findings.Usage tt worded) (no_words_first finding findings.Usage no_units worded) ends
+told_units unbuilt finding told k k' worded ends =
+    units_told finding told k k' (no_words_units finding (findings.Refused lines.Unbuilt) tt worded) (no_words_first finding (findings.Refused lines.Unbuilt) no_units worded) ends
+told_units (check_of name redo) finding told k k' worded ends = units_told finding told k k' (found_units (is_some redo) finding worded) (found_first (is_some redo) finding worded) ends
+told_units (make_of name) finding told k k' worded ends = no_made_units told (made_told finding told k k' worded ends)

@@ -1,8 +1,8 @@
 -- How an image ends, test by test.
 use Rattle.std.proofs.Common.{◌≡◌, ◌≤◌, ℕ, ◌+◌, List, [], ◌∷◌, Option, Some, None, Result, Ok, Err, IfSome, IfOk, IfErr, IsErr, refl, sym, ◌∙◌, ap, subst}
-use Rattle.std.specs.Prelude.{IsErrAnd}
+use Rattle.std.specs.Prelude.{IsErrAnd, Bool}
 use Rattle.blk_device.specs.Contents.{Contents, Holds}
-use Rattle.blk_device.specs.declared.device.Region.TheVariants.{Image}
+use Rattle.blk_device.specs.declared.device.Region.TheVariants.{Image, Redo}
 use Rattle.geom.specs.Layout.{Layout, layout_of}
 use Rattle.geom.specs.Superblock.{first_fault}
 use Rattle.geom.specs.declared.fault.ImageFault.{ImageFault}
@@ -11,8 +11,8 @@ use Rattle.blk_device.specs.Taken.{IsFront}
 use Rattle.fs_model.specs.declared.entry.Entry.{Entry}
 use Rattle.space_check.specs.Checked.{checked, check_events, look}
 use Rattle.space_check.specs.Events.{Event}
-use Rattle.xscrub.specs.Image.{image_events, image_outcome, superblock_events, superblock_outcome, checked_outcome, refused}
-use Rattle.xscrub.specs.Judged.{HasFrontOf, IsJudged, IsKept, Kept, journal_at, journal_in, judgement_outcome}
+use Rattle.xscrub.specs.Image.{device_outcome, image_events, image_outcome, superblock_events, superblock_outcome, checked_outcome, refused}
+use Rattle.xscrub.specs.Judged.{HasDeviceFront, HasFrontOf, IsDeviceJudged, IsJudged, IsKept, Kept, journal_at, journal_in, judgement_outcome}
 use Rattle.xscrub.specs.Outcome.{Outcome}
 use Rattle.blk_device.specs.declared.device.Region.{Region}
 use Rattle.xscrub.specs.Ending.{stored_outcome}
@@ -131,12 +131,24 @@ units_none fault none = subst HasFirstUnits (sym none) no_units
 
 -- ---- of an image that was opened
 
-pub opened_front : (file : Option Stored) (content : Option Contents) (blocks : Region → ℕ) (fault : JudgeFault) → IsOpened file content blocks → HasFrontOf content (blocks Image) fault
-    → IfSome (stored_outcome file) (λ o. IsFront (journal_at fault) o.journal)
-opened_front None content blocks fault is front = tt
-opened_front (Some f) content blocks fault is front =
-    let told : HasFrontOf (Some (opened f)) (blocks Image) fault = subst (λ (c : Option Contents). HasFrontOf c (blocks Image) fault) is.0 front in
-    subst (λ (n : ℕ). HasFrontOf (Some (opened f)) n fault) is.1 told
+pub opened_front : (given : Bool) (file redo : Option Stored) (content : Option Contents) (blocks : Region → ℕ) (fault : JudgeFault) → IsOpened file redo content blocks → HasDeviceFront given content blocks fault
+    → IfSome (stored_outcome given file redo) (λ o. IsFront (journal_at fault) o.journal)
+opened_front given None redo content blocks fault is front = tt
+opened_front given (Some f) None content blocks fault is front = tt
+opened_front given (Some f) (Some r) content blocks fault is front =
+    let told : HasDeviceFront given (Some (opened f r)) blocks fault = subst (λ (c : Option Contents). HasDeviceFront given c blocks fault) is.0 front in
+    let sized : IsFront (journal_at fault) (device_outcome given (blocks Redo) f.size (opened f r)).journal = subst (λ (n : ℕ). IsFront (journal_at fault) (device_outcome given (blocks Redo) n (opened f r)).journal) is.1 told in
+    subst (λ (n : ℕ). IsFront (journal_at fault) (device_outcome given n f.size (opened f r)).journal) is.2 sized
+
+-- and of one that was judged
+pub opened_told : (given : Bool) (file redo : Option Stored) (content : Option Contents) (blocks : Region → ℕ) (found : Judgement) → IsOpened file redo content blocks → IsDeviceJudged given content blocks found
+    → IfSome (stored_outcome given file redo) (λ o. judgement_outcome found ≡ o)
+opened_told given None redo content blocks found is told = tt
+opened_told given (Some f) None content blocks found is told = tt
+opened_told given (Some f) (Some r) content blocks found is told =
+    let held : IsDeviceJudged given (Some (opened f r)) blocks found = subst (λ (c : Option Contents). IsDeviceJudged given c blocks found) is.0 told in
+    let sized : judgement_outcome found ≡ device_outcome given (blocks Redo) f.size (opened f r) = subst (λ (n : ℕ). judgement_outcome found ≡ device_outcome given (blocks Redo) n (opened f r)) is.1 held in
+    subst (λ (n : ℕ). judgement_outcome found ≡ device_outcome given n f.size (opened f r)) is.2 sized
 
 -- nothing was opened
 pub front_before : (decided : Option Outcome) (journal : List Entry) → journal ≡ [] → IfSome decided (λ o. IsFront journal o.journal)

@@ -1,19 +1,24 @@
 -- What a whole run owes to whoever called it.
-use Rattle.std.specs.Prelude.{◌≡◌, ◌≤◌, ◌⊎◌, ℕ, true, false, List, [], ◌∷◌, ◌++◌, length, Option, Some, None, IfSome, ⊤}
+use Rattle.std.specs.Prelude.{◌≡◌, ◌<◌, ◌≤◌, ◌⊎◌, ℕ, Bool, true, false, List, [], ◌∷◌, ◌++◌, length, Option, Some, None, IfSome, is_some, ⊤}
+use Rattle.std.specs.Str.{bytes_eq}
 use Rattle.std.specs.List.{list_all}
 use Rattle.blk_device.specs.Causes.{Rose}
+use Rattle.blk_device.specs.Contents.{Becomes}
+use Rattle.blk_device.specs.Crash.{IsDurable}
 use Rattle.blk_device.specs.Reading.{EachBlock, Keeps}
 use Rattle.blk_device.specs.Taken.{Takes, IsFront}
-use Rattle.xscrub.specs.Command.{Job, check_of, unbuilt, usage}
+use Rattle.fresh_image.specs.Fresh.{fresh}
+use Rattle.fresh_image.specs.Written.{AllButFresh, BecomesFresh, OthersStay}
+use Rattle.xscrub.specs.Command.{Job, check_of, make_of, unbuilt, usage}
 use Rattle.blk_device.specs.declared.device.Device.{Ghosts}
-use Rattle.blk_device.specs.declared.device.Region.TheVariants.{Image}
-use Rattle.xscrub.specs.Image.{image_events, image_outcome}
-use Rattle.xscrub.specs.Outcome.{Outcome, outcome_of, code_of, is_calm, is_image_line, judged_outcome, filled_outcome, stopped_outcome, ended_outcome}
+use Rattle.blk_device.specs.declared.device.Region.TheVariants.{Image, Redo}
+use Rattle.xscrub.specs.Image.{device_events, device_outcome}
+use Rattle.xscrub.specs.Outcome.{Outcome, outcome_of, code_of, is_calm, is_refusal, judged_outcome, made_outcome, filled_outcome, stopped_outcome, ended_outcome}
 use Rattle.run_text.specs.Report.{report_of}
 use Rattle.xscrub.specs.LastLines.{is_fixed}
 use Rattle.xscrub.specs.Shown.{TakesFronts, last_text}
 use Rattle.xscrub.specs.Judged.{IsKept}
-use Rattle.xscrub.specs.Stored.{Stored, Request, Loan, Out, Back, Lends, IsOpened}
+use Rattle.xscrub.specs.Stored.{Stored, Request, Loan, Out, Back, Lends, IsOpened, asks, opened, redo_named}
 use Rattle.xscrub.specs.Units.{HasAllUnits, HasItsMost, HasFirstUnits, HasUnits}
 use Rattle.xscrub.specs.declared.ending.Finding.{Finding}
 use Rattle.xscrub.specs.declared.ending.Finding.TheVariants as findings
@@ -21,29 +26,32 @@ use Rattle.xscrub.specs.declared.ending.Status.{Status}
 use Rattle.xscrub.specs.declared.ending.Status.TheVariants as statuses
 use Rattle.xscrub.specs.declared.ending.Told.{Told}
 use Rattle.fs_model.specs.declared.entry.Entry.{Entry}
-use Rattle.xscrub.specs.declared.host.Purpose.TheVariants.{Check as ForCheck}
-use Rattle.xscrub.specs.declared.last_lines.Form.{Form}
+use Rattle.xscrub.specs.declared.host.Purpose.TheVariants.{Check as ForCheck, Make as ForMake}
 use Rattle.xscrub.specs.declared.last_lines.LastLine.{LastLine}
 use Rattle.xscrub.specs.declared.last_lines.LastLine.TheVariants as lines
 use Rattle.xscrub.specs.declared.top.RunEnd.{RunEnd}
 
 -- ---- what words and bytes decide
 
-abbrev pub stored_outcome : Option Stored → Option Outcome
-stored_outcome None = None
-stored_outcome (Some file) = Some (image_outcome file.size file.at)
+-- an image with a redo region, whose redo file is looked at where one is given
+abbrev pub stored_outcome : (given : Bool) → (image redo : Option Stored) → Option Outcome
+stored_outcome given None redo = None
+stored_outcome given (Some file) None = None
+stored_outcome given (Some file) (Some redo) = Some (device_outcome given redo.size file.size (opened file redo))
 
--- how a run ends that nothing stops: None where the host doesn't tell the image that is named
-abbrev pub decided_by : Job → (List ℕ → Option Stored) → Option Outcome
-decided_by usage stored = Some (ended_outcome statuses.Usage lines.Usage)
-decided_by (unbuilt form) stored = Some (ended_outcome statuses.Refused (lines.Unbuilt form))
-decided_by (check_of name) stored = stored_outcome (stored name)
+-- how a run ends that nothing stops: None where the host doesn't tell the files that are named
+abbrev pub decided_by : Job → (stored redos : List ℕ → Option Stored) → Option Outcome
+decided_by usage stored redos = Some (ended_outcome statuses.Usage lines.Usage)
+decided_by unbuilt stored redos = Some (ended_outcome statuses.Refused lines.Unbuilt)
+decided_by (check_of name redo) stored redos = stored_outcome (is_some redo) (stored name) (redo_named redos redo)
+decided_by (make_of name) stored redos = Some made_outcome
 
 -- what the host is asked for
 abbrev pub requests_of : Job → List Request
 requests_of usage = []
-requests_of (unbuilt form) = []
-requests_of (check_of name) = record { image = name; redo = None; purpose = ForCheck } ∷ []
+requests_of unbuilt = []
+requests_of (check_of name redo) = asks name redo ForCheck ∷ []
+requests_of (make_of name) = asks name None (ForMake 256) ∷ []
 
 -- ---- what a check of an image finds, before it is told
 
@@ -52,6 +60,7 @@ abbrev pub Decides : Option Outcome → Finding → Type 0
 Decides decided (findings.Judged journal) = IfSome decided (λ o. judged_outcome journal.items ≡ o)
 Decides decided (findings.Full journal) = IfSome decided (λ o. filled_outcome journal.items ≡ o)
 Decides decided (findings.Refused line) = IfSome decided (λ o. ended_outcome statuses.Refused line ≡ o)
+Decides decided findings.Made = IfSome decided (λ o. made_outcome ≡ o)
 Decides decided findings.Usage = IfSome decided (λ o. ended_outcome statuses.Usage lines.Usage ≡ o)
 Decides decided (findings.DeviceFailed journal) = IfSome decided (λ o. IsFront journal.items o.journal)
 Decides decided findings.HostFailed = ⊤
@@ -62,64 +71,109 @@ abbrev pub IsFoundBy : Finding → (host host' devices devices' : ℕ) → Type 
 IsFoundBy (findings.Judged journal) host host' devices devices' = (host' ≡ host) × (devices' ≡ devices)
 IsFoundBy (findings.Full journal) host host' devices devices' = ⊤
 IsFoundBy (findings.Refused line) host host' devices devices' = ⊤
+IsFoundBy findings.Made host host' devices devices' = (host' ≡ host) × (devices' ≡ devices)
 IsFoundBy findings.Usage host host' devices devices' = ⊤
 IsFoundBy (findings.DeviceFailed journal) host host' devices devices' = Rose devices devices'
 IsFoundBy findings.HostFailed host host' devices devices' = Rose host host'
 IsFoundBy (findings.Memory journal) host host' devices devices' = ⊤
 
--- a finding that an image may have
-abbrev pub IsOfImage : Finding → Type 0
-IsOfImage (findings.Judged journal) = HasAllUnits journal.items
-IsOfImage (findings.Full journal) = HasItsMost journal.items
-IsOfImage (findings.Refused line) = is_image_line line ≡ true
-IsOfImage findings.Usage = ⊥
-IsOfImage (findings.DeviceFailed journal) = HasFirstUnits journal.items
-IsOfImage findings.HostFailed = ⊤
-IsOfImage (findings.Memory journal) = HasFirstUnits journal.items
+-- a finding that an image may have, and the redo file that is given
+abbrev pub IsOfImage : Bool → Finding → Type 0
+IsOfImage given (findings.Judged journal) = HasAllUnits journal.items
+IsOfImage given (findings.Full journal) = HasItsMost journal.items
+IsOfImage given (findings.Refused line) = is_refusal given line ≡ true
+IsOfImage given findings.Made = ⊥
+IsOfImage given findings.Usage = ⊥
+IsOfImage given (findings.DeviceFailed journal) = HasFirstUnits journal.items
+IsOfImage given findings.HostFailed = ⊤
+IsOfImage given (findings.Memory journal) = HasFirstUnits journal.items
+
+-- a finding that the making of an image may have
+abbrev pub IsOfMake : Finding → Type 0
+IsOfMake (findings.Judged journal) = ⊥
+IsOfMake (findings.Full journal) = ⊥
+IsOfMake (findings.Refused line) = ⊥
+IsOfMake findings.Made = ⊤
+IsOfMake findings.Usage = ⊥
+IsOfMake (findings.DeviceFailed journal) = journal.items ≡ []
+IsOfMake findings.HostFailed = ⊤
+IsOfMake (findings.Memory journal) = journal.items ≡ []
 
 -- there was no memory for the words, or to open the image
 abbrev pub IsShort : Finding → Type 0
 IsShort (findings.Judged journal) = ⊥
 IsShort (findings.Full journal) = ⊥
 IsShort (findings.Refused line) = ⊥
+IsShort findings.Made = ⊥
 IsShort findings.Usage = ⊥
 IsShort (findings.DeviceFailed journal) = ⊥
 IsShort findings.HostFailed = ⊥
 IsShort (findings.Memory journal) = journal.items ≡ []
 
--- A device with this image was handed out, and came back. It was only read, and the journal has all
+-- A device with this image and redo region was handed out, and came back. It was only read, and the journal has all
 -- that was judged by what was read of it.
-pub record CameBack {D : Type 0} (g : Ghosts D) (file : Option Stored) (loans loans' : Option (List (Loan D))) (journal : List Entry) : Type 0 where
+pub record CameBack {D : Type 0} (g : Ghosts D) (given : Bool) (file redo : Option Stored) (loans loans' : Option (List (Loan D))) (journal : List Entry) : Type 0 where
   pub dev : D
   pub back : D
   pub lent : Lends (Out dev ∷ Back back ∷ []) loans loans'
-  pub opened : IsOpened file (g.content dev) (g.blocks dev)
+  pub opened_so : IsOpened file redo (g.content dev) (g.blocks dev)
   pub same : g.content back ≡ g.content dev
   pub crash : Keeps g EachBlock dev back
-  pub kept : IfSome (g.content dev) (λ m. IsKept (image_events (g.blocks dev Image) (m Image)) (g.reads dev) (g.reads back) journal)
+  pub kept : IfSome (g.content dev) (λ m. IsKept (device_events given (g.blocks dev Redo) (g.blocks dev Image) m) (g.reads dev) (g.reads back) journal)
+
+-- A device with room for a new image was handed out, and came back. Once it is done, the new image is on
+-- it and durable; until then blocks of that image alone may have changed.
+pub record WasMade {D : Type 0} (g : Ghosts D) (done : Type 0) (loans loans' : Option (List (Loan D))) : Type 0 where
+  pub dev : D
+  pub back : D
+  pub lent : Lends (Out dev ∷ Back back ∷ []) loans loans'
+  pub size : g.blocks dev Image ≡ 256
+  pub written : done → Becomes (g.content dev) (g.content back) (BecomesFresh 1 256)
+  pub durable : done → IsDurable Image (g.content back) (g.may_hold_now back)
+  pub others : Becomes (g.content dev) (g.content back) (OthersStay 1 256)
+  pub crash : Keeps g (AllButFresh 1 256) dev back
 
 -- no device was handed out
 abbrev pub IsUnopened : Finding → Type 0
 IsUnopened (findings.Judged journal) = ⊥
 IsUnopened (findings.Full journal) = ⊥
 IsUnopened (findings.Refused line) = ⊥
+IsUnopened findings.Made = ⊥
 IsUnopened findings.Usage = ⊥
 IsUnopened (findings.DeviceFailed journal) = ⊥
 IsUnopened findings.HostFailed = ⊤
 IsUnopened (findings.Memory journal) = journal.items ≡ []
 
 -- what is found for these words, with the device that was handed out for them
-abbrev pub FindsBy : {D : Type 0} → Ghosts D → Job → (List ℕ → Option Stored) → (loans loans' : Option (List (Loan D))) → Finding → Type 0
-FindsBy g usage stored loans loans' finding = loans' ≡ loans
-FindsBy g (unbuilt form) stored loans loans' finding = loans' ≡ loans
-FindsBy g (check_of name) stored loans loans' finding =
-    (IsUnopened finding × (loans' ≡ loans)) ⊎ CameBack g (stored name) loans loans' (outcome_of finding).journal
+abbrev pub FindsBy : {D : Type 0} → Ghosts D → Job → (stored redos : List ℕ → Option Stored) → (loans loans' : Option (List (Loan D))) → Finding → Type 0
+FindsBy g usage stored redos loans loans' finding = loans' ≡ loans
+FindsBy g unbuilt stored redos loans loans' finding = loans' ≡ loans
+FindsBy g (check_of name redo) stored redos loans loans' finding =
+    (IsUnopened finding × (loans' ≡ loans)) ⊎ CameBack g (is_some redo) (stored name) (redo_named redos redo) loans loans' (outcome_of finding).journal
+FindsBy g (make_of name) stored redos loans loans' finding = (IsUnopened finding × (loans' ≡ loans)) ⊎ WasMade g (finding ≡ findings.Made) loans loans'
+
+-- a stored image is the new one of one group of 256 blocks
+abbrev pub IsFreshFile : Option Stored → Type 0
+IsFreshFile file = (f : Stored) × (file ≡ Some f) × (f.size ≡ 256) × ((b : ℕ) → b < 256 → f.at b ≡ fresh 1 256 b)
+
+-- What is stored after the making of an image. Once it is done, the named image is the new one, where the
+-- host tells what its images hold. Where no device was handed out, all is as it was; else all others are.
+pub record MakesImage (tells : Bool) (name : List ℕ) (done unopened : Type 0) (stored stored' : List ℕ → Option Stored) : Type 0 where
+  pub others : (n : List ℕ) → bytes_eq n name ≡ false → stored' n ≡ stored n
+  pub fresh_one : done → tells ≡ true → IsFreshFile (stored' name)
+  pub kept : unopened → (n : List ℕ) → stored' n ≡ stored n
+
+-- what is stored after a run: the making of an image alone changes something
+abbrev pub LeavesStored : Job → (tells : Bool) → (done unopened : Type 0) → (stored stored' : List ℕ → Option Stored) → Type 0
+LeavesStored (make_of name) tells done unopened stored stored' = MakesImage tells name done unopened stored stored'
+LeavesStored other tells done unopened stored stored' = (n : List ℕ) → stored' n ≡ stored n
 
 -- what the words alone say of a finding
 abbrev pub IsWorded : Job → Finding → Type 0
 IsWorded usage finding = (finding ≡ findings.Usage) ⊎ IsShort finding
-IsWorded (unbuilt form) finding = (finding ≡ findings.Refused (lines.Unbuilt form)) ⊎ IsShort finding
-IsWorded (check_of name) finding = IsOfImage finding
+IsWorded unbuilt finding = (finding ≡ findings.Refused lines.Unbuilt) ⊎ IsShort finding
+IsWorded (check_of name redo) finding = IsOfImage (is_some redo) finding
+IsWorded (make_of name) finding = IsOfMake finding
 
 pub record IsFound (decided : Option Outcome) (host host' devices devices' : ℕ) (finding : Finding) : Type 0 where
   pub decides : Decides decided finding
@@ -136,6 +190,11 @@ pub record IsShown (journal : List Entry) (last : Option LastLine) (faults fault
   pub whole : (Rose faults faults' → ⊥) → Takes (report_of journal ++ last_text last) taken taken'
   pub fronts : TakesFronts (report_of journal) (last_text last) taken taken'
 
+-- there may be no memory for the line
+abbrev pub NeedsMemory : Option LastLine → Type 0
+NeedsMemory None = ⊥
+NeedsMemory (Some line) = is_fixed line ≡ false
+
 -- What is told of a finding: itself; or, where the sink failed in the journal, that the host failed;
 -- or, where there was no memory for a line, as much of that as had been told.
 abbrev pub IsToldOf : Outcome → (faults faults' : ℕ) → Outcome → Type 0
@@ -143,7 +202,7 @@ IsToldOf found faults faults' told =
     ((told ≡ found) × (found.last ≡ None → faults' ≡ faults))
     ⊎ (((told ≡ stopped_outcome statuses.Failed found.journal lines.HostFailed) × Rose faults faults' × (found.journal ≡ [] → ⊥))
     ⊎ ((told.status ≡ statuses.Memory) × (told.last ≡ Some lines.Memory) × IsFront told.journal found.journal
-    × (found.journal ≡ [] → IfSome found.last (λ line. is_fixed line ≡ false))))
+    × (found.journal ≡ [] → NeedsMemory found.last)))
 
 -- ---- the whole run
 
@@ -183,9 +242,9 @@ pub record IsOutcome (told decided : Outcome) : Type 0 where
 abbrev pub IsAsked : Job → (short : Type 0) → (asked asked' : List Request) → Type 0
 IsAsked command short asked asked' = (short × (asked' ≡ asked)) ⊎ (asked' ≡ asked ++ requests_of command)
 
--- a line that tells of the image
-abbrev pub IsImageLine : Option LastLine → Type 0
-IsImageLine last = (line : LastLine) × (last ≡ Some line) × (is_image_line line ≡ true)
+-- a line that tells of the image, or of the redo file that is given
+abbrev pub IsImageLine : Bool → Option LastLine → Type 0
+IsImageLine given last = (line : LastLine) × (last ≡ Some line) × (is_refusal given line ≡ true)
 
 -- this is told; or that there was no memory, and nothing else
 abbrev pub IsToldOrShort : (wanted told : Outcome) → Type 0
@@ -195,32 +254,29 @@ IsToldOrShort wanted told = (told ≡ wanted) ⊎ (told ≡ ended_outcome status
 -- refused tells of the image.
 abbrev pub EndsByWords : Job → Outcome → Type 0
 EndsByWords usage told = IsToldOrShort (ended_outcome statuses.Usage lines.Usage) told
-EndsByWords (unbuilt form) told = IsToldOrShort (ended_outcome statuses.Refused (lines.Unbuilt form)) told
-EndsByWords (check_of name) told =
-    (told.status ≡ statuses.Usage → ⊥) × ((form : Form) → told.last ≡ Some (lines.Unbuilt form) → ⊥)
-    × (told.status ≡ statuses.Refused → IsImageLine told.last)
+EndsByWords unbuilt told = IsToldOrShort (ended_outcome statuses.Refused lines.Unbuilt) told
+EndsByWords (check_of name redo) told =
+    (told.status ≡ statuses.Usage → ⊥) × (told.last ≡ Some lines.Unbuilt → ⊥)
+    × (told.status ≡ statuses.Refused → IsImageLine (is_some redo) told.last)
+EndsByWords (make_of name) told = (told ≡ made_outcome) ⊎ ((told.journal ≡ []) × (IsSettled told.status → ⊥))
 
 -- Words that ask for no check have no device. A check has one, and tells all that was judged by what
 -- was read of it, or where memory was short a front of that; or the host handed none out.
-abbrev pub TellsBy : {D : Type 0} → Ghosts D → Job → (List ℕ → Option Stored) → (loans loans' : Option (List (Loan D))) → Outcome → Type 0
-TellsBy g usage stored loans loans' told = loans' ≡ loans
-TellsBy g (unbuilt form) stored loans loans' told = loans' ≡ loans
-TellsBy g (check_of name) stored loans loans' told =
+abbrev pub TellsBy : {D : Type 0} → Ghosts D → Job → (stored redos : List ℕ → Option Stored) → (loans loans' : Option (List (Loan D))) → Outcome → Type 0
+TellsBy g usage stored redos loans loans' told = loans' ≡ loans
+TellsBy g unbuilt stored redos loans loans' told = loans' ≡ loans
+TellsBy g (check_of name redo) stored redos loans loans' told =
     ((loans' ≡ loans) × (told.journal ≡ []) × (IsSettled told.status → ⊥))
-    ⊎ ((found : List Entry) × CameBack g (stored name) loans loans' found × IsFront told.journal found
+    ⊎ ((found : List Entry) × CameBack g (is_some redo) (stored name) (redo_named redos redo) loans loans' found × IsFront told.journal found
     × ((told.status ≡ statuses.Memory → ⊥) → told.journal ≡ found))
+TellsBy g (make_of name) stored redos loans loans' told =
+    ((loans' ≡ loans) × (told.journal ≡ []) × (IsSettled told.status → ⊥)) ⊎ WasMade g (told.status ≡ statuses.Clean) loans loans'
 
--- What a run owes: how it ended is what words and bytes decide, or has a cause in a count that
--- rose; its journal has each unit of each group, or the first of them where it was stopped; and this
--- is what the sink took.
-pub record IsRun (command : Job) (told : Outcome) (stored : List ℕ → Option Stored) (host host' devices devices' sink sink' : ℕ)
-    (taken taken' : Option (List ℕ)) (asked asked' : List Request) (end : RunEnd) : Type 0 where
-  pub status : end.status ≡ code_of told.status
-  pub journal : end.journal.items ≡ told.journal
-  pub starts : end.starts ≡ 0 ∷ length told.journal ∷ length told.journal ∷ []
-  pub words : EndsByWords command told
-  pub decided : IfSome (decided_by command stored) (IsOutcome told)
-  pub cause : HasOutcomeCause told host host' devices devices' sink sink'
-  pub units : HasUnits told.status told.journal
-  pub shown : IsShown told.journal told.last sink sink' taken taken'
-  pub asked_for : IsAsked command (told.status ≡ statuses.Memory) asked asked'
+-- the units of a journal; a new image has none
+abbrev pub HasUnitsOf : Job → Status → List Entry → Type 0
+HasUnitsOf (make_of name) status journal = journal ≡ []
+HasUnitsOf other status journal = HasUnits status journal
+
+-- the run ended before a device was handed out for a new image
+abbrev pub EndsUnopened : Outcome → Type 0
+EndsUnopened told = (told.status ≡ statuses.Clean → ⊥) × (told.last ≡ Some lines.DeviceFailed → ⊥)

@@ -4,15 +4,16 @@ use Rattle.std.specs.Global.{Vec}
 use Rattle.ag_headers.specs.declared.fault.HeadFault.{HeadFault}
 use Rattle.blk_device.specs.Causes.{HasCause}
 use Rattle.blk_device.specs.Contents.{Contents}
-use Rattle.blk_device.specs.declared.device.Region.TheVariants.{Image}
+use Rattle.blk_device.specs.declared.device.Region.{Region}
+use Rattle.blk_device.specs.declared.device.Region.TheVariants.{Image, Redo}
 use Rattle.blk_device.specs.Taken.{IsFront}
 use Rattle.fs_model.specs.declared.entry.Entry.{Entry}
 use Rattle.fs_model.specs.declared.unit.Head.{Head}
 use Rattle.space_check.specs.Events.{Event, entries_of, reads_of, most_entries}
 use Rattle.space_check.specs.declared.halt.Halt.TheVariants as halts
 use Rattle.space_check.specs.declared.stop.CheckStop.{CheckStop}
-use Rattle.xscrub.specs.Image.{image_events, image_outcome}
-use Rattle.xscrub.specs.Outcome.{Outcome, judged_outcome, filled_outcome, ended_outcome, is_image_line}
+use Rattle.xscrub.specs.Image.{device_events, device_outcome, image_events, image_outcome}
+use Rattle.xscrub.specs.Outcome.{Outcome, judged_outcome, filled_outcome, ended_outcome, is_image_line, is_refusal}
 use Rattle.xscrub.specs.Units.{HasAllUnits, HasItsMost}
 use Rattle.xscrub.specs.declared.ending.Status.TheVariants as statuses
 use Rattle.xscrub.specs.declared.judging.JudgeFault.{JudgeFault}
@@ -92,3 +93,19 @@ Says (Ok journal) (Ok (Full told)) = ⊥
 Says (Ok journal) (Ok (Refused line)) = ⊥
 Says (Ok journal) (Err fault) = ⊥
 Says (Err stop) result = SaysStop stop result
+
+-- ---- of a device whose redo file is looked at where one is given
+
+abbrev pub TellsOfDevice : Bool → Judgement → Type 0
+TellsOfDevice given (Judged journal) = HasAllUnits journal.items
+TellsOfDevice given (Full journal) = HasItsMost journal.items
+TellsOfDevice given (Refused line) = is_refusal given line ≡ true
+
+abbrev pub IsDeviceJudged : Bool → Option Contents → (Region → ℕ) → Judgement → Type 0
+IsDeviceJudged given content blocks found = IfSome content (λ m. judgement_outcome found ≡ device_outcome given (blocks Redo) (blocks Image) m)
+
+abbrev pub HasDeviceFront : Bool → Option Contents → (Region → ℕ) → JudgeFault → Type 0
+HasDeviceFront given content blocks fault = IfSome content (λ m. IsFront (journal_at fault) (device_outcome given (blocks Redo) (blocks Image) m).journal)
+
+abbrev pub KeptOfDevice : Bool → Option Contents → (Region → ℕ) → (before now : ℕ) → Result Judgement JudgeFault → Type 0
+KeptOfDevice given content blocks before now result = IfSome content (λ m. IsKept (device_events given (blocks Redo) (blocks Image) m) before now (journal_in result))

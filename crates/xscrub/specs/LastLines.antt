@@ -8,9 +8,10 @@ use Rattle.fs_model.specs.declared.unit.Head.TheVariants.{Agf, Agi, Agfl}
 use Rattle.geom.specs.declared.fault.ImageFault.{ImageFault}
 use Rattle.geom.specs.declared.fault.ImageFault.TheVariants as images
 use Rattle.run_text.specs.Lines.{line_from, spaced}
-use Rattle.xscrub.specs.declared.last_lines.Form.TheVariants as forms
+use Rattle.xscrub.specs.declared.last_lines.RedoRefusal.{RedoRefusal}
+use Rattle.xscrub.specs.declared.last_lines.RedoRefusal.TheVariants as redos
 use Rattle.xscrub.specs.declared.last_lines.LastLine.{LastLine}
-use Rattle.xscrub.specs.declared.last_lines.LastLine.TheVariants.{Usage, Unbuilt, Image, Head, DeviceFailed, HostFailed, JournalFull, Memory}
+use Rattle.xscrub.specs.declared.last_lines.LastLine.TheVariants.{Usage, Unbuilt, Redo, Image, Head, DeviceFailed, HostFailed, JournalFull, Memory}
 
 abbrev pub head_name : GroupHead → List ℕ
 head_name Agf = codes "agf"
@@ -38,10 +39,14 @@ image_fault_words images.Checksum = codes "checksum" ∷ []
 image_fault_words images.Counts = codes "counts" ∷ []
 image_fault_words images.DeviceShort = codes "deviceshort" ∷ []
 
+abbrev pub redo_word : RedoRefusal → List ℕ
+redo_word redos.Short = codes "short"
+redo_word redos.Waiting = codes "waiting"
+
 abbrev pub last_words : LastLine → List (List ℕ)
 last_words Usage = codes "usage: xscrub JOB TARGET [--redo FILE] [--script FILE] [--rebuild] [--turns N]" ∷ []
-last_words (Unbuilt forms.Job) = codes "unbuilt job" ∷ []
-last_words (Unbuilt forms.Redo) = codes "unbuilt redo" ∷ []
+last_words Unbuilt = codes "unbuilt job" ∷ []
+last_words (Redo refusal) = codes "redo" ∷ redo_word refusal ∷ []
 last_words (Image fault) = codes "image" ∷ image_fault_words fault
 last_words (Head group head fault) = codes "group" ∷ decimal group ∷ head_name head ∷ head_fault_text fault ∷ []
 last_words DeviceFailed = codes "device failed" ∷ []

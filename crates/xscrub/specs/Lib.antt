@@ -7,6 +7,7 @@ pub mod LastLines
 pub mod MemFiles
 pub mod MemHost
 pub mod Outcome
+pub mod Run
 pub mod Shown
 pub mod Stored
 pub mod Units

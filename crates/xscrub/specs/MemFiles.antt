@@ -1,12 +1,16 @@
--- What an image in memory, and a map of them, stands for.
-use Rattle.std.specs.Prelude.{ℕ, List, Option}
+-- What an image or a redo file in memory, and a map of them, stands for.
+use Rattle.std.specs.Prelude.{◌≡◌, ℕ, zero, suc, nat_lt, if◌then◌else◌, List, Option, Some, None}
 use Rattle.std.specs.Option.{option_map}
 use Rattle.std.specs.BTreeMap.{BTreeMap, get_by_text}
 use Rattle.std.specs.declared.string.String.{String}
 use Rattle.std.specs.declared.alloc.Global.{Global}
 use Rattle.blk_device.specs.Stored.{stored}
-use Rattle.xscrub.specs.Stored.{Stored}
+use Rattle.byte_fields.specs.Zeros.{zeros}
+use Rattle.blk_device.specs.Contents.{Contents, put}
+use Rattle.blk_device.specs.declared.device.Region.TheVariants.{Redo}
+use Rattle.xscrub.specs.Stored.{Stored, no_redo}
 use Rattle.xscrub.specs.declared.mem_host.MemImage.{MemImage}
+use Rattle.xscrub.specs.declared.mem_host.MemRedo.{MemRedo}
 
 abbrev pub file_of : MemImage → Stored
 file_of image = record { size = image.size; at = stored image.blocks }
@@ -18,3 +22,20 @@ file_named images name = option_map file_of (get_by_text images name)
 -- the numbers of the device calls that are to fail on the file of that name
 abbrev pub failing_named : BTreeMap (String Global) MemImage → List ℕ → Option (List ℕ)
 failing_named images name = option_map (λ (i : MemImage). i.failing.items) (get_by_text images name)
+
+-- no block lies behind its end
+abbrev pub redo_of : MemRedo → Stored
+redo_of redo = record { size = redo.size; at = λ b. if nat_lt b redo.size then stored redo.blocks b else zeros }
+
+abbrev pub redo_or_none : Option MemRedo → Stored
+redo_or_none None = no_redo
+redo_or_none (Some redo) = redo_of redo
+
+-- the redo file of that name; one that isn't there is made of zeros
+abbrev pub redo_file_named : BTreeMap (String Global) MemRedo → List ℕ → Option Stored
+redo_file_named redos name = Some (redo_or_none (get_by_text redos name))
+
+-- the contents with the first k blocks of a redo file
+abbrev pub with_redo : (ℕ → List ℕ) → ℕ → Contents → Contents
+with_redo held zero c = c
+with_redo held (suc k) c = put Redo k (held k) (with_redo held k c)

@@ -2,7 +2,7 @@
 use Rattle.std.specs.Prelude.{◌≡◌, ℕ, List, map, Option, None, IsSome}
 use Rattle.std.specs.BTreeMap.{get_by_text}
 use Rattle.xscrub.specs.Asked.{request_of}
-use Rattle.xscrub.specs.MemFiles.{file_named, failing_named}
+use Rattle.xscrub.specs.MemFiles.{file_named, failing_named, redo_file_named}
 use Rattle.blk_device.specs.declared.memory.MemDevice.{MemDevice}
 use Rattle.xscrub.specs.Stored.{Stored, Request, Loan}
 use Rattle.xscrub.specs.declared.mem_host.MemHost.{MemHost}
@@ -13,6 +13,9 @@ stored_by host name = file_named host.images name
 -- the numbers of the device calls that are to fail on the image of that name
 abbrev pub failing_by : MemHost → List ℕ → Option (List ℕ)
 failing_by host name = failing_named host.images name
+
+abbrev pub redo_files_by : MemHost → List ℕ → Option Stored
+redo_files_by host name = redo_file_named host.redos name
 
 abbrev pub Awaits : MemHost → List ℕ → Type 0
 Awaits host name = IsSome (get_by_text host.images name)
@@ -29,3 +32,4 @@ abbrev pub Keeps : MemHost → MemHost → Type 0
 Keeps a b =
     (b.host_faults ≡ a.host_faults) × (b.dev_faults ≡ a.dev_faults) × (asked_of b ≡ asked_of a)
     × ((n : List ℕ) → stored_by b n ≡ stored_by a n) × (loans_of b ≡ loans_of a)
+    × ((n : List ℕ) → redo_files_by b n ≡ redo_files_by a n)

@@ -59,21 +59,32 @@ filled_outcome journal = stopped_outcome statuses.Full journal lines.JournalFull
 abbrev pub ended_outcome : Status → LastLine → Outcome
 ended_outcome status line = stopped_outcome status [] line
 
+-- a new image that was written
+abbrev pub made_outcome : Outcome
+made_outcome = record { status = statuses.Clean; journal = []; last = None }
+
 -- a line that tells of an image
 abbrev pub is_image_line : LastLine → Bool
 is_image_line (lines.Image fault) = true
 is_image_line (lines.Head group head fault) = true
 is_image_line lines.Usage = false
-is_image_line (lines.Unbuilt form) = false
+is_image_line lines.Unbuilt = false
+is_image_line (lines.Redo refusal) = false
 is_image_line lines.DeviceFailed = false
 is_image_line lines.HostFailed = false
 is_image_line lines.JournalFull = false
 is_image_line lines.Memory = false
 
+-- a line that tells of an image, or of the redo file that was given beside it
+abbrev pub is_refusal : Bool → LastLine → Bool
+is_refusal given (lines.Redo refusal) = given
+is_refusal given line = is_image_line line
+
 abbrev pub outcome_of : Finding → Outcome
 outcome_of (findings.Judged journal) = judged_outcome journal.items
 outcome_of (findings.Full journal) = filled_outcome journal.items
 outcome_of (findings.Refused line) = ended_outcome statuses.Refused line
+outcome_of findings.Made = made_outcome
 outcome_of findings.Usage = ended_outcome statuses.Usage lines.Usage
 outcome_of (findings.DeviceFailed journal) = stopped_outcome statuses.Failed journal.items lines.DeviceFailed
 outcome_of findings.HostFailed = ended_outcome statuses.Failed lines.HostFailed

@@ -1,10 +1,13 @@
 -- What a host keeps under a name, and what it is asked.
-use Rattle.std.specs.Prelude.{◌≡◌, ⊤, ℕ, List, ◌++◌, Option, Some, None}
+use Rattle.std.specs.Prelude.{◌≡◌, ◌⊎◌, ⊤, ℕ, Bool, if◌then◌else◌, List, [], ◌∷◌, ◌++◌, Option, Some, None}
+use Rattle.std.specs.Str.{bytes_eq}
 use Rattle.byte_fields.specs.Zeros.{zeros}
 use Rattle.blk_device.specs.Contents.{Contents}
+use Rattle.blk_device.specs.Stored.{blank}
 use Rattle.blk_device.specs.declared.device.Region.{Region}
 use Rattle.blk_device.specs.declared.device.Region.TheVariants.{Image, Redo}
 use Rattle.xscrub.specs.declared.host.Purpose.{Purpose}
+use Rattle.xscrub.specs.declared.host.Purpose.TheVariants.{Make}
 
 -- a file of blocks: how many, and the bytes of each
 pub record Stored : Type 0 where
@@ -29,17 +32,55 @@ Lends loans None (Some new) = ⊥
 Lends loans (Some old) None = ⊥
 Lends loans (Some old) (Some new) = new ≡ old ++ loans
 
--- an image that was opened without a redo file: its redo region is zeros
-abbrev pub opened : Stored → Contents
-opened file Image b = file.at b
-opened file Redo b = zeros
+-- the redo region without a redo file: 162 blocks of zeros
+abbrev pub no_redo : Stored
+no_redo = record { size = 162; at = λ b. zeros }
 
--- the device that was handed out has the named image, where the host tells that
-abbrev pub IsOpened : Option Stored → Option Contents → (Region → ℕ) → Type 0
-IsOpened None content blocks = content ≡ None
-IsOpened (Some file) content blocks = (content ≡ Some (opened file)) × (blocks Image ≡ file.size)
+-- the redo region by the name of a redo file, where one is given
+abbrev pub redo_named : (List ℕ → Option Stored) → Option (List ℕ) → Option Stored
+redo_named redos None = Some no_redo
+redo_named redos (Some name) = redos name
+
+-- an image with a redo region beside it
+abbrev pub opened : Stored → Stored → Contents
+opened file redo Image b = file.at b
+opened file redo Redo b = redo.at b
+
+-- the device that was handed out has the named image and redo region, where the host tells the image; one that
+-- tells images tells redo files too
+abbrev pub IsOpened : Option Stored → Option Stored → Option Contents → (Region → ℕ) → Type 0
+IsOpened None redo content blocks = content ≡ None
+IsOpened (Some file) None content blocks = ⊥
+IsOpened (Some file) (Some redo) content blocks = (content ≡ Some (opened file redo)) × (blocks Image ≡ file.size) × (blocks Redo ≡ redo.size)
+
+-- a device over a new image of so many blocks: zeros, where the host tells what its images hold
+abbrev pub IsNew : Bool → ℕ → Option Contents → (Region → ℕ) → Type 0
+IsNew tells n content blocks = (content ≡ (if tells then Some blank else None)) × (blocks Image ≡ n)
+
+-- the device that is handed out for a purpose: over the image of that name and its redo region, or over a new
+-- image
+abbrev pub IsLent : Purpose → Bool → (image redo : Option Stored) → Option Contents → (Region → ℕ) → Type 0
+IsLent (Make n) tells file redo content blocks = IsNew tells n content blocks
+IsLent other tells file redo content blocks = IsOpened file redo content blocks
+
+-- so many blocks are enough for the purpose: a new image has as many as are wanted
+abbrev pub HasRoomFor : Purpose → ℕ → Type 0
+HasRoomFor (Make n) blocks = blocks ≡ n
+HasRoomFor other blocks = ⊤
 
 -- the image of a device that comes back, where the device tells it
 abbrev pub stored_image : Option Contents → (Region → ℕ) → Option Stored
 stored_image None blocks = None
 stored_image (Some content) blocks = Some (record { size = blocks Image; at = content Image })
+
+-- the images with this one under its name
+abbrev pub stored_with : List ℕ → Option Stored → (List ℕ → Option Stored) → List ℕ → Option Stored
+stored_with name file stored n = if bytes_eq n name then file else stored n
+
+-- the request for a device
+abbrev pub asks : List ℕ → Option (List ℕ) → Purpose → Request
+asks image redo purpose = record { image = image; redo = redo; purpose = purpose }
+
+-- the request was kept; or it wasn't, as there was no memory for it
+abbrev pub IsAskedFor : (short : Type 0) → Request → (old new : List Request) → Type 0
+IsAskedFor short request old new = (short × (new ≡ old)) ⊎ (new ≡ old ++ request ∷ [])

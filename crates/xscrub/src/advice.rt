@@ -19,7 +19,7 @@ static JOBS: [&str; 7] = [
 ];
 
 // What a line of a refused image means, and what to do.
-static REFUSALS: [(&str, &str); 14] = [
+static REFUSALS: [(&str, &str); 15] = [
     (
         "image magic\n",
         "There is no XFS file system: is it the right file or partition?",
@@ -73,8 +73,12 @@ static REFUSALS: [(&str, &str); 14] = [
         "This job comes later: today xscrub checks images.",
     ),
     (
-        "unbuilt redo\n",
-        "A check with a redo file comes later: check the image without it.",
+        "redo short\n",
+        "The redo file has fewer than 162 blocks of 4096 bytes: is it the right file?",
+    ),
+    (
+        "redo waiting\n",
+        "A change of the image was cut short and waits in the redo file: the image isn't whole without it.",
     ),
 ];
 

@@ -1,7 +1,8 @@
-ghost use Rattle.std.specs.Prelude.{◌≡◌, ◌≤◌, ◌++◌, [], ◌∷◌, ◌==◌, map, OnOk, OnErr, if◌then◌else◌};
+ghost use Rattle.std.specs.Prelude.{◌≡◌, ◌≤◌, ◌==◌, OnOk, OnErr, if◌then◌else◌};
 ghost use Rattle.std.specs.Option.{option_map};
 ghost use Rattle.blk_device.specs.Causes.{one_more};
-ghost use Rattle.xscrub.specs.Asked.{request_of};
+ghost use Rattle.xscrub.specs.Asked.{AddsRequest};
+ghost use Rattle.xscrub.specs.Stored.{asks};
 
 use crate::host::Purpose;
 use std::alloc::{AllocError, Global};
@@ -22,8 +23,8 @@ pub fn keep_request(
     redo: Option<&str>,
     purpose: Purpose,
 ) -> Result<(), AllocError>
-    ensures ok { OnOk result (map request_of asked.new.items ≡ map request_of asked.old.items
-        ++ record { image = image.now; redo = option_map (λ s. s.now) redo.entry; purpose = purpose } ∷ []) }
+    ensures ok { OnOk result (AddsRequest (asks image.now (option_map (λ s. s.now) redo.entry) purpose)
+        asked.old.items asked.new.items) }
     ensures err { OnErr result (asked.new.items ≡ asked.old.items) }
 {
     let redo = match redo {

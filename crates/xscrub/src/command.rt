@@ -2,16 +2,16 @@ ghost use Rattle.std.specs.Prelude.{◌≡◌, IfOk, Some, map, option_map, stri
 ghost use Rattle.command_line.specs.Requests.{told};
 ghost use Rattle.xscrub.specs.Command.{command_of as command_of_words, job_in, SaysCommand};
 
-use crate::last_lines::Form;
 use command_line::{Job, Request, parse};
 use std::alloc::{AllocError, Global};
 
-/// What the words of a command line ask for: the check of the named image, a form that isn't
-/// built yet, or nothing that is understood.
+/// What the words of a command line ask for: the check of the named image, beside a redo file or without
+/// one, a new image of that name, a job that isn't built yet, or nothing that is understood.
 #[derive(Clone, Copy, Debug, PartialEq, Eq)]
 pub enum Command<'a> {
-    Check(&'a str),
-    Unbuilt(Form),
+    Check(&'a str, Option<&'a str>),
+    Make(&'a str),
+    Unbuilt,
     Usage,
 }
 
@@ -20,11 +20,9 @@ fn command_in<'a>(request: &Request<'a>) -> Command<'a>
     ensures { SaysCommand result (job_in (Some (told request.now))) }
 {
     match request.job {
-        Job::Check => match request.redo {
-            None => Command::Check(request.target),
-            Some(_) => Command::Unbuilt(Form::Redo),
-        },
-        Job::Repair | Job::Run | Job::Drill | Job::Make => Command::Unbuilt(Form::Job),
+        Job::Check => Command::Check(request.target, request.redo),
+        Job::Make => Command::Make(request.target),
+        Job::Repair | Job::Run | Job::Drill => Command::Unbuilt,
     }
 }
 

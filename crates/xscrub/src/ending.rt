@@ -17,13 +17,14 @@ pub enum Status {
 }
 
 /// What a run found, before it is told: the journal of a judged image, a journal that was full
-/// before the last unit, the line of a refusal, or what stopped it; with the journal so far where
-/// the device failed or memory was short.
+/// before the last unit, the line of a refusal, a new image that was written, or what stopped it;
+/// with the journal so far where the device failed or memory was short.
 #[derive(Debug, PartialEq, Eq, Drop)]
 pub enum Finding {
     Judged(Vec<Entry>),
     Full(Vec<Entry>),
     Refused(LastLine),
+    Made,
     Usage,
     DeviceFailed(Vec<Entry>),
     HostFailed,

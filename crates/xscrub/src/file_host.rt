@@ -1,5 +1,7 @@
 //! The host of the program: images are files, and the report goes to standard output.
-ghost use Rattle.std.specs.Prelude.{◌≡◌, ◌/◌, [], None, IsNone, IfOk};
+ghost use Rattle.std.specs.Prelude.{◌≡◌, ◌/◌, [], None, IsNone, IfOk, false};
+ghost use Rattle.std.specs.Option.{option_map};
+ghost use Rattle.xscrub.specs.Stored.{HasRoomFor, IsLent, redo_named};
 
 use crate::advice::{NamedFile, explain, tell_failure};
 use crate::asked::{DeviceAsked, count_failed, count_fault, keep_request};
@@ -59,10 +61,28 @@ fn blocks_of<F: Seek>(file: &mut F) -> io::Result<u64> {
     Ok(whole_blocks(file.seek(SeekFrom::End(0))?))
 }
 
+// How many blocks the image of a device has that is opened for this. A new image has as many as are wanted,
+// or it couldn't be made: a block device, say, keeps its size.
+fn blocks_for<F: Seek>(file: &mut F, purpose: Purpose) -> io::Result<u64>
+    ensures { IfOk result (HasRoomFor purpose) }
+{
+    let blocks = blocks_of(file)?;
+    match purpose {
+        Purpose::Check => Ok(blocks),
+        Purpose::Change => Ok(blocks),
+        Purpose::Make(wanted) => {
+            if blocks == wanted {
+                return Ok(blocks);
+            }
+            Err(io::Error::new(ErrorKind::InvalidInput, "its size can't be changed"))
+        }
+    }
+}
+
 // Opens a file to be read. A pipe would wait for a writer, and has no blocks: it is refused.
 fn open_to_read<R: Files>(rt: &R, name: &str) -> io::Result<R::File> {
     if fs::metadata(rt, name)?.file_type().is_fifo() {
-        return Err(io::Error::new(ErrorKind::Unsupported, "a pipe is no image"));
+        return Err(io::Error::new(ErrorKind::Unsupported, "a pipe has no blocks"));
     }
     fs::open(rt, name)
 }
@@ -84,17 +104,31 @@ fn open_image<R: Files>(rt: &R, name: &str, purpose: Purpose) -> io::Result<R::F
     }
 }
 
-// Opens a redo file, and makes one of zeros where there is none.
-fn open_redo<R: Files>(rt: &R, name: &str) -> io::Result<R::File> {
-    let mut file = OpenOptions::new()
+// Makes a redo file of zeros.
+fn make_redo<R: Files>(rt: &R, name: &str) -> io::Result<R::File> {
+    let file = OpenOptions::new()
         .read(true)
         .write(true)
-        .create(true)
+        .create_new(true)
         .open(rt, name)?;
-    if file.seek(SeekFrom::End(0))? == 0 {
-        file.set_len(REDO_BLOCKS * BLOCK_BYTES)?;
-    }
+    file.set_len(REDO_BLOCKS * BLOCK_BYTES)?;
     Ok(file)
+}
+
+// Opens a redo file, for a check to be read alone, and makes one of zeros where there is none.
+fn open_redo<R: Files>(rt: &R, name: &str, purpose: Purpose) -> io::Result<R::File> {
+    if let Err(fault) = fs::metadata(rt, name) {
+        if fault.kind() == ErrorKind::NotFound {
+            return make_redo(rt, name);
+        }
+        return Err(fault);
+    }
+    match purpose {
+        Purpose::Check => open_to_read(rt, name),
+        Purpose::Change | Purpose::Make(_) => {
+            OpenOptions::new().read(true).write(true).open(rt, name)
+        }
+    }
 }
 
 // A file that was opened, with its name for what is told of it; or what failed is told.
@@ -123,14 +157,15 @@ fn open_device<'a, R: Files + Eprint>(
     ensures redo_blocks { IsNone redo.entry →
         IfOk result (λ d. ⟦<FileDevice<NamedFile<'a, R>> as Device>⟧.blocks d Region.Redo ≡ 162) }
     ensures fresh { IfOk result (λ d. ⟦<FileDevice<NamedFile<'a, R>> as Device>⟧.faults d ≡ 0) }
-    ensures untold { IfOk result (λ d. ⟦<FileDevice<NamedFile<'a, R>> as Device>⟧.content d ≡ None) }
+    ensures told { IfOk result (λ d. IsLent purpose false None (redo_named (λ n. None) (option_map (λ s. s.now) redo.entry))
+        (⟦<FileDevice<NamedFile<'a, R>> as Device>⟧.content d) (⟦<FileDevice<NamedFile<'a, R>> as Device>⟧.blocks d)) }
 {
     let mut image = named(alloc, rt, image, open_image(rt, image, purpose))?;
-    let image_blocks = blocks_of(&mut image)?;
+    let image_blocks = blocks_for(&mut image, purpose)?;
     let Some(name) = redo else {
         return Ok(FileDevice::new(alloc, image, None, image_blocks, REDO_BLOCKS));
     };
-    let mut redo = named(alloc, rt, name, open_redo(rt, name))?;
+    let mut redo = named(alloc, rt, name, open_redo(rt, name, purpose))?;
     let redo_blocks = blocks_of(&mut redo)?;
     Ok(FileDevice::new(alloc, image, Some(redo), image_blocks, redo_blocks))
 }
@@ -175,7 +210,11 @@ where
     ghost use Rattle.std.proofs.Common.{rules};
     ghost use Rattle.xscrub.specs.Asked.{request_of};
 
+    ghost tells = { λ h. false };
+
     ghost stored = { λ h n. None };
+
+    ghost redo_files = { λ h n. None };
 
     ghost awaits = { λ h n. Unit {0} };
 

@@ -1,8 +1,8 @@
-ghost use Rattle.std.specs.Prelude.{◌≡◌, ◌≤◌, ◌==◌, ◌+◌, ℕ, List, [], ◌∷◌, ◌++◌, Option, OnOk, OnErr, IfOk, IsErrOf, IsNone, false, if◌then◌else◌, ◌⊎◌};
+ghost use Rattle.std.specs.Prelude.{◌≡◌, ◌≤◌, ◌==◌, ◌+◌, ℕ, Bool, List, [], ◌∷◌, Option, OnOk, OnErr, IfOk, IsErrOf, IsNone, false, if◌then◌else◌};
 ghost use Rattle.std.specs.Option.{option_map};
 ghost use Rattle.std.specs.Str.{bytes_eq};
 ghost use Rattle.blk_device.specs.Causes.{Rose, one_more};
-ghost use Rattle.xscrub.specs.Stored.{Stored, Request, Loan, Out, Back, Lends, IsOpened, stored_image};
+ghost use Rattle.xscrub.specs.Stored.{Stored, Request, Loan, Out, Back, Lends, IsAskedFor, IsLent, asks, redo_named, stored_image, stored_with};
 
 use blk_device::{Device, Region, Sink};
 use thiserror::Error;
@@ -32,8 +32,15 @@ pub trait Host: Sink {
     /// The devices that it hands out.
     type Dev: Device + Send;
 
+    /// Whether it tells what its images hold.
+    ghost tells: { Self → Bool };
+
     /// The image of each name, where the host tells it.
     ghost stored: { Self → List ℕ → Option Stored };
+
+    /// The redo file of each name, where the host tells it; one that isn't there is as it would be made,
+    /// 162 blocks of zeros.
+    ghost redo_files: { Self → List ℕ → Option Stored };
 
     /// The host has a place for a device that comes back under this name.
     ghost awaits: { Self → List ℕ → Type 0 };
@@ -52,15 +59,16 @@ pub trait Host: Sink {
     ghost dev_faults: { Self → ℕ };
 
     /// Opens an image, with a redo file or, without one, with 162 redo blocks of zeros that no
-    /// file keeps. At Failed the host's own count rose.
+    /// file keeps; or makes one of so many blocks of zeros in the place of what has its name. At
+    /// Failed the host's own count rose.
     fn device(
         &mut self,
         image: &str,
         redo: Option<&str>,
         purpose: Purpose,
     ) -> Result<Self::Dev, OpenFault>
-        ensures told { IsNone redo.entry →
-            IfOk result (λ dev. IsOpened (stored self.old image.now) (Self.Dev.content dev) (Self.Dev.blocks dev)) }
+        ensures told { IfOk result (λ dev. IsLent purpose (tells self.old) (stored self.old image.now)
+            (redo_named (redo_files self.old) (option_map (λ s. s.now) redo.entry)) (Self.Dev.content dev) (Self.Dev.blocks dev)) }
         ensures redo_blocks { IsNone redo.entry → IfOk result (λ dev. Self.Dev.blocks dev Region.Redo ≡ 162) }
         ensures fresh { IfOk result (λ dev. Self.Dev.faults dev ≡ 0) }
         ensures lent { IfOk result (λ dev. Lends (Out dev ∷ []) (loans self.old) (loans self.new)) }
@@ -69,25 +77,25 @@ pub trait Host: Sink {
         ensures others { (n : List ℕ) → bytes_eq n image.now ≡ false
             → stored self.new n ≡ stored self.old n }
         ensures none { OnErr result ((n : List ℕ) → stored self.new n ≡ stored self.old n) }
+        ensures redo { (n : List ℕ) → redo_files self.new n ≡ redo_files self.old n }
         ensures failed { IsErrOf result OpenFault.Failed → Rose (host_faults self.old) (host_faults self.new) }
         ensures calm { OnOk result (host_faults self.new ≡ host_faults self.old) }
         ensures later { host_faults self.old ≤ host_faults self.new }
         ensures memory { IsErrOf result OpenFault.Memory → host_faults self.new ≡ host_faults self.old }
-        ensures asked { (IsErrOf result OpenFault.Memory × (asked self.new ≡ asked self.old))
-            ⊎ (asked self.new ≡ asked self.old
-            ++ record { image = image.now; redo = option_map (λ s. s.now) redo.entry; purpose = purpose } ∷ []) }
+        ensures asked { IsAskedFor (IsErrOf result OpenFault.Memory)
+            (asks image.now (option_map (λ s. s.now) redo.entry) purpose) (asked self.old) (asked self.new) }
         ensures devices { dev_faults self.new ≡ dev_faults self.old }
         ensures report { Self.taken self.new ≡ Self.taken self.old }
         ensures sink { Self.sink_faults self.new ≡ Self.sink_faults self.old };
 
     /// Takes a device back under the name by which it was handed out. The count of devices that
-    /// failed rises exactly where this one did.
+    /// failed rises exactly where this one did. No redo file changes: no job writes one yet.
     fn put_back(&mut self, image: &str, dev: Self::Dev)
         requires { awaits self.old image.now }
         ensures lent { Lends (Back dev ∷ []) (loans self.old) (loans self.new) }
-        ensures image { (n : List ℕ) → stored self.new n ≡ (if bytes_eq n image.now
-            then stored_image (Self.Dev.content dev) (Self.Dev.blocks dev)
-            else stored self.old n) }
+        ensures image { (n : List ℕ) → stored self.new n
+            ≡ stored_with image.now (stored_image (Self.Dev.content dev) (Self.Dev.blocks dev)) (stored self.old) n }
+        ensures redo { (n : List ℕ) → redo_files self.new n ≡ redo_files self.old n }
         ensures host { host_faults self.new ≡ host_faults self.old }
         ensures devices { dev_faults self.new ≡ (if Self.Dev.faults dev == 0
             then dev_faults self.old
@@ -100,5 +108,6 @@ pub trait Host: Sink {
     /// loans.
     ghost report_keeps: { (a b : Self) → Self.kept a b
         → (host_faults b ≡ host_faults a) × (dev_faults b ≡ dev_faults a) × (asked b ≡ asked a)
-        × ((n : List ℕ) → stored b n ≡ stored a n) × (loans b ≡ loans a) };
+        × ((n : List ℕ) → stored b n ≡ stored a n) × (loans b ≡ loans a)
+        × ((n : List ℕ) → redo_files b n ≡ redo_files a n) };
 }

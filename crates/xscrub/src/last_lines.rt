@@ -6,20 +6,21 @@ use fs_model::Head;
 use geom::ImageFault;
 use std::alloc::{AllocError, Global};
 
-/// What isn't built yet: the job, or a check with a redo file.
+/// Why a check refuses a redo file: it has fewer blocks than a batch may need, or a batch waits in it.
 #[derive(Clone, Copy, Debug, PartialEq, Eq)]
-pub enum Form {
-    Job,
-    Redo,
+pub enum RedoRefusal {
+    Short,
+    Waiting,
 }
 
 /// What a run says last where it ended before its last verdict: the words are wrong or ask for
-/// what isn't built yet, the image is refused, the journal was full, or device, host or memory
-/// failed.
+/// a job that isn't built yet, the redo file or the image is refused, the journal was full, or device,
+/// host or memory failed.
 #[derive(Clone, Copy, Debug, PartialEq, Eq)]
 pub enum LastLine {
     Usage,
-    Unbuilt(Form),
+    Unbuilt,
+    Redo(RedoRefusal),
     Image(ImageFault),
     Head {
         group: u32,
@@ -67,7 +68,8 @@ pub fn fixed_line(line: &LastLine) -> Option<&'static str>
         LastLine::Usage => Some(
             "usage: xscrub JOB TARGET [--redo FILE] [--script FILE] [--rebuild] [--turns N]\n",
         ),
-        LastLine::Unbuilt(form) => Some(unbuilt_line(form)),
+        LastLine::Unbuilt => Some("unbuilt job\n"),
+        LastLine::Redo(refusal) => Some(redo_line(refusal)),
         LastLine::Image(fault) => fixed_image_line(fault),
         LastLine::Head { .. } => None,
         LastLine::DeviceFailed => Some("device failed\n"),
@@ -78,12 +80,12 @@ pub fn fixed_line(line: &LastLine) -> Option<&'static str>
 }
 
 #[tactic(auto, unfolding(crate::specs::LastLines::last_line_of))]
-fn unbuilt_line(form: Form) -> &'static str
-    ensures { result.now ≡ last_line_of (LastLine.Unbuilt form) }
+fn redo_line(refusal: RedoRefusal) -> &'static str
+    ensures { result.now ≡ last_line_of (LastLine.Redo refusal) }
 {
-    match form {
-        Form::Job => "unbuilt job\n",
-        Form::Redo => "unbuilt redo\n",
+    match refusal {
+        RedoRefusal::Short => "redo short\n",
+        RedoRefusal::Waiting => "redo waiting\n",
     }
 }
 

@@ -1,5 +1,6 @@
 //! The top call over any host: checks an XFS version 5 image, which is the free space and the
-//! reference counts of each group against its reverse mapping btree, and reports what was found.
+//! reference counts of each group against its reverse mapping btree, and reports what was found; or
+//! makes a new image.
 #![tactic(auto)]
 
 mod advice;
@@ -10,7 +11,9 @@ mod file_host;
 mod host;
 mod judging;
 mod last_lines;
+mod making;
 mod mem_host;
+mod redo;
 mod telling;
 mod top;
 
@@ -21,7 +24,7 @@ pub use crate::ending::{Finding, Status, Told};
 pub use crate::file_host::FileHost;
 pub use crate::host::{Host, OpenFault, Purpose};
 pub use crate::judging::{JudgeFault, Judgement, judge};
-pub use crate::last_lines::{Form, LastLine, fixed_line, last_line};
-pub use crate::mem_host::{MemHost, MemImage};
+pub use crate::last_lines::{LastLine, RedoRefusal, fixed_line, last_line};
+pub use crate::mem_host::{MemHost, MemImage, MemRedo};
 pub use crate::telling::tell;
 pub use crate::top::{RunEnd, fsck_main};

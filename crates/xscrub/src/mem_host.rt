@@ -1,15 +1,17 @@
 //! A host in memory, for tests.
-ghost use Rattle.std.specs.Prelude.{◌≡◌, ℕ, List, [], Some, IsSome, IfOk, if◌then◌else◌};
+ghost use Rattle.std.specs.Prelude.{◌≡◌, ◌≤◌, ℕ, List, [], Some, IsSome, IsNone, IfOk, OnOk, true, if◌then◌else◌};
+ghost use Rattle.std.specs.Option.{option_map};
 ghost use Rattle.std.specs.BTreeMap.{get_by_text};
 ghost use Rattle.std.specs.Str.{bytes_eq};
+ghost use Rattle.blk_device.specs.Contents.{map_told};
 ghost use Rattle.blk_device.specs.Memory.{calls_asked, failing_calls};
 ghost use Rattle.blk_device.specs.Stored.{stored};
-ghost use Rattle.xscrub.specs.MemFiles.{file_of, file_named, failing_named};
-ghost use Rattle.xscrub.specs.Stored.{IsOpened};
+ghost use Rattle.xscrub.specs.MemFiles.{file_of, file_named, failing_named, redo_file_named, redo_of, with_redo};
+ghost use Rattle.xscrub.specs.Stored.{IsLent, IsNew, IsOpened, no_redo, redo_named, stored_with};
 
 use crate::asked::{DeviceAsked, count_failed, count_fault, keep_request};
 use crate::host::{Host, OpenFault, Purpose};
-use blk_device::{Device, MemDevice, Region, Sink, SinkFailed};
+use blk_device::{Device, DeviceFailed, MemDevice, Region, Sink, SinkFailed};
 use byte_fields::Block;
 use std::alloc::{AllocError, Global};
 use std::collections::BTreeMap;
@@ -26,11 +28,21 @@ pub struct MemImage {
     pub failing: Vec<u64>,
 }
 
-/// Images by name, what was asked, and the report. Calls of `put` are numbered from 0, and those
-/// of chosen numbers fail; an image that isn't there is a fault of the host.
+/// A redo file of so many blocks, zeros where there is none.
+#[derive(Drop)]
+pub struct MemRedo {
+    pub size: u64,
+    pub blocks: BTreeMap<u64, Block>,
+}
+
+/// Images and redo files by name, what was asked, and the report. Calls of `put` are numbered from 0, and those
+/// of chosen numbers fail; an image that isn't there is a fault of the host, also where it is to be
+/// made: a new image takes the place of one that is there. A redo file that isn't there is 162 blocks of
+/// zeros. Where there is one, a device's calls are counted from the first behind its opening on.
 #[derive(Drop)]
 pub struct MemHost {
     pub images: BTreeMap<String, MemImage>,
+    pub redos: BTreeMap<String, MemRedo>,
     pub failing_puts: Vec<u64>,
     pub asked: Vec<DeviceAsked>,
     pub report: Vec<u8>,
@@ -41,9 +53,10 @@ pub struct MemHost {
 }
 
 impl MemHost {
-    /// A host with these images.
+    /// A host with these images and no redo file.
     pub fn new(alloc: Global, images: BTreeMap<String, MemImage>, failing_puts: Vec<u64>) -> Self
         ensures images { result.images ≡ images }
+        ensures redos { (n : List ℕ) → redo_file_named result.redos n ≡ Some no_redo }
         ensures failing { result.failing_puts ≡ failing_puts }
         ensures asked { result.asked.items ≡ [] }
         ensures report { result.report.items ≡ [] }
@@ -54,6 +67,7 @@ impl MemHost {
     {
         MemHost {
             images,
+            redos: BTreeMap::new(alloc),
             failing_puts,
             asked: Vec::new(alloc),
             report: Vec::new(alloc),
@@ -67,7 +81,7 @@ impl MemHost {
 
 impl Sink for MemHost {
     ghost use Rattle.std.proofs.Common.{rules};
-    ghost use Rattle.std.specs.Prelude.{◌<◌, ◌≤◌, length, take, OnErr, IsErr, Contains};
+    ghost use Rattle.std.specs.Prelude.{◌<◌, length, take, OnErr, IsErr, Contains};
     ghost use Rattle.blk_device.specs.Causes.{HasCause, any_error, one_more};
     ghost use Rattle.blk_device.specs.Taken.{Takes};
     ghost use Rattle.xscrub.specs.MemHost.{Keeps};
@@ -127,7 +141,7 @@ fn replace_image(
 )
     requires { IsSome (get_by_text images.old name.now) }
     ensures image { (n : List ℕ) → file_named images.new n
-        ≡ (if bytes_eq n name.now then Some (record { size = size; at = stored blocks }) else file_named images.old n) }
+        ≡ stored_with name.now (Some (record { size = size; at = stored blocks })) (file_named images.old) n }
     ensures failing { (n : List ℕ) → failing_named images.new n ≡ failing_named images.old n }
 {
     if let Some(file) = images.get_mut(name) {
@@ -138,7 +152,7 @@ fn replace_image(
 
 // A device over a copy of the image, of whose calls those that are chosen will fail.
 fn open_copy(alloc: Global, image: &MemImage) -> Result<MemDevice, AllocError>
-    ensures told { IfOk result (λ d. IsOpened (Some (file_of image.now))
+    ensures told { IfOk result (λ d. IsOpened (Some (file_of image.now)) (Some no_redo)
         (⟦<MemDevice as Device>⟧.content d) (⟦<MemDevice as Device>⟧.blocks d)) }
     ensures redo_blocks { IfOk result (λ d. ⟦<MemDevice as Device>⟧.blocks d Region.Redo ≡ 162) }
     ensures fresh { IfOk result (λ d. ⟦<MemDevice as Device>⟧.faults d ≡ 0) }
@@ -151,16 +165,131 @@ fn open_copy(alloc: Global, image: &MemImage) -> Result<MemDevice, AllocError>
     Ok(dev)
 }
 
+// A device over a new image, of whose calls those that are chosen for the image in whose place it comes
+// will fail.
+fn open_new(alloc: Global, image: &MemImage, blocks: u64) -> Result<MemDevice, AllocError>
+    ensures told { IfOk result (λ d. IsNew true blocks
+        (⟦<MemDevice as Device>⟧.content d) (⟦<MemDevice as Device>⟧.blocks d)) }
+    ensures redo_blocks { IfOk result (λ d. ⟦<MemDevice as Device>⟧.blocks d Region.Redo ≡ 162) }
+    ensures fresh { IfOk result (λ d. ⟦<MemDevice as Device>⟧.faults d ≡ 0) }
+    ensures failing { IfOk result (λ d. failing_calls d ≡ image.now.failing.items) }
+    ensures asked { IfOk result (λ d. calls_asked d ≡ 0) }
+{
+    let failing = image.failing.clone()?;
+    let dev = MemDevice::new(alloc, blocks, REDO_BLOCKS, failing);
+    Ok(dev)
+}
+
+// Puts the blocks of a redo file on a device, one after the other.
+fn put_redo<D: Device>(dev: &mut D, redo: &MemRedo) -> Result<(), DeviceFailed>
+    requires { redo.now.size ≤ D.blocks dev.old Region.Redo }
+    ensures written { OnOk result (D.content dev.new ≡ map_told (with_redo (stored redo.now.blocks) redo.now.size) (D.content dev.old)) }
+    ensures sizes { D.blocks dev.new ≡ D.blocks dev.old }
+    ensures calm { OnOk result (D.faults dev.new ≡ D.faults dev.old) }
+{
+    let count = redo.size;
+    for at in 0..count {
+        let block = block_of(&redo.blocks, at);
+        dev.write(Region::Redo, at, &block)?;
+    }
+    Ok(())
+}
+
+// The block that a map has there, or zeros.
+fn block_of(blocks: &BTreeMap<u64, Block>, at: u64) -> Block
+    ensures { result.bytes ≡ stored blocks.now at }
+{
+    match blocks.get(&at) {
+        Some(block) => *block,
+        None => Block::zeroed(),
+    }
+}
+
+// The numbers of these calls behind so many others.
+fn calls_behind(alloc: Global, calls: &[u64], others: u64) -> Result<Vec<u64>, AllocError> {
+    let mut behind = Vec::new(alloc);
+    for call in calls {
+        behind.push(call.saturating_add(others))?;
+    }
+    Ok(behind)
+}
+
+// A device over a copy of the image and of a redo file. Its first calls put the redo file there; of those
+// behind them the chosen ones will fail.
+fn open_beside(alloc: Global, image: &MemImage, redo: &MemRedo) -> Result<MemDevice, AllocError>
+    ensures told { IfOk result (λ d. IsOpened (Some (file_of image.now)) (Some (redo_of redo.now))
+        (⟦<MemDevice as Device>⟧.content d) (⟦<MemDevice as Device>⟧.blocks d)) }
+    ensures fresh { IfOk result (λ d. ⟦<MemDevice as Device>⟧.faults d ≡ 0) }
+{
+    let blocks = copy_of(&image.blocks)?;
+    let failing = calls_behind(alloc, image.failing.as_slice(), redo.size)?;
+    let mut dev = MemDevice::with_image(alloc, image.size, redo.size, blocks, failing)?;
+    match put_redo(&mut dev, redo) {
+        Ok(()) => Ok(dev),
+        Err(_) => Err(AllocError),
+    }
+}
+
+// A device over a copy of the image, with its redo region.
+fn open_stored(
+    alloc: Global,
+    image: &MemImage,
+    redos: &BTreeMap<String, MemRedo>,
+    redo: Option<&str>,
+) -> Result<MemDevice, AllocError>
+    ensures told { IfOk result (λ d. IsOpened (Some (file_of image.now))
+        (redo_named (redo_file_named redos.now) (option_map (λ s. s.now) redo.entry))
+        (⟦<MemDevice as Device>⟧.content d) (⟦<MemDevice as Device>⟧.blocks d)) }
+    ensures redo_blocks { IsNone redo.entry → IfOk result (λ d. ⟦<MemDevice as Device>⟧.blocks d Region.Redo ≡ 162) }
+    ensures fresh { IfOk result (λ d. ⟦<MemDevice as Device>⟧.faults d ≡ 0) }
+    ensures failing { IsNone redo.entry → IfOk result (λ d. failing_calls d ≡ image.now.failing.items) }
+    ensures asked { IsNone redo.entry → IfOk result (λ d. calls_asked d ≡ 0) }
+{
+    let Some(name) = redo else {
+        return open_copy(alloc, image);
+    };
+    match redos.get(name) {
+        Some(file) => open_beside(alloc, image, file),
+        None => open_copy(alloc, image),
+    }
+}
+
+// A device over this image, or over a new one in its place.
+fn open_for(
+    alloc: Global,
+    image: &MemImage,
+    redos: &BTreeMap<String, MemRedo>,
+    redo: Option<&str>,
+    purpose: Purpose,
+) -> Result<MemDevice, AllocError>
+    ensures told { IfOk result (λ d. IsLent purpose true (Some (file_of image.now))
+        (redo_named (redo_file_named redos.now) (option_map (λ s. s.now) redo.entry))
+        (⟦<MemDevice as Device>⟧.content d) (⟦<MemDevice as Device>⟧.blocks d)) }
+    ensures redo_blocks { IsNone redo.entry → IfOk result (λ d. ⟦<MemDevice as Device>⟧.blocks d Region.Redo ≡ 162) }
+    ensures fresh { IfOk result (λ d. ⟦<MemDevice as Device>⟧.faults d ≡ 0) }
+    ensures failing { IsNone redo.entry → IfOk result (λ d. failing_calls d ≡ image.now.failing.items) }
+    ensures asked { IsNone redo.entry → IfOk result (λ d. calls_asked d ≡ 0) }
+{
+    match purpose {
+        Purpose::Check => open_stored(alloc, image, redos, redo),
+        Purpose::Change => open_stored(alloc, image, redos, redo),
+        Purpose::Make(blocks) => open_new(alloc, image, blocks),
+    }
+}
+
 impl Host for MemHost {
     type Dev = MemDevice;
 
-    ghost use Rattle.std.specs.Prelude.{◌≤◌, ◌==◌, ◌++◌, ◌∷◌, ◌⊎◌, IsNone, IsErrOf, OnOk, OnErr, IfSome, false};
-    ghost use Rattle.std.specs.Option.{option_map};
+    ghost use Rattle.std.specs.Prelude.{◌==◌, ◌∷◌, IsErrOf, OnErr, IfSome, false};
     ghost use Rattle.blk_device.specs.Causes.{Rose, one_more};
-    ghost use Rattle.xscrub.specs.MemHost.{stored_by, Awaits, asked_of, failing_by, loans_of};
-    ghost use Rattle.xscrub.specs.Stored.{stored_image, Out, Back, Lends};
+    ghost use Rattle.xscrub.specs.MemHost.{stored_by, redo_files_by, Awaits, asked_of, failing_by, loans_of};
+    ghost use Rattle.xscrub.specs.Stored.{stored_image, Out, Back, Lends, IsAskedFor, asks};
+
+    ghost tells = { λ h. true };
 
     ghost stored = { stored_by };
+
+    ghost redo_files = { redo_files_by };
 
     ghost awaits = { Awaits };
 
@@ -174,16 +303,17 @@ impl Host for MemHost {
 
     ghost report_keeps = { λ a b kept. kept };
 
-    /// Opens a copy of the image, on which the calls that are chosen for this image will fail. The
-    /// host fails exactly where there is no image of that name.
+    /// Opens a copy of the image, or a new one, on which the calls that are chosen for this image will
+    /// fail. The host fails exactly where there is no image of that name.
     fn device(
         &mut self,
         image: &str,
         redo: Option<&str>,
         purpose: Purpose,
     ) -> Result<MemDevice, OpenFault>
-        ensures told { IsNone redo.entry →
-            IfOk result (λ dev. IsOpened (stored_by self.old image.now) (⟦<MemDevice as Device>⟧.content dev) (⟦<MemDevice as Device>⟧.blocks dev)) }
+        ensures told { IfOk result (λ dev. IsLent purpose true (stored_by self.old image.now)
+            (redo_named (redo_files_by self.old) (option_map (λ s. s.now) redo.entry))
+            (⟦<MemDevice as Device>⟧.content dev) (⟦<MemDevice as Device>⟧.blocks dev)) }
         ensures redo_blocks { IsNone redo.entry → IfOk result (λ dev. ⟦<MemDevice as Device>⟧.blocks dev Region.Redo ≡ 162) }
         ensures fresh { IfOk result (λ dev. ⟦<MemDevice as Device>⟧.faults dev ≡ 0) }
         ensures lent { IfOk result (λ dev. Lends (Out dev ∷ []) (loans_of self.old) (loans_of self.new)) }
@@ -192,19 +322,19 @@ impl Host for MemHost {
         ensures others { (n : List ℕ) → bytes_eq n image.now ≡ false
             → stored_by self.new n ≡ stored_by self.old n }
         ensures none { OnErr result ((n : List ℕ) → stored_by self.new n ≡ stored_by self.old n) }
+        ensures redo { (n : List ℕ) → redo_files_by self.new n ≡ redo_files_by self.old n }
         ensures failed { IsErrOf result OpenFault.Failed → Rose self.old.host_faults self.new.host_faults }
         ensures calm { OnOk result (self.new.host_faults ≡ self.old.host_faults) }
         ensures later { self.old.host_faults ≤ self.new.host_faults }
         ensures memory { IsErrOf result OpenFault.Memory → self.new.host_faults ≡ self.old.host_faults }
-        ensures asked { (IsErrOf result OpenFault.Memory × (asked_of self.new ≡ asked_of self.old))
-            ⊎ (asked_of self.new ≡ asked_of self.old
-            ++ record { image = image.now; redo = option_map (λ s. s.now) redo.entry; purpose = purpose } ∷ []) }
+        ensures asked { IsAskedFor (IsErrOf result OpenFault.Memory)
+            (asks image.now (option_map (λ s. s.now) redo.entry) purpose) (asked_of self.old) (asked_of self.new) }
         ensures devices { self.new.dev_faults ≡ self.old.dev_faults }
         ensures report { Some self.new.report.items ≡ Some self.old.report.items }
         ensures sink { self.new.sink_faults ≡ self.old.sink_faults }
         ensures missing { IsErrOf result OpenFault.Failed → IsNone (failing_by self.old image.now) }
-        ensures failing { IfOk result (λ dev. failing_by self.old image.now ≡ Some (failing_calls dev)) }
-        ensures first { IfOk result (λ dev. calls_asked dev ≡ 0) }
+        ensures failing { IsNone redo.entry → IfOk result (λ dev. failing_by self.old image.now ≡ Some (failing_calls dev)) }
+        ensures first { IsNone redo.entry → IfOk result (λ dev. calls_asked dev ≡ 0) }
         ensures kept { (n : List ℕ) → failing_by self.new n ≡ failing_by self.old n }
     {
         let alloc = *self.asked.allocator();
@@ -215,7 +345,7 @@ impl Host for MemHost {
             count_fault(&mut self.host_faults);
             return Err(OpenFault::Failed);
         };
-        match open_copy(alloc, file) {
+        match open_for(alloc, file, &self.redos, redo, purpose) {
             Ok(dev) => Ok(dev),
             Err(_) => Err(OpenFault::Memory),
         }
@@ -225,9 +355,9 @@ impl Host for MemHost {
     fn put_back(&mut self, image: &str, dev: MemDevice)
         requires { Awaits self.old image.now }
         ensures lent { Lends (Back dev ∷ []) (loans_of self.old) (loans_of self.new) }
-        ensures image { (n : List ℕ) → stored_by self.new n ≡ (if bytes_eq n image.now
-            then stored_image (⟦<MemDevice as Device>⟧.content dev) (⟦<MemDevice as Device>⟧.blocks dev)
-            else stored_by self.old n) }
+        ensures image { (n : List ℕ) → stored_by self.new n ≡ stored_with image.now
+            (stored_image (⟦<MemDevice as Device>⟧.content dev) (⟦<MemDevice as Device>⟧.blocks dev)) (stored_by self.old) n }
+        ensures redo { (n : List ℕ) → redo_files_by self.new n ≡ redo_files_by self.old n }
         ensures host { self.new.host_faults ≡ self.old.host_faults }
         ensures devices { self.new.dev_faults ≡ (if ⟦<MemDevice as Device>⟧.faults dev == 0
             then self.old.dev_faults

@@ -226,6 +226,11 @@ pub fn tell<K: Sink>(alloc: Global, sink: &mut K, finding: Finding) -> Told
             tell_stopped(alloc, sink, Status::Full, journal, LastLine::JournalFull)
         }
         Finding::Refused(line) => tell_end(alloc, sink, Status::Refused, line),
+        Finding::Made => Told {
+            status: Status::Clean,
+            journal: Vec::new(alloc),
+            last: None,
+        },
         Finding::Usage => tell_end(alloc, sink, Status::Usage, LastLine::Usage),
         Finding::DeviceFailed(journal) => {
             tell_stopped(alloc, sink, Status::Failed, journal, LastLine::DeviceFailed)

@@ -1,14 +1,16 @@
-ghost use Rattle.std.specs.Prelude.{◌≡◌, ◌++◌, ◌⊎◌, [], ◌∷◌, ℕ, List, length, map, string_bytes};
-ghost use Rattle.xscrub.specs.Ending.{IsFound, IsOfImage, IsWorded, IsRun, IsAsked, IsShort, FindsBy, TellsBy, stored_outcome, decided_by};
-ghost use Rattle.xscrub.specs.Command.{command_of as command_of_words, check_of};
-ghost use Rattle.xscrub.specs.Outcome.{Outcome};
-ghost use Rattle.xscrub.specs.Stored.{Stored};
+ghost use Rattle.std.specs.Prelude.{◌≡◌, ℕ, List, is_some, option_map};
+ghost use Rattle.xscrub.specs.Ending.{IsFound, IsOfImage, IsWorded, IsAsked, IsShort, IsUnopened, FindsBy, LeavesStored, decided_by, stored_outcome};
+ghost use Rattle.xscrub.specs.Command.{check_of, job_of};
+ghost use Rattle.xscrub.specs.Run.{RunsFor, seen};
+ghost use Rattle.xscrub.specs.Stored.{redo_named};
 
 use crate::command::{Command, command_of};
 use crate::ending::Finding;
 use crate::host::{Host, OpenFault, Purpose};
-use crate::judging::{JudgeFault, Judgement, judge};
+use crate::judging::{JudgeFault, Judgement};
 use crate::last_lines::LastLine;
+use crate::making::make;
+use crate::redo::judge_device;
 use crate::telling::tell;
 use fs_model::Entry;
 use std::alloc::Global;
@@ -22,25 +24,30 @@ pub struct RunEnd {
     pub starts: [u64; 3],
 }
 
-// What is found of the named image. The device that is opened for it is always given back.
-fn check<H: Host>(alloc: Global, host: &mut H, image: &str) -> Finding
-    ensures found { IsFound (stored_outcome (H.stored host.old image.now))
+// What is found of the named image, and of the redo file beside it where one is given. The device that is
+// opened for them is always given back.
+fn check<H: Host>(alloc: Global, host: &mut H, image: &str, redo: Option<&str>) -> Finding
+    ensures found { IsFound (stored_outcome (is_some redo.entry) (H.stored host.old image.now)
+        (redo_named (H.redo_files host.old) (option_map (λ s. s.now) redo.entry)))
         (H.host_faults host.old) (H.host_faults host.new)
         (H.dev_faults host.old) (H.dev_faults host.new) result }
-    ensures image { IsOfImage result }
-    ensures device { FindsBy H.Dev.Device (check_of image.now) (H.stored host.old) (H.loans host.old) (H.loans host.new) result }
-    ensures stored { (n : List ℕ) → H.stored host.new n ≡ H.stored host.old n }
-    ensures asked { IsAsked (check_of image.now) (IsShort result)
+    ensures image { IsOfImage (is_some redo.entry) result }
+    ensures device { FindsBy H.Dev.Device (check_of image.now (option_map (λ s. s.now) redo.entry))
+        (H.stored host.old) (H.redo_files host.old) (H.loans host.old) (H.loans host.new) result }
+    ensures stored { LeavesStored (check_of image.now (option_map (λ s. s.now) redo.entry)) (H.tells host.old)
+        (result ≡ Finding.Made) (IsUnopened result) (H.stored host.old) (H.stored host.new) }
+    ensures redo { (n : List ℕ) → H.redo_files host.new n ≡ H.redo_files host.old n }
+    ensures asked { IsAsked (check_of image.now (option_map (λ s. s.now) redo.entry)) (IsShort result)
         (H.asked host.old) (H.asked host.new) }
     ensures report { H.taken host.new ≡ H.taken host.old }
     ensures sink { H.sink_faults host.new ≡ H.sink_faults host.old }
 {
-    let mut dev = match host.device(image, None, Purpose::Check) {
+    let mut dev = match host.device(image, redo, Purpose::Check) {
         Ok(dev) => dev,
         Err(OpenFault::Failed) => return Finding::HostFailed,
         Err(OpenFault::Memory) => return Finding::Memory(Vec::new(alloc)),
     };
-    let found = judge(alloc, &mut dev);
+    let found = judge_device(alloc, &mut dev, redo.is_some());
     host.put_back(image, dev);
     match found {
         Ok(Judgement::Judged(journal)) => Finding::Judged(journal),
@@ -53,15 +60,16 @@ fn check<H: Host>(alloc: Global, host: &mut H, image: &str) -> Finding
 
 // What the words ask for, as it is found.
 fn find<H: Host>(alloc: Global, host: &mut H, words: &[String]) -> Finding
-    ensures found { IsFound (decided_by (command_of_words (map string_bytes words.now)) (H.stored host.old))
+    ensures found { IsFound (decided_by (job_of words.now) (H.stored host.old) (H.redo_files host.old))
         (H.host_faults host.old) (H.host_faults host.new)
         (H.dev_faults host.old) (H.dev_faults host.new) result }
-    ensures words { IsWorded (command_of_words (map string_bytes words.now)) result }
-    ensures device { FindsBy H.Dev.Device (command_of_words (map string_bytes words.now)) (H.stored host.old)
+    ensures words { IsWorded (job_of words.now) result }
+    ensures device { FindsBy H.Dev.Device (job_of words.now) (H.stored host.old) (H.redo_files host.old)
         (H.loans host.old) (H.loans host.new) result }
-    ensures stored { (n : List ℕ) → H.stored host.new n ≡ H.stored host.old n }
-    ensures asked { IsAsked (command_of_words (map string_bytes words.now)) (IsShort result)
-        (H.asked host.old) (H.asked host.new) }
+    ensures stored { LeavesStored (job_of words.now) (H.tells host.old)
+        (result ≡ Finding.Made) (IsUnopened result) (H.stored host.old) (H.stored host.new) }
+    ensures redo { (n : List ℕ) → H.redo_files host.new n ≡ H.redo_files host.old n }
+    ensures asked { IsAsked (job_of words.now) (IsShort result) (H.asked host.old) (H.asked host.new) }
     ensures report { H.taken host.new ≡ H.taken host.old }
     ensures sink { H.sink_faults host.new ≡ H.sink_faults host.old }
 {
@@ -69,26 +77,20 @@ fn find<H: Host>(alloc: Global, host: &mut H, words: &[String]) -> Finding
         return Finding::Memory(Vec::new(alloc));
     };
     match command {
-        Command::Check(image) => check(alloc, host, image),
-        Command::Unbuilt(form) => Finding::Refused(LastLine::Unbuilt(form)),
+        Command::Check(image, redo) => check(alloc, host, image, redo),
+        Command::Make(image) => make(alloc, host, image),
+        Command::Unbuilt => Finding::Refused(LastLine::Unbuilt),
         Command::Usage => Finding::Usage,
     }
 }
 
 /// Runs the words, without the program's name, and tells the host's sink what was found, line by
 /// line: where a device fails or memory is short, the journal so far, and then the line that says so.
-/// A check changes no image; each device that the host hands out is given back.
+/// A check changes no image and no redo file, and the making of an image that image alone; each device
+/// that the host hands out is given back.
 pub fn fsck_main<H: Host>(alloc: Global, host: &mut H, words: &[String]) -> RunEnd
-    ensures run { (told : Outcome)
-        × TellsBy H.Dev.Device (command_of_words (map string_bytes words.now)) (H.stored host.old)
-        (H.loans host.old) (H.loans host.new) told
-        × IsRun (command_of_words (map string_bytes words.now)) told (H.stored host.old)
-        (H.host_faults host.old) (H.host_faults host.new)
-        (H.dev_faults host.old) (H.dev_faults host.new)
-        (H.sink_faults host.old) (H.sink_faults host.new)
-        (H.taken host.old) (H.taken host.new)
-        (H.asked host.old) (H.asked host.new) result }
-    ensures stored { (n : List ℕ) → H.stored host.new n ≡ H.stored host.old n }
+    ensures run { RunsFor H.Dev.Device (job_of words.now)
+        (seen H.Host.own H.Sink host.old) (seen H.Host.own H.Sink host.new) result }
 {
     let finding = find(alloc, host, words);
     let told = tell(alloc, host, finding);

@@ -1,11 +1,14 @@
-use Rattle.std.proofs.Common.{map, string_bytes}
-use Rattle.xscrub.specs.Command.{command_of as command_of_words}
+use Rattle.xscrub.specs.Command.{job_of}
 use Rattle.xscrub.specs.Ending.{decided_by}
 use Rattle.xscrub.proofs.JudgedLemmas.{front_before}
+use Rattle.xscrub.proofs.LoanLemmas.{short_leaves}
 use Rattle.xscrub.proofs.top.find.Goals as goal
 
 pub returns-in_default-clause-found : goal.returns-in_default-clause-found
 returns-in_default-clause-found g c = record {
-  decides = front_before (decided_by (command_of_words (map string_bytes c.args.words.now)) (g.H.Host.stored c.args.host.now)) c.new.result.items c.new.ensures.items;
+  decides = front_before (decided_by (job_of c.args.words.now) (g.H.Host.stored c.args.host.now) (g.H.Host.redo_files c.args.host.now)) c.new.result.items c.new.ensures.items;
   cause = tt;
 }
+
+pub returns-in_default-clause-stored : goal.returns-in_default-clause-stored
+returns-in_default-clause-stored g c = short_leaves (job_of c.args.words.now) _ c.new.result _ (g.H.Host.stored c.args.host.now)

@@ -1,0 +1,90 @@
+//! New images.
+use crate::fresh::{image_of, small_heads};
+use crate::runs::{expect_end, run_words, words_of};
+use byte_fields::Block;
+use fresh_image::fresh_block;
+use std::alloc::{AllocError, Global};
+use std::collections::BTreeMap;
+use std::process::Abort;
+use std::test::Fail;
+use xscrub::{MemHost, MemImage, Purpose, RunEnd, fsck_main};
+
+// Asserts that the stored image is the new one, block for block.
+fn expect_fresh<R: Abort>(rt: &R, image: &MemImage) {
+    assert_eq!(rt; image.size, 256);
+    for at in 0..256 {
+        let block = match image.blocks.get(&at) {
+            Some(block) => *block,
+            None => Block::zeroed(),
+        };
+        assert_eq!(rt; block, fresh_block(1, 256, at), "block {at}");
+    }
+}
+
+// Asserts that the host was asked for a new image of 256 blocks, once.
+fn expect_asked<R: Abort>(rt: &R, host: &MemHost) {
+    assert_eq!(rt; host.asked.len(), 1);
+    for asked in &host.asked {
+        assert_eq!(rt; asked.image.as_str(), "a.img");
+        assert!(rt; asked.redo.is_none());
+        assert_eq!(rt; asked.purpose, Purpose::Make(256));
+    }
+}
+
+#[test]
+fn a_new_image_takes_the_place_of_what_was_there_and_is_good(rt: HostRuntime) -> Result<(), Fail> {
+    let alloc = rt.alloc();
+    // Three blocks, one of them with heads; and one that is longer than the new image.
+    for size in [3, 300] {
+        let before = image_of(alloc, size, &[(0, small_heads()), (2, small_heads())])?;
+        let (end, mut host) = run_words(alloc, &["make", "a.img"], before, Vec::new(alloc))?;
+        expect_end(&rt, &end, &host, 0, "")?;
+        assert_eq!(rt; end.journal.len(), 0);
+        assert_eq!(rt; end.starts, [0, 0, 0]);
+        expect_asked(&rt, &host);
+        let made = host.images.get("a.img");
+        assert!(rt; made.is_some());
+        if let Some(image) = made {
+            expect_fresh(&rt, image);
+        }
+        let words = words_of(alloc, &["check", "a.img"])?;
+        let end = fsck_main(alloc, &mut host, words.as_slice());
+        expect_end(&rt, &end, &host, 0, "0 free good\n0 refc good\n")?;
+    }
+    Ok(())
+}
+
+// Makes an image on a device whose call of this number fails.
+fn make_failing(alloc: Global, call: u64) -> Result<(RunEnd, MemHost), AllocError> {
+    let mut failing = Vec::new(alloc);
+    failing.push(call)?;
+    let before = MemImage {
+        size: 0,
+        blocks: BTreeMap::new(alloc),
+        failing,
+    };
+    run_words(alloc, &["make", "a.img"], before, Vec::new(alloc))
+}
+
+#[test]
+fn each_call_of_the_device_that_fails_ends_the_making(rt: HostRuntime) -> Result<(), Fail> {
+    // 256 writes, and a sync.
+    for call in 0..257 {
+        let (end, host) = make_failing(rt.alloc(), call)?;
+        expect_end(&rt, &end, &host, 5, "device failed\n")?;
+        assert_eq!(rt; host.dev_faults, 1);
+        expect_asked(&rt, &host);
+    }
+    Ok(())
+}
+
+#[test]
+fn an_image_that_can_t_be_made_is_the_host_s_fault(rt: HostRuntime) -> Result<(), Fail> {
+    let alloc = rt.alloc();
+    let other = image_of(alloc, 3, &[(0, small_heads())])?;
+    let (end, host) = run_words(alloc, &["make", "b.img"], other, Vec::new(alloc))?;
+    expect_end(&rt, &end, &host, 5, "host failed\n")?;
+    assert_eq!(rt; host.host_faults, 1);
+    assert_eq!(rt; host.asked.len(), 1);
+    Ok(())
+}
