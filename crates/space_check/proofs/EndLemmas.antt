@@ -14,7 +14,7 @@ use Rattle.space_check.specs.Events.{Event, Moment, moment, reads_of, entries_of
 use Rattle.space_check.specs.declared.halt.Halt.{Halt}
 use Rattle.space_check.specs.declared.halt.Halt.TheVariants as halts
 use Rattle.space_check.specs.declared.stop.CheckStop.{CheckStop}
-use Rattle.space_check.proofs.EventLemmas.{both_done, then_does}
+use Rattle.space_check.proofs.EventLemmas.{then_does}
 
 pub empty_room : length {A = Entry} [] < most_entries
 unfolding most_entries

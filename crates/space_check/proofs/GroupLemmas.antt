@@ -1,7 +1,6 @@
 -- What the judgement of a group does, part by part.
 use Rattle.std.proofs.Common.{◌≡◌, ℕ, suc, ◌+◌, ◌-◌, ◌<◌, ◌≤◌, List, [], ◌∷◌, ◌++◌, length, Result, Ok, Err, refl, sym, ◌∙◌, ap, subst, append_assoc, arith}
 use Rattle.std.proofs.lemmas.List.{append-nil}
-use Rattle.std.specs.Global.{Vec}
 use Rattle.ag_headers.specs.Agf.{agf_of}
 use Rattle.ag_headers.specs.declared.agf.Agf.{Agf}
 use Rattle.fs_model.specs.declared.fault.Fault.{Fault}
@@ -17,7 +16,7 @@ use Rattle.space_check.specs.Checked.{events_from, heads_at}
 use Rattle.space_check.specs.Events.{Event, Moment, most_entries, AreDone, Does, StopsIn}
 use Rattle.space_check.specs.Faults.{Reading, free_faults, shared_faults}
 use Rattle.space_check.specs.Groups.{event, unit_entries, skipped_entries, skipped_events, tree_of, blocks_read, free_reads, free_entries, shared_entries, free_event, shared_event, judged_events, group_events}
-use Rattle.space_check.specs.Progress.{AreFaults, IsOutside}
+use Rattle.space_check.specs.Progress.{IsOutside}
 use Rattle.space_check.specs.Reads.{reading_of}
 use Rattle.space_check.specs.declared.halt.Halt.{Halt}
 use Rattle.space_check.specs.declared.halt.Halt.TheVariants as halts

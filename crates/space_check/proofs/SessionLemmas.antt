@@ -1,11 +1,11 @@
 -- The units that a journal gets, step by step, whatever the device tells.
-use Rattle.std.proofs.Common.{◌≡◌, ℕ, zero, suc, ◌+◌, ◌-◌, ◌<◌, ◌≤◌, List, [], ◌∷◌, ◌++◌, length, Result, Ok, Err, inl, inr, refl, sym, ◌∙◌, ap, subst, append_assoc, arith, lit<}
+use Rattle.std.proofs.Common.{◌≡◌, ℕ, zero, suc, ◌+◌, ◌-◌, ◌<◌, ◌≤◌, List, [], ◌∷◌, ◌++◌, length, Result, Ok, Err, inl, inr, refl, sym, subst, append_assoc, arith, lit<}
 use Rattle.std.proofs.lemmas.List.{append-nil}
 use Rattle.fs_model.specs.declared.entry.Entry.{Entry}
 use Rattle.fs_model.specs.declared.fault.Fault.{Fault}
 use Rattle.fs_model.specs.declared.unit.Unit.{Unit}
 use Rattle.fs_model.specs.declared.unit.Unit.TheVariants as units
-use Rattle.space_check.specs.Events.{Event, moment, most_entries, StopsIn, Does}
+use Rattle.space_check.specs.Events.{Event, most_entries, Does}
 use Rattle.space_check.specs.Groups.{event, unit_entries, skipped_entries, skipped_events}
 use Rattle.space_check.specs.Progress.{Adds, IsOutside, IsNotFull}
 use Rattle.space_check.specs.Session.{unit_event, come_to, AreOfGroup, AreOfGroups, HasGroups, StopsInGroups, AddsUnit, AddsGroup, AddsGroups, HaltsInSession, EndsInSession}

@@ -1,5 +1,5 @@
 -- What the check of a group's free space and reference counts reads, and adds to the journal.
-use Rattle.std.specs.Prelude.{ℕ, ◌+◌, ◌==◌, if◌then◌else◌, List, [], ◌∷◌, ◌++◌, length, map, Ok, Err}
+use Rattle.std.specs.Prelude.{ℕ, ◌+◌, ◌==◌, if◌then◌else◌, List, [], ◌∷◌, ◌++◌, length, map, Result, Ok, Err}
 use Rattle.ag_headers.specs.declared.agf.Agf.{Agf}
 use Rattle.fs_model.specs.declared.entry.Entry.{Entry}
 use Rattle.fs_model.specs.declared.entry.Entry.TheVariants as entries
@@ -20,6 +20,8 @@ use Rattle.tree_defs.specs.Tree.{read_tree}
 use Rattle.tree_defs.specs.Walked.{walked}
 use Rattle.space_check.specs.Events.{Event}
 use Rattle.space_check.specs.Faults.{Reading, free_faults, shared_faults}
+use Rattle.space_check.specs.Progress.{HasRead}
+use Rattle.space_check.specs.declared.halt.Halt.{Halt}
 
 -- good where there is no fault, else faulty with their number
 abbrev pub verdict_of : ℕ → Verdict
@@ -88,3 +90,7 @@ module _ (at : Layout) (image : ℕ → List ℕ) (g : ℕ) where
   -- Free space, then reference counts, of a group with this head.
   unfoldable pub group_events : Agf → List Event
   group_events agf = judged_events agf (blocks_read rmap_form agf.rmap_root agf.rmap_level) (tree_of rmap_form agf.rmap_root agf.rmap_level)
+
+-- a tree's blocks were read for it, or no more of them
+abbrev pub CountsReads : {R K T : Type 0} → Layout → (ℕ → List ℕ) → Form R K → TreeAt → (before after : ℕ) → Result T Halt → Type 0
+CountsReads at image form tree before after result = HasRead before (reads_for at image tree.group form tree) after result

@@ -4,7 +4,7 @@ ghost use Rattle.blk_device.specs.Contents.{Contents};
 ghost use Rattle.blk_device.specs.declared.device.Region.TheVariants.{Image};
 ghost use Rattle.geom.specs.Places.{layout};
 ghost use Rattle.space_check.specs.Faults.{Reading};
-ghost use Rattle.space_check.specs.Groups.{reads_for, tree_read};
+ghost use Rattle.space_check.specs.Groups.{CountsReads, tree_read};
 ghost use Rattle.blk_device.specs.Causes.{HasCause};
 ghost use Rattle.space_check.specs.Progress.{is_failed, HasRead, IsOutside};
 ghost use Rattle.space_check.specs.Reads.{IsBad, IsReading, IsSound};
@@ -63,8 +63,7 @@ pub fn read_index<K: RecKind, D: Device, L: Ledger>(
     requires room { geo.now.dblocks ≤ D.blocks dev.old Image }
     requires agreed { AgreesTold cache.old (D.content dev.old) }
     ensures exact { (c : Contents) → D.content dev.old ≡ Some c → IsReading (tree_read (layout geo.now) (c Image) tree.now.group K.form tree.now) result }
-    ensures counted { (c : Contents) → D.content dev.old ≡ Some c
-        → HasRead steps.old.reads (reads_for (layout geo.now) (c Image) tree.now.group K.form tree.now) steps.new.reads result }
+    ensures counted { (c : Contents) → D.content dev.old ≡ Some c → CountsReads (layout geo.now) (c Image) K.form tree.now steps.old.reads steps.new.reads result }
     ensures outside { IfErr result IsOutside }
     ensures sound { IfOk result (IsSound K.form (bounds_of (layout geo.now) tree.now.group)) }
     ensures reading { OnlyRead D.Device dev.old dev.new steps.old steps.new }
