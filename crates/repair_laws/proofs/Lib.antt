@@ -1,6 +1,7 @@
 mod Ending
 mod Groups
 mod Keeping
+mod Made
 mod Owners
 mod Releases
 mod Same

@@ -1,5 +1,6 @@
 ghost use Rattle.repair_laws.specs.Alike.{AlikeLaw, GoodStays};
 ghost use Rattle.repair_laws.specs.Ends.{EndsWithoutFaults, ForgetsNothing};
+ghost use Rattle.repair_laws.specs.Made.{BesideStays, ChunksStay, InodesKeepMappings, UnitIsMade};
 ghost use Rattle.repair_laws.specs.Moves.{ReleasedKeeps, SpaceKeepsChunks, SwitchedIsGood, SwitchedKeeps};
 ghost use Rattle.repair_laws.specs.Owners.{SpaceKeepsMappings};
 ghost use Rattle.repair_laws.specs.Rows.{Rows};
@@ -44,6 +45,16 @@ pub fn switched_beside()
 /// (XFS Online Fsck Design, "Writing the New B+Tree").
 pub fn switched_is_good()
     ensures { SwitchedIsGood }
+{}
+
+/// A law: a switch leaves the chunks, makes its unit good, and keeps what is known beside it; of the owners that
+/// go into reverse mappings it is asked that inodes have blocks of chunks alone
+/// (XFS Online Fsck Design, "Writing the New B+Tree").
+pub fn switched_makes()
+    ensures chunks { ChunksStay }
+    ensures unit { UnitIsMade }
+    ensures beside { BesideStays }
+    ensures mappings { InodesKeepMappings }
 {}
 
 /// A law: a released reserve keeps what is known of each unit, since its blocks have the same owners in limbo

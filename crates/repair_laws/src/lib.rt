@@ -5,5 +5,5 @@ mod laws;
 
 pub use laws::{
     alike, ends, kept, released_keeps, space_keeps_mappings, switched_beside, switched_is_good,
-    worked_rows,
+    switched_makes, worked_rows,
 };
