@@ -3,6 +3,7 @@ mod Groups
 mod Keeping
 mod Made
 mod Owners
+mod Pieces
 mod Releases
 mod Same
 mod Switches

@@ -5,4 +5,5 @@ pub mod Letters
 pub mod Made
 pub mod Moves
 pub mod Owners
+pub mod Pieces
 pub mod Rows
