@@ -10,4 +10,5 @@ mod Mappings
 mod Runs
 mod Shapes
 mod Spans
+mod Stated
 mod Sums

@@ -6,4 +6,5 @@ pub mod Ledger
 pub mod Listed
 pub mod Rows
 pub mod Space
+pub mod Stated
 pub mod Steps

@@ -6,6 +6,7 @@ ghost use Rattle.account_laws.specs.Rows.{Rows};
 ghost use Rattle.account_laws.specs.Space.{FreedSound, GivenSpans, MappedSound, TakenSpans};
 ghost use Rattle.account_laws.specs.Guard.{GuardPasses};
 ghost use Rattle.account_laws.specs.Ledger.{EntriesOfABlock, SettledIsDerived};
+ghost use Rattle.account_laws.specs.Stated.{QuietIsDerived};
 
 /// A law: each change of a block's numbers that an entry makes keeps the block sound; and where nothing is
 /// pending, it is free exactly where no mapping covers it, and else has as many owners as mappings
@@ -81,4 +82,10 @@ pub fn list_keeps()
 /// (XFS Online Fsck Design, "Eventual Consistency").
 pub fn guard_passes()
     ensures { GuardPasses }
+{}
+
+/// A law: where no chain owes a group anything, what free space, counts and mappings say of a sound block agrees
+/// with its claims as the state has them (XFS Online Fsck Design, "Eventual Consistency").
+pub fn quiet_agrees()
+    ensures { QuietIsDerived }
 {}

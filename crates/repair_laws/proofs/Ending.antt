@@ -1,9 +1,9 @@
 -- At the end of a repair nothing is forgotten that faults are read from.
-use Rattle.std.proofs.Common.{◌≡◌, ℕ, true, false, List, [], ◌∷◌, ◌++◌, refl, ap, sym, subst, ◌∙◌, inl, inr, Option, Some, None}
-use Rattle.std.specs.Prelude.{◌+◌, ◌*◌, ◌/◌, ◌==◌, ◌&&◌, ◌||◌, nat_le, nat_lt, map, filter, flat_map, Result, Ok, Err, Contains}
+use Rattle.std.proofs.Common.{◌≡◌, ℕ, Bool, true, false, List, [], ◌∷◌, ◌++◌, refl, ap, sym, subst, ◌∙◌, inl, inr, Option, Some, None}
+use Rattle.std.specs.Prelude.{◌+◌, ◌*◌, ◌/◌, ◌%◌, ◌^◌, ◌<◌, ◌==◌, ◌&&◌, ◌||◌, nat_le, nat_lt, map, filter, flat_map, Result, Ok, Err, Contains, if◌then◌else◌}
 use Rattle.std.specs.List.{list_any}
 use Rattle.std.specs.Option.{option_or}
-use Rattle.std.proofs.lemmas.Bool.{eq-eqb, true≢false}
+use Rattle.std.proofs.lemmas.Bool.{and_parts, cases_Bool, eq-eqb, ltb-true, true≢false}
 use Rattle.byte_fields.specs.Below.{all_below}
 use Rattle.dinode_core.specs.declared.mapping.Fork.{Fork}
 use Rattle.dinode_core.specs.declared.mapping.Fork.TheVariants as forks
@@ -27,7 +27,8 @@ use Rattle.fs_state.specs.Frame.{SameFork}
 use Rattle.fs_state.specs.Kinds.{RecOf, form_of}
 use Rattle.fs_state.specs.State.{State, ForkList, Owned, Readable, Reading, Unreadable, blocks_in, is_readable, recs_of}
 use Rattle.geom.specs.Apart.{Splits}
-use Rattle.geom.specs.Layout.{split_of}
+use Rattle.geom.specs.Layout.{Layout, group_len_of, split_of}
+use Rattle.geom.specs.Numbers.{length_of, split}
 use Rattle.rmap_recs.proofs.RisingLemmas.{any_here, in_front, in_rest}
 use Rattle.sblock.specs.Form.{Form, IsLawful}
 use Rattle.sblock.specs.declared.kind.Kind.{Kind}
@@ -36,7 +37,7 @@ use Rattle.tree_defs.specs.Lists.{In, is_in}
 use Rattle.xref_scrub.specs.Differences.{differences, lacks}
 use Rattle.xref_scrub.specs.Merging.{merged}
 use Rattle.xref_scrub.specs.Shown.{Shown}
-use Rattle.repair_laws.specs.Alike.{Alike}
+use Rattle.repair_laws.specs.Alike.{AlikeInside}
 use Rattle.repair_laws.specs.Ends.{EndsWithoutFaults, ForgetsNothing, IsDone}
 use Rattle.repair_laws.specs.Letters.{Holds}
 use Rattle.repair_laws.proofs.Same.{alike_law, is_inode_of}
@@ -85,7 +86,7 @@ module _ (a : State) (g : ℕ) where
 
 -- ---- forks that can be read
 
-some_none : (e : Evidence) → ◌≡◌ {A = Option Evidence} (Some e) None → ⊥
+pub some_none : (e : Evidence) → ◌≡◌ {A = Option Evidence} (Some e) None → ⊥
 some_none e h = cc
 
 each_none : (f : ℕ → Option Evidence) (xs : List ℕ) → first_of_all (map f xs) ≡ None → (x : ℕ) → In x xs → f x ≡ None
@@ -114,46 +115,71 @@ reading_kept : {R : Type 0} (r now : Reading R) → is_readable r ≡ true → K
 reading_kept (Readable recs blocks) now h k = k
 reading_kept (Unreadable block fault claims) now h k = absurd (true≢false (sym h))
 
-none_reserved : (a : State) → ((g : ℕ) → (a.group g).reserve ≡ []) → (p : Option (ℕ × ℕ)) → is_reserved a p ≡ false
-none_reserved a h None = refl
-none_reserved a h (Some p) = ap (λ (os : List Owned). is_in p.1 (blocks_in os)) (h p.0)
+abbrev NoneReserved : State → Type 0
+NoneReserved a = (g : ℕ) → g < a.geometry.agcount → (a.group g).reserve ≡ []
+
+place_unreserved : (a : State) (g b len : ℕ) (t : Bool) → NoneReserved a → (nat_lt g a.geometry.agcount && nat_lt b len) ≡ t → is_reserved a (if t then Some (g, b) else None) ≡ false
+place_unreserved a g b len true h e = ap (λ (os : List Owned). is_in b (blocks_in os)) (h g (ltb-true g a.geometry.agcount (and_parts (nat_lt g a.geometry.agcount) (nat_lt b len) e).0))
+place_unreserved a g b len false h e = refl
+
+none_reserved : (a : State) → NoneReserved a → (n : ℕ) → is_reserved a (split_of a.geometry n) ≡ false
+unfolding split
+none_reserved a h n =
+    let g : ℕ = n / 2 ^ a.geometry.agblklog in
+    let b : ℕ = n % 2 ^ a.geometry.agblklog in
+    let len : ℕ = length_of a.geometry.agblocks a.geometry.agcount a.geometry.dblocks g in
+    place_unreserved a g b len (nat_lt g a.geometry.agcount && nat_lt b len) h refl
 
 fork_kept : (r now : Result ForkList ForkFault) (list : ForkList) → r ≡ Ok list → now ≡ Ok list → SameFork r now
 fork_kept r now list e h = subst (λ (x : Result ForkList ForkFault). SameFork x now) (sym e) h
 
+no_chunk : (a : State) (g u : ℕ) → has_unit a.geometry g u ≡ false → is_chunk a g u ≡ false
+unfolding is_chunk is_listed
+no_chunk a g u h = ap (λ t. (t && (ino_lists a g u || rmap_lists a g u)) && unit_verifies a.geometry a.core g u) h
+
+unit_inside : (a : State) (g u : ℕ) → has_unit a.geometry g u ≡ true → g < a.geometry.agcount
+unfolding has_unit
+unit_inside a g u h = ltb-true g a.geometry.agcount (and_parts (nat_lt g a.geometry.agcount) (nat_lt (8 * u + 7) (group_len_of a.geometry g)) h).0
+
 module _ (a b : State) (splits : Splits a.geometry) (done : IsDone a) (forgets : Forget a b) where
-  reading_same : (g : ℕ) (k : Kind) → ((b.group g).tree k).reading ≡ ((a.group g).tree k).reading
-  reading_same g k = reading_kept ((a.group g).tree k).reading ((b.group g).tree k).reading (done.readable g k) ((forgets.groups g).trees k).reading
+  reading_same : (g : ℕ) → g < a.geometry.agcount → (k : Kind) → ((b.group g).tree k).reading ≡ ((a.group g).tree k).reading
+  reading_same g lt k = reading_kept ((a.group g).tree k).reading ((b.group g).tree k).reading (done.readable g k lt) ((forgets.groups g).trees k).reading
 
   core_same : (ino : ℕ) → b.core ino ≡ a.core ino
-  core_same ino = forgets.cores ino (none_reserved a done.reserve (split_of a.geometry (ino / 8)))
+  core_same ino = forgets.cores ino (none_reserved a done.reserve (ino / 8))
 
-  ino_listed : (g u : ℕ) → ino_lists b g u ≡ ino_lists a g u
+  ino_listed : (g u : ℕ) → g < a.geometry.agcount → ino_lists b g u ≡ ino_lists a g u
   unfolding ino_lists
-  ino_listed g u = ap (λ (r : Reading (RecOf Ino)). list_any (λ x. x.startino == 64 * u) (recs_of r)) (reading_same g Ino)
+  ino_listed g u lt = ap (λ (r : Reading (RecOf Ino)). list_any (λ x. x.startino == 64 * u) (recs_of r)) (reading_same g lt Ino)
 
-  rmap_listed : (g u : ℕ) → rmap_lists b g u ≡ rmap_lists a g u
+  rmap_listed : (g u : ℕ) → g < a.geometry.agcount → rmap_lists b g u ≡ rmap_lists a g u
   unfolding rmap_lists
-  rmap_listed g u = ap (λ (r : Reading (RecOf Rmap)). all_below 8 (λ j. list_any (λ x. (x.owner == 0xffff_ffff_ffff_fff9) && nat_le x.start (8 * u + j) && nat_lt (8 * u + j) (x.start + x.count)) (recs_of r))) (reading_same g Rmap)
+  rmap_listed g u lt = ap (λ (r : Reading (RecOf Rmap)). all_below 8 (λ j. list_any (λ x. (x.owner == 0xffff_ffff_ffff_fff9) && nat_le x.start (8 * u + j) && nat_lt (8 * u + j) (x.start + x.count)) (recs_of r))) (reading_same g lt Rmap)
+
+  same_inside : (g u : ℕ) → g < a.geometry.agcount → is_chunk b g u ≡ is_chunk a g u
+  unfolding is_chunk is_listed
+  same_inside g u lt = λ i. (has_unit (forgets.geometry i) g u && (ino_listed g u lt i || rmap_listed g u lt i)) && unit_verifies (forgets.geometry i) (λ ino. core_same ino i) g u
 
   chunk_same : (g u : ℕ) → is_chunk b g u ≡ is_chunk a g u
-  unfolding is_chunk is_listed
-  chunk_same g u = λ i. (has_unit (forgets.geometry i) g u && (ino_listed g u i || rmap_listed g u i)) && unit_verifies (forgets.geometry i) (λ ino. core_same ino i) g u
+  chunk_same g u = elim (cases_Bool (has_unit a.geometry g u)) [
+    | inl has ↦ same_inside g u (unit_inside a g u has)
+    | inr out ↦ no_chunk b g u (ap (λ (at : Layout). has_unit at g u) forgets.geometry ∙ out) ∙ sym (no_chunk a g u out)
+  ]
 
   fork_same : (ino : ℕ) (f : Fork) → In ino (inodes a) → SameFork (a.fork ino f) (b.fork ino f)
   fork_same ino f i =
       let r = forks_read a done.forks ino f i in
       fork_kept (a.fork ino f) (b.fork ino f) r.0 r.1 (forgets.forks ino f r.0 (is_inode_of a splits ino i) r.1)
 
-  all_kept : Alike a b
+  all_kept : AlikeInside a b
   all_kept = record {
     inodes = record { geometry = forgets.geometry; chunks = chunk_same; cores = λ ino is. core_same ino; forks = fork_same };
-    groups = λ g. record {
+    groups = λ g lt. record {
       list = (forgets.groups g).list;
       counters = (forgets.groups g).counters;
-      reading = reading_same g;
-      reserve = (forgets.groups g).reserve ∙ sym (done.reserve g);
-      limbo = (forgets.groups g).limbo ∙ sym (done.limbo g);
+      reading = reading_same g lt;
+      reserve = (forgets.groups g).reserve ∙ sym (done.reserve g lt);
+      limbo = (forgets.groups g).limbo ∙ sym (done.limbo g lt);
     };
   }
 
@@ -167,6 +193,6 @@ good_of a g units.Free h = h
 good_of a g units.Refc h = h
 
 pub ends_without_faults : EndsWithoutFaults
-ends_without_faults a b g unit splits done forgets stands trusted =
+ends_without_faults a b g unit lt splits done forgets stands trusted =
     let kept = all_kept a b splits done forgets in
-    no_faults b g unit ((alike_law a b g splits kept.inodes (kept.groups g)).good unit (good_of a g unit (stands trusted)))
+    no_faults b g unit ((alike_law a b g splits kept.inodes (kept.groups g lt)).good unit (good_of a g unit (stands trusted)))

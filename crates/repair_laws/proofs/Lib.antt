@@ -1,7 +1,9 @@
 mod Ending
 mod Groups
 mod Keeping
+mod Made
 mod Owners
+mod Pieces
 mod Releases
 mod Same
 mod Switches

@@ -1,4 +1,4 @@
--- A switch of free space or of reference counts keeps who owns which block.
+-- A switch of free space, of reference counts or of inodes keeps who owns which block, and each leaves claims clear.
 use Rattle.std.proofs.Common.{◌≡◌, ℕ, zero, suc, ◌+◌, ◌<◌, ◌≤◌, ◌==◌, ◌&&◌, ◌||◌, Bool, true, false, cond, not, List, [], ◌∷◌, ◌++◌, map, filter, flat_map, take, drop, refl, ap, ap₂, sym, subst, ◌∙◌, inl, inr, arith, eq-eqb, eqb-true, None}
 use Rattle.std.specs.Prelude.{◌⊎◌, ◌-◌, nat_le, nat_lt, sum_by, if◌then◌else◌}
 use Rattle.std.specs.List.{list_all, list_any}
@@ -100,7 +100,7 @@ laid_times needs (k ∷ ks) claimed blocks b laid =
     let behind : times b (drop (sum_by needs (k ∷ ks)) claimed) ≡ times b (drop (sum_by needs ks) (drop (needs k) claimed)) = ap (λ (n : ℕ). times b (drop n claimed)) (sum_by-cons needs k ks) ∙ ap (times b) (drop_both (needs k) (sum_by needs ks) claimed) in
     omega (arith, first, rest, all, both, behind)
 
-times_filter : (b : ℕ) (p : ℕ → Bool) (xs : List ℕ) → times b (filter p xs) ≡ (if p b then times b xs else 0)
+pub times_filter : (b : ℕ) (p : ℕ → Bool) (xs : List ℕ) → times b (filter p xs) ≡ (if p b then times b xs else 0)
 times_filter b p [] = nothing (p b)
   where
     nothing : (k : Bool) → ◌≡◌ {A = ℕ} 0 (if k then 0 else 0)
@@ -142,7 +142,7 @@ times_filter b p (x ∷ xs) = by (x == b) refl (times_filter b p xs)
 abbrev bit : Bool → ℕ
 bit k = if k then 1 else 0
 
-times_numbers : (b from n : ℕ) → (times b (numbers from n) ≤ 1) × ((b < from → times b (numbers from n) ≡ 0) × (from ≤ b → b < from + n → times b (numbers from n) ≡ 1))
+pub times_numbers : (b from n : ℕ) → (times b (numbers from n) ≤ 1) × ((b < from → times b (numbers from n) ≡ 0) × (from ≤ b → b < from + n → times b (numbers from n) ≡ 1))
 times_numbers b from zero = (omega arith, ((λ lt. refl), (λ low high. absurd (omega (arith, low, high)))))
 times_numbers b from (suc n) = elim (cases_order from b) [
   | inl same ↦
@@ -164,7 +164,7 @@ times_numbers b from (suc n) = elim (cases_order from b) [
 
 -- ---- claims on a block
 
-claimed_none : (b : ℕ) (cs : List Claimed) → list_any (λ c. c.block == b) cs ≡ false → weigh (owned_by b) cs ≡ 0
+pub claimed_none : (b : ℕ) (cs : List Claimed) → list_any (λ c. c.block == b) cs ≡ false → weigh (owned_by b) cs ≡ 0
 claimed_none b [] h = refl
 claimed_none b (c ∷ cs) h = by (c.block == b) h (claimed_none b cs)
   where
@@ -179,6 +179,10 @@ none_claimed b (c ∷ cs) h = by (c.block == b) h (none_claimed b cs)
     by : (k : Bool) → (if k then 1 else 0) + weigh (owned_by b) cs ≡ 0 → (weigh (owned_by b) cs ≡ 0 → list_any (λ x. x.block == b) cs ≡ false) → (k || list_any (λ x. x.block == b) cs) ≡ false
     by true i f = absurd (omega (arith, i))
     by false i f = f (omega (arith, i))
+
+pub is_not : (k : Bool) → not k ≡ true → k ≡ false
+is_not true h = absurd (true≢false (sym h))
+is_not false h = refl
 
 lies_inside : (len b : ℕ) (cs : List Claimed) → list_all (λ c. nat_lt c.block len) cs ≡ true → 1 ≤ weigh (owned_by b) cs → b < len
 lies_inside len b [] h some = absurd (omega (arith, some))
@@ -303,6 +307,12 @@ two_new x1 x2 y1 y2 r f i n sx sy d m e1 e2 e3 e4 = omega (arith, e1, e2, e3, e4
 one_new : (x y b c r i n sx sy d m : ℕ) → sx ≡ b + (c + (r + (x + (i + (n + 0))))) → sy ≡ b + (c + (r + (y + (i + (n + 0))))) → d ≡ y + 0 → m ≡ x + 0 → sx + d ≡ sy + m
 one_new x y b c r i n sx sy d m e1 e2 e3 e4 = omega (arith, e1, e2, e3, e4)
 
+two_last : (x1 x2 y1 y2 b c r f sx sy d m : ℕ) → sx ≡ b + (c + (r + (f + (x1 + (x2 + 0))))) → sy ≡ b + (c + (r + (f + (y1 + (y2 + 0))))) → d ≡ y1 + (y2 + 0) → m ≡ x1 + (x2 + 0) → sx + d ≡ sy + m
+two_last x1 x2 y1 y2 b c r f sx sy d m e1 e2 e3 e4 = omega (arith, e1, e2, e3, e4)
+
+third_new : (x y b c r i n sx sy d m : ℕ) → sx ≡ b + (c + (x + (r + (i + (n + 0))))) → sy ≡ b + (c + (y + (r + (i + (n + 0))))) → d ≡ y + 0 → m ≡ x + 0 → sx + d ≡ sy + m
+third_new x y b c r i n sx sy d m e1 e2 e3 e4 = omega (arith, e1, e2, e3, e4)
+
 weigh_spread : (f : ℕ → ℕ) (h : Kind → List ℕ) (ks : List Kind) → weigh f (flat_map h ks) ≡ weigh (λ k. weigh f (h k)) ks
 weigh_spread f h [] = refl
 weigh_spread f h (k ∷ ks) = weigh_both f (h k) (flat_map h ks) ∙ ap (λ (n : ℕ). weigh f (h k) + n) (weigh_spread f h ks)
@@ -325,26 +335,38 @@ no_mappings : (units.Rmap ≡ units.Free) ⊎ (units.Rmap ≡ units.Refc) → �
 no_mappings which = true≢false (sym (space_is units.Rmap which))
 
 -- with these blocks in the unit's trees, and the other trees as they were
-replaced : (p q : Group) (unit : ScrubUnit) (old new : Kind → List ℕ) → (unit ≡ units.Free) ⊎ (unit ≡ units.Refc)
+replaced : (p q : Group) (unit : ScrubUnit) (old new : Kind → List ℕ)
     → ((k : Kind) → blocks_of (p.tree k).reading ≡ old k) → ((k : Kind) → is_among k (kinds_of unit) ≡ false → blocks_of (q.tree k).reading ≡ old k) → ((k : Kind) → is_among k (kinds_of unit) ≡ true → blocks_of (q.tree k).reading ≡ new k)
     → (w : Claimed → ℕ) → Alike w (unit_owner unit) → weigh w (flat_map (tree_part q) all_kinds) + weigh (λ b. w (claimed_by Limbo (unit_owner unit) b)) (flat_map old (kinds_of unit))
     ≡ weigh w (flat_map (tree_part p) all_kinds) + weigh (λ b. w (claimed_by Limbo (unit_owner unit) b)) (flat_map new (kinds_of unit))
-replaced p q units.Free old new which was stays becomes w alike =
+replaced p q units.Free old new was stays becomes w alike =
     let f : ℕ → ℕ = λ b. w (claimed_by Limbo (unit_owner units.Free) b) in
     let same : (k : Kind) → is_among k (kinds_of units.Free) ≡ false → weigh w (tree_part q k) ≡ weigh w (tree_part p k) = λ k o. same_tree w p q k (stays k o ∙ sym (was k)) in
     two_new (weigh f (new Bno)) (weigh f (new Cnt)) (weigh f (old Bno)) (weigh f (old Cnt)) (weigh w (tree_part p Rmap)) (weigh w (tree_part p Refc)) (weigh w (tree_part p Ino)) (weigh w (tree_part p Fino)) _ _ _ _
     (six_trees w q ∙ (λ i. one_tree w (unit_owner units.Free) alike q Bno (new Bno) refl (becomes Bno refl) i + (one_tree w (unit_owner units.Free) alike q Cnt (new Cnt) refl (becomes Cnt refl) i + (same Rmap refl i + (same Refc refl i + (same Ino refl i + (same Fino refl i + 0)))))))
     (six_trees w p ∙ (λ i. one_tree w (unit_owner units.Free) alike p Bno (old Bno) refl (was Bno) i + (one_tree w (unit_owner units.Free) alike p Cnt (old Cnt) refl (was Cnt) i + (weigh w (tree_part p Rmap) + (weigh w (tree_part p Refc) + (weigh w (tree_part p Ino) + (weigh w (tree_part p Fino) + 0)))))))
     (weigh_spread f old (kinds_of units.Free)) (weigh_spread f new (kinds_of units.Free))
-replaced p q units.Refc old new which was stays becomes w alike =
+replaced p q units.Refc old new was stays becomes w alike =
     let f : ℕ → ℕ = λ b. w (claimed_by Limbo (unit_owner units.Refc) b) in
     let same : (k : Kind) → is_among k (kinds_of units.Refc) ≡ false → weigh w (tree_part q k) ≡ weigh w (tree_part p k) = λ k o. same_tree w p q k (stays k o ∙ sym (was k)) in
     one_new (weigh f (new Refc)) (weigh f (old Refc)) (weigh w (tree_part p Bno)) (weigh w (tree_part p Cnt)) (weigh w (tree_part p Rmap)) (weigh w (tree_part p Ino)) (weigh w (tree_part p Fino)) _ _ _ _
     (six_trees w q ∙ (λ i. same Bno refl i + (same Cnt refl i + (same Rmap refl i + (one_tree w (unit_owner units.Refc) alike q Refc (new Refc) refl (becomes Refc refl) i + (same Ino refl i + (same Fino refl i + 0)))))))
     (six_trees w p ∙ (λ i. weigh w (tree_part p Bno) + (weigh w (tree_part p Cnt) + (weigh w (tree_part p Rmap) + (one_tree w (unit_owner units.Refc) alike p Refc (old Refc) refl (was Refc) i + (weigh w (tree_part p Ino) + (weigh w (tree_part p Fino) + 0)))))))
     (weigh_spread f old (kinds_of units.Refc)) (weigh_spread f new (kinds_of units.Refc))
-replaced p q units.Inode old new which was stays becomes w alike = absurd (no_inode which)
-replaced p q units.Rmap old new which was stays becomes w alike = absurd (no_mappings which)
+replaced p q units.Inode old new was stays becomes w alike =
+    let f : ℕ → ℕ = λ b. w (claimed_by Limbo (unit_owner units.Inode) b) in
+    let same : (k : Kind) → is_among k (kinds_of units.Inode) ≡ false → weigh w (tree_part q k) ≡ weigh w (tree_part p k) = λ k o. same_tree w p q k (stays k o ∙ sym (was k)) in
+    two_last (weigh f (new Ino)) (weigh f (new Fino)) (weigh f (old Ino)) (weigh f (old Fino)) (weigh w (tree_part p Bno)) (weigh w (tree_part p Cnt)) (weigh w (tree_part p Rmap)) (weigh w (tree_part p Refc)) _ _ _ _
+    (six_trees w q ∙ (λ i. same Bno refl i + (same Cnt refl i + (same Rmap refl i + (same Refc refl i + (one_tree w (unit_owner units.Inode) alike q Ino (new Ino) refl (becomes Ino refl) i + (one_tree w (unit_owner units.Inode) alike q Fino (new Fino) refl (becomes Fino refl) i + 0)))))))
+    (six_trees w p ∙ (λ i. weigh w (tree_part p Bno) + (weigh w (tree_part p Cnt) + (weigh w (tree_part p Rmap) + (weigh w (tree_part p Refc) + (one_tree w (unit_owner units.Inode) alike p Ino (old Ino) refl (was Ino) i + (one_tree w (unit_owner units.Inode) alike p Fino (old Fino) refl (was Fino) i + 0)))))))
+    (weigh_spread f old (kinds_of units.Inode)) (weigh_spread f new (kinds_of units.Inode))
+replaced p q units.Rmap old new was stays becomes w alike =
+    let f : ℕ → ℕ = λ b. w (claimed_by Limbo (unit_owner units.Rmap) b) in
+    let same : (k : Kind) → is_among k (kinds_of units.Rmap) ≡ false → weigh w (tree_part q k) ≡ weigh w (tree_part p k) = λ k o. same_tree w p q k (stays k o ∙ sym (was k)) in
+    third_new (weigh f (new Rmap)) (weigh f (old Rmap)) (weigh w (tree_part p Bno)) (weigh w (tree_part p Cnt)) (weigh w (tree_part p Refc)) (weigh w (tree_part p Ino)) (weigh w (tree_part p Fino)) _ _ _ _
+    (six_trees w q ∙ (λ i. same Bno refl i + (same Cnt refl i + (one_tree w (unit_owner units.Rmap) alike q Rmap (new Rmap) refl (becomes Rmap refl) i + (same Refc refl i + (same Ino refl i + (same Fino refl i + 0)))))))
+    (six_trees w p ∙ (λ i. weigh w (tree_part p Bno) + (weigh w (tree_part p Cnt) + (one_tree w (unit_owner units.Rmap) alike p Rmap (old Rmap) refl (was Rmap) i + (weigh w (tree_part p Refc) + (weigh w (tree_part p Ino) + (weigh w (tree_part p Fino) + 0)))))))
+    (weigh_spread f old (kinds_of units.Rmap)) (weigh_spread f new (kinds_of units.Rmap))
 
 -- ---- one switch
 
@@ -365,61 +387,81 @@ placed_list blocks [] p = refl
 placed_list blocks (k ∷ ks) p = placed_list blocks ks p
 
 -- the blocks of one tree that a switch sets
-set_there : (blocks : Kind → List ℕ) (unit : ScrubUnit) (recs : (k : Kind) → List (RecOf k)) (p : Group) (limbo : List Owned) (k : Kind) → (unit ≡ units.Free) ⊎ (unit ≡ units.Refc) → is_among k (kinds_of unit) ≡ true
+set_there : (blocks : Kind → List ℕ) (unit : ScrubUnit) (recs : (k : Kind) → List (RecOf k)) (p : Group) (limbo : List Owned) (k : Kind) → is_among k (kinds_of unit) ≡ true
     → blocks_of ((hold recs (kinds_of unit) (record (in_trees blocks (kinds_of unit) p) { reserve = []; limbo = limbo })).tree k).reading ≡ blocks k
-set_there blocks units.Free recs p limbo Bno which h = blocks_put (blocks Bno) (p.tree Bno).reading
-set_there blocks units.Free recs p limbo Cnt which h = blocks_put (blocks Cnt) (p.tree Cnt).reading
-set_there blocks units.Free recs p limbo Rmap which h = absurd (true≢false (sym h))
-set_there blocks units.Free recs p limbo Refc which h = absurd (true≢false (sym h))
-set_there blocks units.Free recs p limbo Ino which h = absurd (true≢false (sym h))
-set_there blocks units.Free recs p limbo Fino which h = absurd (true≢false (sym h))
-set_there blocks units.Refc recs p limbo Refc which h = blocks_put (blocks Refc) (p.tree Refc).reading
-set_there blocks units.Refc recs p limbo Bno which h = absurd (true≢false (sym h))
-set_there blocks units.Refc recs p limbo Cnt which h = absurd (true≢false (sym h))
-set_there blocks units.Refc recs p limbo Rmap which h = absurd (true≢false (sym h))
-set_there blocks units.Refc recs p limbo Ino which h = absurd (true≢false (sym h))
-set_there blocks units.Refc recs p limbo Fino which h = absurd (true≢false (sym h))
-set_there blocks units.Inode recs p limbo k which h = absurd (no_inode which)
-set_there blocks units.Rmap recs p limbo k which h = absurd (no_mappings which)
+set_there blocks units.Inode recs p limbo Bno h = absurd (true≢false (sym h))
+set_there blocks units.Inode recs p limbo Cnt h = absurd (true≢false (sym h))
+set_there blocks units.Inode recs p limbo Rmap h = absurd (true≢false (sym h))
+set_there blocks units.Inode recs p limbo Refc h = absurd (true≢false (sym h))
+set_there blocks units.Inode recs p limbo Ino h = blocks_put (blocks Ino) (p.tree Ino).reading
+set_there blocks units.Inode recs p limbo Fino h = blocks_put (blocks Fino) (p.tree Fino).reading
+set_there blocks units.Rmap recs p limbo Bno h = absurd (true≢false (sym h))
+set_there blocks units.Rmap recs p limbo Cnt h = absurd (true≢false (sym h))
+set_there blocks units.Rmap recs p limbo Rmap h = blocks_put (blocks Rmap) (p.tree Rmap).reading
+set_there blocks units.Rmap recs p limbo Refc h = absurd (true≢false (sym h))
+set_there blocks units.Rmap recs p limbo Ino h = absurd (true≢false (sym h))
+set_there blocks units.Rmap recs p limbo Fino h = absurd (true≢false (sym h))
+set_there blocks units.Free recs p limbo Bno h = blocks_put (blocks Bno) (p.tree Bno).reading
+set_there blocks units.Free recs p limbo Cnt h = blocks_put (blocks Cnt) (p.tree Cnt).reading
+set_there blocks units.Free recs p limbo Rmap h = absurd (true≢false (sym h))
+set_there blocks units.Free recs p limbo Refc h = absurd (true≢false (sym h))
+set_there blocks units.Free recs p limbo Ino h = absurd (true≢false (sym h))
+set_there blocks units.Free recs p limbo Fino h = absurd (true≢false (sym h))
+set_there blocks units.Refc recs p limbo Bno h = absurd (true≢false (sym h))
+set_there blocks units.Refc recs p limbo Cnt h = absurd (true≢false (sym h))
+set_there blocks units.Refc recs p limbo Rmap h = absurd (true≢false (sym h))
+set_there blocks units.Refc recs p limbo Refc h = blocks_put (blocks Refc) (p.tree Refc).reading
+set_there blocks units.Refc recs p limbo Ino h = absurd (true≢false (sym h))
+set_there blocks units.Refc recs p limbo Fino h = absurd (true≢false (sym h))
 
 -- those of an emptied one
-emptied_there : (unit : ScrubUnit) (p : Group) (k : Kind) → (unit ≡ units.Free) ⊎ (unit ≡ units.Refc) → (is_among k (kinds_of unit) ≡ true → blocks_of ((empty_trees (kinds_of unit) p).tree k).reading ≡ []) × (is_among k (kinds_of unit) ≡ false → blocks_of ((empty_trees (kinds_of unit) p).tree k).reading ≡ blocks_of (p.tree k).reading)
-emptied_there units.Free p Bno which = ((λ h. blocks_put [] (p.tree Bno).reading), (λ h. absurd (true≢false h)))
-emptied_there units.Free p Cnt which = ((λ h. blocks_put [] (p.tree Cnt).reading), (λ h. absurd (true≢false h)))
-emptied_there units.Free p Rmap which = ((λ h. absurd (true≢false (sym h))), (λ h. refl))
-emptied_there units.Free p Refc which = ((λ h. absurd (true≢false (sym h))), (λ h. refl))
-emptied_there units.Free p Ino which = ((λ h. absurd (true≢false (sym h))), (λ h. refl))
-emptied_there units.Free p Fino which = ((λ h. absurd (true≢false (sym h))), (λ h. refl))
-emptied_there units.Refc p Refc which = ((λ h. blocks_put [] (p.tree Refc).reading), (λ h. absurd (true≢false h)))
-emptied_there units.Refc p Bno which = ((λ h. absurd (true≢false (sym h))), (λ h. refl))
-emptied_there units.Refc p Cnt which = ((λ h. absurd (true≢false (sym h))), (λ h. refl))
-emptied_there units.Refc p Rmap which = ((λ h. absurd (true≢false (sym h))), (λ h. refl))
-emptied_there units.Refc p Ino which = ((λ h. absurd (true≢false (sym h))), (λ h. refl))
-emptied_there units.Refc p Fino which = ((λ h. absurd (true≢false (sym h))), (λ h. refl))
-emptied_there units.Inode p k which = absurd (no_inode which)
-emptied_there units.Rmap p k which = absurd (no_mappings which)
+emptied_there : (unit : ScrubUnit) (p : Group) (k : Kind) → (is_among k (kinds_of unit) ≡ true → blocks_of ((empty_trees (kinds_of unit) p).tree k).reading ≡ []) × (is_among k (kinds_of unit) ≡ false → blocks_of ((empty_trees (kinds_of unit) p).tree k).reading ≡ blocks_of (p.tree k).reading)
+emptied_there units.Inode p Bno = ((λ h. absurd (true≢false (sym h))), (λ h. refl))
+emptied_there units.Inode p Cnt = ((λ h. absurd (true≢false (sym h))), (λ h. refl))
+emptied_there units.Inode p Rmap = ((λ h. absurd (true≢false (sym h))), (λ h. refl))
+emptied_there units.Inode p Refc = ((λ h. absurd (true≢false (sym h))), (λ h. refl))
+emptied_there units.Inode p Ino = ((λ h. blocks_put [] (p.tree Ino).reading), (λ h. absurd (true≢false h)))
+emptied_there units.Inode p Fino = ((λ h. blocks_put [] (p.tree Fino).reading), (λ h. absurd (true≢false h)))
+emptied_there units.Rmap p Bno = ((λ h. absurd (true≢false (sym h))), (λ h. refl))
+emptied_there units.Rmap p Cnt = ((λ h. absurd (true≢false (sym h))), (λ h. refl))
+emptied_there units.Rmap p Rmap = ((λ h. blocks_put [] (p.tree Rmap).reading), (λ h. absurd (true≢false h)))
+emptied_there units.Rmap p Refc = ((λ h. absurd (true≢false (sym h))), (λ h. refl))
+emptied_there units.Rmap p Ino = ((λ h. absurd (true≢false (sym h))), (λ h. refl))
+emptied_there units.Rmap p Fino = ((λ h. absurd (true≢false (sym h))), (λ h. refl))
+emptied_there units.Free p Bno = ((λ h. blocks_put [] (p.tree Bno).reading), (λ h. absurd (true≢false h)))
+emptied_there units.Free p Cnt = ((λ h. blocks_put [] (p.tree Cnt).reading), (λ h. absurd (true≢false h)))
+emptied_there units.Free p Rmap = ((λ h. absurd (true≢false (sym h))), (λ h. refl))
+emptied_there units.Free p Refc = ((λ h. absurd (true≢false (sym h))), (λ h. refl))
+emptied_there units.Free p Ino = ((λ h. absurd (true≢false (sym h))), (λ h. refl))
+emptied_there units.Free p Fino = ((λ h. absurd (true≢false (sym h))), (λ h. refl))
+emptied_there units.Refc p Bno = ((λ h. absurd (true≢false (sym h))), (λ h. refl))
+emptied_there units.Refc p Cnt = ((λ h. absurd (true≢false (sym h))), (λ h. refl))
+emptied_there units.Refc p Rmap = ((λ h. absurd (true≢false (sym h))), (λ h. refl))
+emptied_there units.Refc p Refc = ((λ h. blocks_put [] (p.tree Refc).reading), (λ h. absurd (true≢false h)))
+emptied_there units.Refc p Ino = ((λ h. absurd (true≢false (sym h))), (λ h. refl))
+emptied_there units.Refc p Fino = ((λ h. absurd (true≢false (sym h))), (λ h. refl))
 
-emptied_recs : (unit : ScrubUnit) (p : Group) (k : Kind) → (unit ≡ units.Free) ⊎ (unit ≡ units.Refc) → ((k ≡ Ino) ⊎ (k ≡ Rmap)) → recs_of ((empty_trees (kinds_of unit) p).tree k).reading ≡ recs_of (p.tree k).reading
-emptied_recs unit p k which (inl e) = subst (λ (j : Kind). recs_of ((empty_trees (kinds_of unit) p).tree j).reading ≡ recs_of (p.tree j).reading) (sym e) (at_ino unit which)
-  where
-    at_ino : (u : ScrubUnit) → (u ≡ units.Free) ⊎ (u ≡ units.Refc) → recs_of ((empty_trees (kinds_of u) p).tree Ino).reading ≡ recs_of (p.tree Ino).reading
-    at_ino units.Free w = refl
-    at_ino units.Refc w = refl
-    at_ino units.Inode w = absurd (no_inode w)
-    at_ino units.Rmap w = absurd (no_mappings w)
-emptied_recs unit p k which (inr e) = subst (λ (j : Kind). recs_of ((empty_trees (kinds_of unit) p).tree j).reading ≡ recs_of (p.tree j).reading) (sym e) (at_rmap unit which)
-  where
-    at_rmap : (u : ScrubUnit) → (u ≡ units.Free) ⊎ (u ≡ units.Refc) → recs_of ((empty_trees (kinds_of u) p).tree Rmap).reading ≡ recs_of (p.tree Rmap).reading
-    at_rmap units.Free w = refl
-    at_rmap units.Refc w = refl
-    at_rmap units.Inode w = absurd (no_inode w)
-    at_rmap units.Rmap w = absurd (no_mappings w)
+recs_put : {R : Type 0} (blocks : List ℕ) (r : Reading R) → recs_of (in_blocks blocks r) ≡ recs_of r
+recs_put blocks (Readable recs old) = refl
+recs_put blocks (Unreadable block fault claims) = refl
 
-emptied_parts : (unit : ScrubUnit) (p : Group) → (unit ≡ units.Free) ⊎ (unit ≡ units.Refc) → ((empty_trees (kinds_of unit) p).free_list ≡ p.free_list) × ((empty_trees (kinds_of unit) p).reserve ≡ p.reserve) × ((empty_trees (kinds_of unit) p).limbo ≡ p.limbo)
-emptied_parts units.Free p w = (refl, refl, refl)
-emptied_parts units.Refc p w = (refl, refl, refl)
-emptied_parts units.Inode p w = absurd (no_inode w)
-emptied_parts units.Rmap p w = absurd (no_mappings w)
+emptied_inos : (unit : ScrubUnit) (p : Group) → recs_of ((empty_trees (kinds_of unit) p).tree Ino).reading ≡ recs_of (p.tree Ino).reading
+emptied_inos units.Inode p = recs_put [] (p.tree Ino).reading
+emptied_inos units.Rmap p = refl
+emptied_inos units.Free p = refl
+emptied_inos units.Refc p = refl
+
+emptied_maps : (unit : ScrubUnit) (p : Group) → recs_of ((empty_trees (kinds_of unit) p).tree Rmap).reading ≡ recs_of (p.tree Rmap).reading
+emptied_maps units.Inode p = refl
+emptied_maps units.Rmap p = recs_put [] (p.tree Rmap).reading
+emptied_maps units.Free p = refl
+emptied_maps units.Refc p = refl
+
+emptied_parts : (unit : ScrubUnit) (p : Group) → ((empty_trees (kinds_of unit) p).free_list ≡ p.free_list) × ((empty_trees (kinds_of unit) p).reserve ≡ p.reserve) × ((empty_trees (kinds_of unit) p).limbo ≡ p.limbo)
+emptied_parts units.Inode p = (refl, refl, refl)
+emptied_parts units.Rmap p = (refl, refl, refl)
+emptied_parts units.Free p = (refl, refl, refl)
+emptied_parts units.Refc p = (refl, refl, refl)
 
 not_mappings : (unit : ScrubUnit) → (unit ≡ units.Free) ⊎ (unit ≡ units.Refc) → is_among Rmap (kinds_of unit) ≡ false
 not_mappings units.Free w = refl
@@ -473,7 +515,7 @@ weigh_reserve : (f h : Owned → ℕ) (os : List Owned) → ((o : Owned) → f o
 weigh_reserve f h [] e = refl
 weigh_reserve f h (o ∷ os) e = ap₂ (λ (m n : ℕ). m + n) (e o) (weigh_reserve f h os e)
 
-module _ (a : State) (g : ℕ) (unit : ScrubUnit) (blocks : Kind → List ℕ) (which : (unit ≡ units.Free) ⊎ (unit ≡ units.Refc)) (splits : Splits a.geometry) (own_reserve : is_reserve_of unit (a.group g) ≡ true)
+module _ (a : State) (g : ℕ) (unit : ScrubUnit) (blocks : Kind → List ℕ) (stay : SameChunks a (switched a g unit blocks)) (splits : Splits a.geometry) (own_reserve : is_reserve_of unit (a.group g) ≡ true)
     (laid : AreLaid (kind_need a g unit) (kinds_of unit) (blocks_in (a.group g).reserve) blocks) where
   abbrev p : Group
   p = a.group g
@@ -488,15 +530,18 @@ module _ (a : State) (g : ℕ) (unit : ScrubUnit) (blocks : Kind → List ℕ) (
   owner = unit_owner unit
 
   chunks_x : AlikeInodes a x
-  chunks_x = inodes_after a g unit blocks (same_chunks a g unit blocks which)
+  chunks_x = inodes_after a g unit blocks stay
 
-  recs_wt : (h : ℕ) (k : Kind) → ((k ≡ Ino) ⊎ (k ≡ Rmap)) → recs_of ((wt.group h).tree k).reading ≡ recs_of ((a.group h).tree k).reading
-  recs_wt h k e = in_each (λ r q. recs_of (q.tree k).reading ≡ recs_of (r.tree k).reading) g (empty_trees (kinds_of unit)) a h (λ r. emptied_recs unit r k which e) (λ r. refl)
+  inos_wt : (h : ℕ) → recs_of ((wt.group h).tree Ino).reading ≡ recs_of ((a.group h).tree Ino).reading
+  inos_wt h = in_each (λ r q. recs_of (q.tree Ino).reading ≡ recs_of (r.tree Ino).reading) g (empty_trees (kinds_of unit)) a h (emptied_inos unit) (λ r. refl)
+
+  maps_wt : (h : ℕ) → recs_of ((wt.group h).tree Rmap).reading ≡ recs_of ((a.group h).tree Rmap).reading
+  maps_wt h = in_each (λ r q. recs_of (q.tree Rmap).reading ≡ recs_of (r.tree Rmap).reading) g (empty_trees (kinds_of unit)) a h (emptied_maps unit) (λ r. refl)
 
   chunks_wt : AlikeInodes a wt
   chunks_wt = record {
     geometry = refl;
-    chunks = chunk_listed a wt refl refl (λ h. recs_wt h Ino (inl refl)) (λ h. recs_wt h Rmap (inr refl));
+    chunks = chunk_listed a wt refl refl inos_wt maps_wt;
     cores = λ ino is. refl;
     forks = λ ino f i. same_fork (a.fork ino f);
   }
@@ -534,8 +579,8 @@ module _ (a : State) (g : ℕ) (unit : ScrubUnit) (blocks : Kind → List ℕ) (
     replaced_weight = weigh f (flat_map old (kinds_of unit))
 
     x_trees : weigh w (flat_map (tree_part (x.group g)) all_kinds) + replaced_weight ≡ weigh w (flat_map (tree_part p) all_kinds) + weigh f (flat_map blocks (kinds_of unit))
-    x_trees = replaced p (x.group g) unit old blocks which (λ k. refl) (λ k h. ap (λ (i : Index (RecOf k)). blocks_of i.reading) (other_tree a g unit blocks k h))
-        (λ k h. x_parts (λ q. blocks_of (q.tree k).reading) (λ q c. refl) ∙ set_there blocks unit (derive (there a g unit blocks) g) p (join_limbo (limbo_of a g unit) p.limbo) k which h) w alike
+    x_trees = replaced p (x.group g) unit old blocks (λ k. refl) (λ k h. ap (λ (i : Index (RecOf k)). blocks_of i.reading) (other_tree a g unit blocks k h))
+        (λ k h. x_parts (λ q. blocks_of (q.tree k).reading) (λ q c. refl) ∙ set_there blocks unit (derive (there a g unit blocks) g) p (join_limbo (limbo_of a g unit) p.limbo) k h) w alike
 
     none_new : (ks : List Kind) → weigh f (flat_map (λ k. []) ks) ≡ 0
     none_new [] = refl
@@ -543,7 +588,7 @@ module _ (a : State) (g : ℕ) (unit : ScrubUnit) (blocks : Kind → List ℕ) (
 
     wt_trees : weigh w (flat_map (tree_part (empty_trees (kinds_of unit) p)) all_kinds) + replaced_weight ≡ weigh w (flat_map (tree_part p) all_kinds)
     wt_trees =
-        replaced p (empty_trees (kinds_of unit) p) unit old (λ k. []) which (λ k. refl) (λ k h. (emptied_there unit p k which).1 h) (λ k h. (emptied_there unit p k which).0 h) w alike
+        replaced p (empty_trees (kinds_of unit) p) unit old (λ k. []) (λ k. refl) (λ k h. (emptied_there unit p k).1 h) (λ k h. (emptied_there unit p k).0 h) w alike
         ∙ plus_none (weigh w (flat_map (tree_part p) all_kinds)) (weigh f (flat_map (λ k. []) (kinds_of unit))) (none_new (kinds_of unit))
       where
         plus_none : (n m : ℕ) → m ≡ 0 → n + m ≡ n
@@ -603,7 +648,7 @@ module _ (a : State) (g : ℕ) (unit : ScrubUnit) (blocks : Kind → List ℕ) (
         let w_parts : weigh w (parts wt.geometry g (wt.group g) (chunks wt g)) ≡ weigh w (parts a.geometry g (empty_trees (kinds_of unit) p) us) = ap₂ (λ (q : Group) (vs : List ℕ). weigh w (parts a.geometry g q vs)) (in_own_group g (empty_trees (kinds_of unit)) a) (chunks_same a wt splits chunks_wt g) in
         let w_all = w_parts ∙ parts_weight w a.geometry g (empty_trees (kinds_of unit) p) us in
         let w_forks = ap (weigh w) (forks_same a wt splits chunks_wt g) in
-        let e = emptied_parts unit p which in
+        let e = emptied_parts unit p in
         let w_list = ap (λ (l : List ℕ). weigh w (map (claimed_by FreeList (number_of Ag)) l)) e.0 in
         let w_reserve = ap (weigh (reserved_weight w)) e.1 in
         let w_limbo = ap (weigh (limbo_weight w)) e.2 in
@@ -639,173 +684,209 @@ module _ (a : State) (g : ℕ) (unit : ScrubUnit) (blocks : Kind → List ℕ) (
               omega (arith, beside, e1, e2, e16),
             )
 
+  -- claims stay clear, where no block is lost twice, and none that anything claims but the old trees
+  pub apart : ((b : ℕ) → times b (lost_blocks a g unit) ≤ 1) → ((b : ℕ) → 1 ≤ times b (lost_blocks a g unit) → weigh (owned_by b) (claims wt g) ≡ 0) → first_overlap a g (claims a g) ≡ None → first_overlap x g (claims x g) ≡ None
+  unfolding lost_blocks alone_alike owned_alike switched moved
+  apart lost_once unclaimed_then before = none_if_clear x g (claims x g) (λ b lt some.
+      let alone = totals (alone_by b) (alone_alike owner b) in
+      let owned = totals (owned_by b) (owned_alike owner b) in
+      let lost_alone : weigh (λ y. alone_by b (claimed_by Limbo owner y)) (lost_blocks a g unit) ≡ times b (lost_blocks a g unit) = (alone_alike owner b).counts.2 (lost_blocks a g unit) in
+      let lost_owned_ : weigh (λ y. owned_by b (claimed_by Limbo owner y)) (lost_blocks a g unit) ≡ times b (lost_blocks a g unit) = (owned_alike owner b).counts.2 (lost_blocks a g unit) in
+      let m1 = alone.0.0 in
+      let m2 = owned.0.0 in
+      let s1 = alone.1 in
+      let s2 = owned.1 in
+      elim (cases_order (times b (lost_blocks a g unit)) 0) [
+        | inl none ↦
+            let clear = clear_if_none a g (claims a g) before b lt (omega (arith, some, m1, lost_alone, none, s1)) in
+            omega (arith, m2, lost_owned_, none, s2, clear)
+        | inr (inl less) ↦ absurd (omega (arith, less))
+        | inr (inr more) ↦
+            let none = unclaimed_then b (omega (arith, more)) in
+            let once = lost_once b in
+            omega (arith, m2, lost_owned_, none, once)
+      ])
+
+  -- where the lost blocks are those of the old trees, all weights stay
+  module _ (same_lost : lost_blocks a g unit ≡ flat_map old (kinds_of unit)) where
+    weights_stay : (w : Claimed → ℕ) (alike : Alike w owner) → NoMore (weigh w (claims a g)) (weigh w (claims x g))
+    weights_stay w alike =
+        let r = totals w alike in
+        let l : lost w alike ≡ replaced_weight w alike = ap (weigh (λ b. w (claimed_by Limbo owner b))) same_lost in
+        let most = r.0.0 in
+        let all = r.1 in
+        (omega (arith, most, all, l), λ i. r.0.1 (omega (arith, i, all, l)))
+
+    owners_stay : own x g ≡ own a g
+    unfolding own
+    owners_stay = one_set (map tuple_of (claims x g)) (map tuple_of (claims a g)) (λ t.
+        let n = weights_stay (is_owner t) (owner_alike owner t) in
+        has_weight (claims x g) t
+        ∙ same_positive (weigh (is_owner t) (claims x g)) (weigh (is_owner t) (claims a g)) (λ i. let m = n.0 in omega (arith, i, m)) n.1
+        ∙ sym (has_weight (claims a g) t))
+
+    clear_stays : first_overlap a g (claims a g) ≡ None → first_overlap x g (claims x g) ≡ None
+    unfolding switched moved
+    clear_stays before = none_if_clear x g (claims x g) (λ b lt some.
+        let owned = (weights_stay (owned_by b) (owned_alike owner b)).0 in
+        let alone = (weights_stay (alone_by b) (alone_alike owner b)).0 in
+        let r = clear_if_none a g (claims a g) before b lt (omega (arith, some, alone)) in
+        omega (arith, r, owned))
+
+    module _ (other : is_among Rmap (kinds_of unit) ≡ false) (uncounted : sets_counter unit RmapBlocks ≡ false) where
+      pub maps_stay : Holds a g units.Rmap → Holds x g units.Rmap
+      maps_stay holds = (
+        maps_good a x g splits chunks_x owners_stay (ap (λ (i : Index (RecOf Rmap)). i.reading) (other_tree a g unit blocks Rmap other)) (other_counter a g unit blocks RmapBlocks uncounted) holds.0,
+        record { apart = clear_stays holds.1.apart; forks = forks_stay a x splits chunks_x holds.1.forks },
+      )
+
+      pub maps_trusted : IsTrusted x g units.Rmap → IsTrusted a g units.Rmap
+      maps_trusted t = (ap (λ (i : Index (RecOf Rmap)). i.trust) (sym (other_tree a g unit blocks Rmap other)) ∙ t.0, tt)
+
   -- ---- the lost blocks
 
-  abbrev test : ℕ → Bool
-  test b = gives_to owner (records_in p Rmap) b && not (list_any (λ c. c.block == b) (claims wt g))
+  module _ (which : (unit ≡ units.Free) ⊎ (unit ≡ units.Refc)) where
+    abbrev test : ℕ → Bool
+    test b = gives_to owner (records_in p Rmap) b && not (list_any (λ c. c.block == b) (claims wt g))
 
-  lost_list : lost_blocks a g unit ≡ filter test (numbers 0 (group_len_of a.geometry g))
-  unfolding without_trees
-  lost_list = lost_are a g unit which
+    lost_list : lost_blocks a g unit ≡ filter test (numbers 0 (group_len_of a.geometry g))
+    unfolding without_trees
+    lost_list = lost_are a g unit which
 
-  lost_once : (b : ℕ) → times b (lost_blocks a g unit) ≤ 1
-  lost_once b =
-      let e = ap (times b) lost_list ∙ times_filter b test (numbers 0 (group_len_of a.geometry g)) in
-      let n = (times_numbers b 0 (group_len_of a.geometry g)).0 in
-      by (test b) (times b (lost_blocks a g unit)) (times b (numbers 0 (group_len_of a.geometry g))) e n
-    where
-      by : (k : Bool) (m n : ℕ) → m ≡ (if k then n else 0) → n ≤ 1 → m ≤ 1
-      by true m n e h = omega (arith, e, h)
-      by false m n e h = omega (arith, e)
-
-  is_lost : (b : ℕ) → 1 ≤ times b (lost_blocks a g unit) → test b ≡ true
-  is_lost b some = by (test b) refl (ap (times b) lost_list ∙ times_filter b test (numbers 0 (group_len_of a.geometry g)))
-    where
-      by : (k : Bool) → test b ≡ k → times b (lost_blocks a g unit) ≡ (if k then times b (numbers 0 (group_len_of a.geometry g)) else 0) → test b ≡ true
-      by true e h = e
-      by false e h = absurd (omega (arith, some, h))
-
-  gets_lost : (b : ℕ) → b < group_len_of a.geometry g → test b ≡ true → times b (lost_blocks a g unit) ≡ 1
-  gets_lost b lt h =
-      ap (times b) lost_list ∙ times_filter b test (numbers 0 (group_len_of a.geometry g)) ∙ ap (λ (k : Bool). if k then times b (numbers 0 (group_len_of a.geometry g)) else 0) h
-      ∙ (times_numbers b 0 (group_len_of a.geometry g)).1.1 (omega arith) (omega (arith, lt))
-
-  -- ---- what is known of the reverse mappings
-
-  module _ (holds : Holds a g units.Rmap) (owners : AreOwners a g unit) where
-    maps_are : records_in p Rmap ≡ rmap_of a g
-    unfolding derive
-    maps_are = ap recs_of holds.0.0.0.1
-
-    gives_from : (t : Tuple) → has (own a g) t ≡ true → t.owner ≡ owner → gives_to owner (records_in p Rmap) t.block ≡ true
-    gives_from t h e =
-        let r = owners.runs.all t (of_has (own a g) t h) in
-        let same : tuple_at r.0 r.1 ≡ t = r.4 in
-        let starts : r.0.start + r.1 ≡ t.block = ap (λ (u : Tuple). u.block) same in
-        let owned : r.0.owner ≡ owner = ap (λ (u : Tuple). u.owner) same ∙ e in
-        let lt = r.3 in
-        ap (λ (recs : List RmapRec). gives_to owner recs t.block) maps_are
-        ∙ any_here (λ s. (s.owner == owner) && (nat_le s.start t.block && nat_lt t.block (s.start + s.count))) (rmap_of a g) r.0 r.2
-        (all_three (r.0.owner == owner) (nat_le r.0.start t.block) (nat_lt t.block (r.0.start + r.0.count)) (eq-eqb r.0.owner owner owned) (le-leb r.0.start t.block (omega (arith, starts))) (lt-ltb t.block (r.0.start + r.0.count) (omega (arith, starts, lt))))
+    lost_once : (b : ℕ) → times b (lost_blocks a g unit) ≤ 1
+    lost_once b =
+        let e = ap (times b) lost_list ∙ times_filter b test (numbers 0 (group_len_of a.geometry g)) in
+        let n = (times_numbers b 0 (group_len_of a.geometry g)).0 in
+        by (test b) (times b (lost_blocks a g unit)) (times b (numbers 0 (group_len_of a.geometry g))) e n
       where
-        all_three : (x y z : Bool) → x ≡ true → y ≡ true → z ≡ true → (x && (y && z)) ≡ true
-        all_three x y z e f h = λ i. e i && (f i && h i)
+        by : (k : Bool) (m n : ℕ) → m ≡ (if k then n else 0) → n ≤ 1 → m ≤ 1
+        by true m n e h = omega (arith, e, h)
+        by false m n e h = omega (arith, e)
 
-    gives_to_one : (b : ℕ) → gives_to owner (records_in p Rmap) b ≡ true → (t : Tuple) × (has (own a g) t ≡ true) × (t.block ≡ b) × (t.owner ≡ owner)
-    gives_to_one b h =
-        let f = any_found (λ s. (s.owner == owner) && (nat_le s.start b && nat_lt b (s.start + s.count))) (rmap_of a g) (sym (ap (λ (recs : List RmapRec). gives_to owner recs b) maps_are) ∙ h) in
-        let r : RmapRec = f.0 in
-        let t1 = and_parts (r.owner == owner) (nat_le r.start b && nat_lt b (r.start + r.count)) f.2 in
-        let t2 = and_parts (nat_le r.start b) (nat_lt b (r.start + r.count)) t1.1 in
-        let low : r.start ≤ b = leb-true r.start b t2.0 in
-        let high : b < r.start + r.count = ltb-true b (r.start + r.count) t2.1 in
-        let within = (owners.runs.maximal r f.1).within (b - r.start) (omega (arith, low, high)) in
-        (tuple_at r (b - r.start), has_of (own a g) (tuple_at r (b - r.start)) within, omega (arith, low), eqb-true r.owner owner t1.0)
-
-    -- claims stay clear
-    apart : first_overlap x g (claims x g) ≡ None
-    unfolding lost_blocks alone_alike owned_alike switched moved
-    apart = none_if_clear x g (claims x g) (λ b lt some.
-        let alone = totals (alone_by b) (alone_alike owner b) in
-        let owned = totals (owned_by b) (owned_alike owner b) in
-        let lost_alone : weigh (λ y. alone_by b (claimed_by Limbo owner y)) (lost_blocks a g unit) ≡ times b (lost_blocks a g unit) = (alone_alike owner b).counts.2 (lost_blocks a g unit) in
-        let lost_owned_ : weigh (λ y. owned_by b (claimed_by Limbo owner y)) (lost_blocks a g unit) ≡ times b (lost_blocks a g unit) = (owned_alike owner b).counts.2 (lost_blocks a g unit) in
-        let m1 = alone.0.0 in
-        let m2 = owned.0.0 in
-        let s1 = alone.1 in
-        let s2 = owned.1 in
-        elim (cases_order (times b (lost_blocks a g unit)) 0) [
-          | inl none ↦
-              let clear = clear_if_none a g (claims a g) holds.1.apart b lt (omega (arith, some, m1, lost_alone, none, s1)) in
-              omega (arith, m2, lost_owned_, none, s2, clear)
-          | inr (inl less) ↦ absurd (omega (arith, less))
-          | inr (inr more) ↦
-              let here = is_lost b (omega (arith, more)) in
-              let parts_ = and_parts (gives_to owner (records_in p Rmap) b) (not (list_any (λ c. c.block == b) (claims wt g))) here in
-              let none = claimed_none b (claims wt g) (is_not (list_any (λ c. c.block == b) (claims wt g)) parts_.1) in
-              let once = lost_once b in
-              omega (arith, m2, lost_owned_, none, once)
-        ])
+    is_lost : (b : ℕ) → 1 ≤ times b (lost_blocks a g unit) → test b ≡ true
+    is_lost b some = by (test b) refl (ap (times b) lost_list ∙ times_filter b test (numbers 0 (group_len_of a.geometry g)))
       where
-        is_not : (k : Bool) → not k ≡ true → k ≡ false
-        is_not true h = absurd (true≢false (sym h))
-        is_not false h = refl
+        by : (k : Bool) → test b ≡ k → times b (lost_blocks a g unit) ≡ (if k then times b (numbers 0 (group_len_of a.geometry g)) else 0) → test b ≡ true
+        by true e h = e
+        by false e h = absurd (omega (arith, some, h))
 
-    same_owners : own x g ≡ own a g
-    unfolding own alone_alike owned_alike
-    same_owners = one_set (map tuple_of (claims x g)) (map tuple_of (claims a g)) (λ t.
-        has_weight (claims x g) t
-        ∙ same_positive (weigh (is_owner t) (claims x g)) (weigh (is_owner t) (claims a g)) (came t) (stays t)
-        ∙ sym (has_weight (claims a g) t))
-      where
-        is_there : (k : Bool) (n m : ℕ) → 1 ≤ n → n ≡ (if k then m else 0) → (k ≡ true) × (n ≡ m)
-        is_there true n m some e = (refl, e)
-        is_there false n m some e = absurd (omega (arith, some, e))
+    gets_lost : (b : ℕ) → b < group_len_of a.geometry g → test b ≡ true → times b (lost_blocks a g unit) ≡ 1
+    gets_lost b lt h =
+        ap (times b) lost_list ∙ times_filter b test (numbers 0 (group_len_of a.geometry g)) ∙ ap (λ (k : Bool). if k then times b (numbers 0 (group_len_of a.geometry g)) else 0) h
+        ∙ (times_numbers b 0 (group_len_of a.geometry g)).1.1 (omega arith) (omega (arith, lt))
 
-        positive : (n : ℕ) (k : Bool) → k ≡ nat_lt 0 n → 1 ≤ n → k ≡ true
-        positive n k e some = e ∙ lt-ltb 0 n (omega (arith, some))
+    -- ---- what is known of the reverse mappings
 
-        above : (n : ℕ) (k : Bool) → k ≡ nat_lt 0 n → k ≡ true → 1 ≤ n
-        above n k e h = let lt = ltb-true 0 n (sym e ∙ h) in omega (arith, lt)
+    module _ (holds : Holds a g units.Rmap) (owners : AreOwners a g unit) where
+      maps_are : records_in p Rmap ≡ rmap_of a g
+      unfolding derive
+      maps_are = ap recs_of holds.0.0.0.1
 
-        came : (t : Tuple) → 1 ≤ weigh (is_owner t) (claims x g) → 1 ≤ weigh (is_owner t) (claims a g)
-        came t some =
-            let r = totals (is_owner t) (owner_alike owner t) in
-            let most = r.0.0 in
-            let all = r.1 in
-            let l : ℕ = lost (is_owner t) (owner_alike owner t) in
-            elim (cases_order l 0) [
-              | inl none ↦ omega (arith, some, most, none, all)
-              | inr (inl less) ↦ absurd (omega (arith, less))
-              | inr (inr more) ↦
-                  let there_ = is_there ((t.owner == owner) && (t.word == 0)) l (times t.block (lost_blocks a g unit)) (omega (arith, more)) (owner_counts t owner (lost_blocks a g unit)) in
-                  let both = and_parts (t.owner == owner) (t.word == 0) there_.0 in
-                  let count = there_.1 in
-                  let passed = is_lost t.block (omega (arith, more, count)) in
-                  let given = and_parts (gives_to owner (records_in p Rmap) t.block) (not (list_any (λ c. c.block == t.block) (claims wt g))) passed in
-                  let u = gives_to_one t.block given.0 in
-                  let same : u.0 ≡ t = λ i. record { block = u.2 i; owner = (u.3 ∙ sym (eqb-true t.owner owner both.0)) i; word = (owners.plain u.0 u.1 u.3 ∙ sym (eqb-true t.word 0 both.1)) i } in
-                  let has_it : has (map tuple_of (claims a g)) t ≡ true = sym (has_set (map tuple_of (claims a g)) t) ∙ subst (λ (v : Tuple). has (own a g) v ≡ true) same u.1 in
-                  above (weigh (is_owner t) (claims a g)) (has (map tuple_of (claims a g)) t) (has_weight (claims a g) t) has_it
-            ]
+      gives_from : (t : Tuple) → has (own a g) t ≡ true → t.owner ≡ owner → gives_to owner (records_in p Rmap) t.block ≡ true
+      gives_from t h e =
+          let r = owners.runs.all t (of_has (own a g) t h) in
+          let same : tuple_at r.0 r.1 ≡ t = r.4 in
+          let starts : r.0.start + r.1 ≡ t.block = ap (λ (u : Tuple). u.block) same in
+          let owned : r.0.owner ≡ owner = ap (λ (u : Tuple). u.owner) same ∙ e in
+          let lt = r.3 in
+          ap (λ (recs : List RmapRec). gives_to owner recs t.block) maps_are
+          ∙ any_here (λ s. (s.owner == owner) && (nat_le s.start t.block && nat_lt t.block (s.start + s.count))) (rmap_of a g) r.0 r.2
+          (all_three (r.0.owner == owner) (nat_le r.0.start t.block) (nat_lt t.block (r.0.start + r.0.count)) (eq-eqb r.0.owner owner owned) (le-leb r.0.start t.block (omega (arith, starts))) (lt-ltb t.block (r.0.start + r.0.count) (omega (arith, starts, lt))))
+        where
+          all_three : (x y z : Bool) → x ≡ true → y ≡ true → z ≡ true → (x && (y && z)) ≡ true
+          all_three x y z e f h = λ i. e i && (f i && h i)
 
-        stays : (t : Tuple) → 1 ≤ weigh (is_owner t) (claims a g) → 1 ≤ weigh (is_owner t) (claims x g)
-        stays t some =
-            let r = totals (is_owner t) (owner_alike owner t) in
-            let all = r.1 in
-            let d : ℕ = replaced_weight (is_owner t) (owner_alike owner t) in
-            elim (cases_order d 0) [
-              | inl none ↦ r.0.1 (omega (arith, some, all, none))
-              | inr (inl less) ↦ absurd (omega (arith, less))
-              | inr (inr more) ↦
-                  let there_ = is_there ((t.owner == owner) && (t.word == 0)) d (times t.block (flat_map old (kinds_of unit))) (omega (arith, more)) (owner_counts t owner (flat_map old (kinds_of unit))) in
-                  let both = and_parts (t.owner == owner) (t.word == 0) there_.0 in
-                  let count = there_.1 in
-                  let alone = (totals (alone_by t.block) (alone_alike owner t.block)).1 in
-                  let owned = (totals (owned_by t.block) (owned_alike owner t.block)).1 in
-                  let c1 : replaced_weight (alone_by t.block) (alone_alike owner t.block) ≡ times t.block (flat_map old (kinds_of unit)) = (alone_alike owner t.block).counts.2 (flat_map old (kinds_of unit)) in
-                  let c2 : replaced_weight (owned_by t.block) (owned_alike owner t.block) ≡ times t.block (flat_map old (kinds_of unit)) = (owned_alike owner t.block).counts.2 (flat_map old (kinds_of unit)) in
-                  let inside = lies_inside (group_len_of a.geometry g) t.block (claims a g) owners.inside (omega (arith, more, count, owned, c2)) in
-                  let clear = clear_if_none a g (claims a g) holds.1.apart t.block inside (omega (arith, more, count, alone, c1)) in
-                  let none : weigh (owned_by t.block) (claims wt g) ≡ 0 = omega (arith, clear, owned, c2, more, count) in
-                  let has_it : has (own a g) t ≡ true = has_set (map tuple_of (claims a g)) t ∙ positive (weigh (is_owner t) (claims a g)) (has (map tuple_of (claims a g)) t) (has_weight (claims a g) t) some in
-                  let passed : test t.block ≡ true = passes_both (gives_to owner (records_in p Rmap) t.block) (list_any (λ c. c.block == t.block) (claims wt g)) (gives_from t has_it (eqb-true t.owner owner both.0)) (none_claimed t.block (claims wt g) none) in
-                  let one = gets_lost t.block inside passed in
-                  let l : lost (is_owner t) (owner_alike owner t) ≡ times t.block (lost_blocks a g unit) = owner_counts t owner (lost_blocks a g unit) ∙ ap (λ (k : Bool). if k then times t.block (lost_blocks a g unit) else 0) there_.0 in
-                  r.0.1 (omega (arith, l, one))
-            ]
-          where
-            passes_both : (y z : Bool) → y ≡ true → z ≡ false → (y && not z) ≡ true
-            passes_both y z e h = λ i. e i && not (h i)
+      gives_to_one : (b : ℕ) → gives_to owner (records_in p Rmap) b ≡ true → (t : Tuple) × (has (own a g) t ≡ true) × (t.block ≡ b) × (t.owner ≡ owner)
+      gives_to_one b h =
+          let f = any_found (λ s. (s.owner == owner) && (nat_le s.start b && nat_lt b (s.start + s.count))) (rmap_of a g) (sym (ap (λ (recs : List RmapRec). gives_to owner recs b) maps_are) ∙ h) in
+          let r : RmapRec = f.0 in
+          let t1 = and_parts (r.owner == owner) (nat_le r.start b && nat_lt b (r.start + r.count)) f.2 in
+          let t2 = and_parts (nat_le r.start b) (nat_lt b (r.start + r.count)) t1.1 in
+          let low : r.start ≤ b = leb-true r.start b t2.0 in
+          let high : b < r.start + r.count = ltb-true b (r.start + r.count) t2.1 in
+          let within = (owners.runs.maximal r f.1).within (b - r.start) (omega (arith, low, high)) in
+          (tuple_at r (b - r.start), has_of (own a g) (tuple_at r (b - r.start)) within, omega (arith, low), eqb-true r.owner owner t1.0)
 
-    pub still_holds : Holds x g units.Rmap
-    still_holds = (
-      maps_good a x g splits chunks_x same_owners (ap (λ (i : Index (RecOf Rmap)). i.reading) (other_tree a g unit blocks Rmap (not_mappings unit which))) (other_counter a g unit blocks RmapBlocks (not_counted unit which)) holds.0,
-      record { apart = apart; forks = forks_stay a x splits chunks_x holds.1.forks },
-    )
+      clear_still : first_overlap x g (claims x g) ≡ None
+      clear_still = apart lost_once (λ b some.
+          let both = and_parts (gives_to owner (records_in p Rmap) b) (not (list_any (λ c. c.block == b) (claims wt g))) (is_lost b some) in
+          claimed_none b (claims wt g) (is_not (list_any (λ c. c.block == b) (claims wt g)) both.1)) holds.1.apart
 
-  pub was_trusted : IsTrusted x g units.Rmap → IsTrusted a g units.Rmap
-  was_trusted t = (ap (λ (i : Index (RecOf Rmap)). i.trust) (sym (other_tree a g unit blocks Rmap (not_mappings unit which))) ∙ t.0, tt)
+      same_owners : own x g ≡ own a g
+      unfolding own alone_alike owned_alike
+      same_owners = one_set (map tuple_of (claims x g)) (map tuple_of (claims a g)) (λ t.
+          has_weight (claims x g) t
+          ∙ same_positive (weigh (is_owner t) (claims x g)) (weigh (is_owner t) (claims a g)) (came t) (stays t)
+          ∙ sym (has_weight (claims a g) t))
+        where
+          is_there : (k : Bool) (n m : ℕ) → 1 ≤ n → n ≡ (if k then m else 0) → (k ≡ true) × (n ≡ m)
+          is_there true n m some e = (refl, e)
+          is_there false n m some e = absurd (omega (arith, some, e))
+
+          positive : (n : ℕ) (k : Bool) → k ≡ nat_lt 0 n → 1 ≤ n → k ≡ true
+          positive n k e some = e ∙ lt-ltb 0 n (omega (arith, some))
+
+          above : (n : ℕ) (k : Bool) → k ≡ nat_lt 0 n → k ≡ true → 1 ≤ n
+          above n k e h = let lt = ltb-true 0 n (sym e ∙ h) in omega (arith, lt)
+
+          came : (t : Tuple) → 1 ≤ weigh (is_owner t) (claims x g) → 1 ≤ weigh (is_owner t) (claims a g)
+          came t some =
+              let r = totals (is_owner t) (owner_alike owner t) in
+              let most = r.0.0 in
+              let all = r.1 in
+              let l : ℕ = lost (is_owner t) (owner_alike owner t) in
+              elim (cases_order l 0) [
+                | inl none ↦ omega (arith, some, most, none, all)
+                | inr (inl less) ↦ absurd (omega (arith, less))
+                | inr (inr more) ↦
+                    let there_ = is_there ((t.owner == owner) && (t.word == 0)) l (times t.block (lost_blocks a g unit)) (omega (arith, more)) (owner_counts t owner (lost_blocks a g unit)) in
+                    let both = and_parts (t.owner == owner) (t.word == 0) there_.0 in
+                    let count = there_.1 in
+                    let passed = is_lost t.block (omega (arith, more, count)) in
+                    let given = and_parts (gives_to owner (records_in p Rmap) t.block) (not (list_any (λ c. c.block == t.block) (claims wt g))) passed in
+                    let u = gives_to_one t.block given.0 in
+                    let same : u.0 ≡ t = λ i. record { block = u.2 i; owner = (u.3 ∙ sym (eqb-true t.owner owner both.0)) i; word = (owners.plain u.0 u.1 u.3 ∙ sym (eqb-true t.word 0 both.1)) i } in
+                    let has_it : has (map tuple_of (claims a g)) t ≡ true = sym (has_set (map tuple_of (claims a g)) t) ∙ subst (λ (v : Tuple). has (own a g) v ≡ true) same u.1 in
+                    above (weigh (is_owner t) (claims a g)) (has (map tuple_of (claims a g)) t) (has_weight (claims a g) t) has_it
+              ]
+
+          stays : (t : Tuple) → 1 ≤ weigh (is_owner t) (claims a g) → 1 ≤ weigh (is_owner t) (claims x g)
+          stays t some =
+              let r = totals (is_owner t) (owner_alike owner t) in
+              let all = r.1 in
+              let d : ℕ = replaced_weight (is_owner t) (owner_alike owner t) in
+              elim (cases_order d 0) [
+                | inl none ↦ r.0.1 (omega (arith, some, all, none))
+                | inr (inl less) ↦ absurd (omega (arith, less))
+                | inr (inr more) ↦
+                    let there_ = is_there ((t.owner == owner) && (t.word == 0)) d (times t.block (flat_map old (kinds_of unit))) (omega (arith, more)) (owner_counts t owner (flat_map old (kinds_of unit))) in
+                    let both = and_parts (t.owner == owner) (t.word == 0) there_.0 in
+                    let count = there_.1 in
+                    let alone = (totals (alone_by t.block) (alone_alike owner t.block)).1 in
+                    let owned = (totals (owned_by t.block) (owned_alike owner t.block)).1 in
+                    let c1 : replaced_weight (alone_by t.block) (alone_alike owner t.block) ≡ times t.block (flat_map old (kinds_of unit)) = (alone_alike owner t.block).counts.2 (flat_map old (kinds_of unit)) in
+                    let c2 : replaced_weight (owned_by t.block) (owned_alike owner t.block) ≡ times t.block (flat_map old (kinds_of unit)) = (owned_alike owner t.block).counts.2 (flat_map old (kinds_of unit)) in
+                    let inside = lies_inside (group_len_of a.geometry g) t.block (claims a g) owners.inside (omega (arith, more, count, owned, c2)) in
+                    let clear = clear_if_none a g (claims a g) holds.1.apart t.block inside (omega (arith, more, count, alone, c1)) in
+                    let none : weigh (owned_by t.block) (claims wt g) ≡ 0 = omega (arith, clear, owned, c2, more, count) in
+                    let has_it : has (own a g) t ≡ true = has_set (map tuple_of (claims a g)) t ∙ positive (weigh (is_owner t) (claims a g)) (has (map tuple_of (claims a g)) t) (has_weight (claims a g) t) some in
+                    let passed : test t.block ≡ true = passes_both (gives_to owner (records_in p Rmap) t.block) (list_any (λ c. c.block == t.block) (claims wt g)) (gives_from t has_it (eqb-true t.owner owner both.0)) (none_claimed t.block (claims wt g) none) in
+                    let one = gets_lost t.block inside passed in
+                    let l : lost (is_owner t) (owner_alike owner t) ≡ times t.block (lost_blocks a g unit) = owner_counts t owner (lost_blocks a g unit) ∙ ap (λ (k : Bool). if k then times t.block (lost_blocks a g unit) else 0) there_.0 in
+                    r.0.1 (omega (arith, l, one))
+              ]
+            where
+              passes_both : (y z : Bool) → y ≡ true → z ≡ false → (y && not z) ≡ true
+              passes_both y z e h = λ i. e i && not (h i)
+
+      pub still_holds : Holds x g units.Rmap
+      still_holds = (
+        maps_good a x g splits chunks_x same_owners (ap (λ (i : Index (RecOf Rmap)). i.reading) (other_tree a g unit blocks Rmap (not_mappings unit which))) (other_counter a g unit blocks RmapBlocks (not_counted unit which)) holds.0,
+        record { apart = clear_still; forks = forks_stay a x splits chunks_x holds.1.forks },
+      )
+
+    pub was_trusted : IsTrusted x g units.Rmap → IsTrusted a g units.Rmap
+    was_trusted t = (ap (λ (i : Index (RecOf Rmap)). i.trust) (sym (other_tree a g unit blocks Rmap (not_mappings unit which))) ∙ t.0, tt)
 
 pub space_keeps_mappings : SpaceKeepsMappings
 space_keeps_mappings a b left g unit root second which splits s owners stands =
@@ -813,4 +894,4 @@ space_keeps_mappings a b left g unit root second which splits s owners stands =
     let may = s.row.1 in
     stands_by a (switched a g unit blocks) b g left g units.Rmap (splits_after a g unit blocks splits)
     (subst (λ (y : State). Loosely g left [] a y b) s.row.4 s.loosely)
-    (λ trusted. still_holds a g unit blocks which splits may.own s.row.2 (stands (was_trusted a g unit blocks which splits may.own s.row.2 trusted)) owners)
+    (λ trusted. still_holds a g unit blocks (same_chunks a g unit blocks which) splits may.own s.row.2 which (stands (was_trusted a g unit blocks (same_chunks a g unit blocks which) splits may.own s.row.2 which trusted)) owners)

@@ -18,7 +18,8 @@ use Rattle.fs_state.specs.Group.{is_among}
 use Rattle.fs_state.specs.Kinds.{RecOf}
 use Rattle.fs_state.specs.State.{State, Group, Index, recs_of, Readable, Reading, Unreadable, blocks_of, is_readable}
 use Rattle.geom.specs.Apart.{Splits}
-use Rattle.fs_derive.specs.Laws.{EachCounter, EachTree, IsGoodCounter, IsGoodTree}
+use Rattle.fs_change.specs.Laws.{DerivedAgain}
+use Rattle.fs_derive.specs.Laws.{EachCounter, EachTree, IsGood, IsGoodCounter, IsGoodTree}
 use Rattle.repair_laws.proofs.Same.{alike_law}
 use Rattle.sblock.specs.declared.kind.Kind.{Kind}
 use Rattle.sblock.specs.declared.kind.Kind.TheVariants.{Bno, Cnt, Rmap, Refc, Ino, Fino}
@@ -269,6 +270,9 @@ made_counters a g units.Rmap blocks splits = (made_counter a g units.Rmap blocks
 made_counters a g units.Free blocks splits = (made_counter a g units.Free blocks splits Freeblks refl, (made_counter a g units.Free blocks splits Longest refl, (made_counter a g units.Free blocks splits Btreeblks refl, tt)))
 made_counters a g units.Refc blocks splits = (made_counter a g units.Refc blocks splits RefcountBlocks refl, tt)
 
+pub made_good : (a : State) (g : ℕ) (own : ScrubUnit) (blocks : Kind → List ℕ) → Splits a.geometry → DerivedAgain a g own blocks → IsGood (switched a g own blocks) g own
+made_good a g own blocks splits again = (made_trees a g own blocks splits (kinds_of own) (made_readable a g own blocks) again, made_counters a g own blocks splits)
+
 pub switched_is_good : SwitchedIsGood
 switched_is_good a b left g own root second splits s again =
     let blocks : Kind → List ℕ = s.row.0 in
@@ -276,4 +280,4 @@ switched_is_good a b left g own root second splits s again =
     let l : Loosely g left [] a x b = subst (λ (y : State). Loosely g left [] a y b) s.row.4 s.loosely in
     let same = none_moves_from a x b g left l (splits_after a g own blocks splits) in
     (alike_law x b g (splits_after a g own blocks splits) same.inodes (same.groups g)).good own
-    (made_trees a g own blocks splits (kinds_of own) (made_readable a g own blocks) (again blocks), made_counters a g own blocks splits)
+    (made_good a g own blocks splits again)

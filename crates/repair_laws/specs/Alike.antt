@@ -1,5 +1,5 @@
 -- States that differ in trust alone, and in what nobody reads: cores outside of chunks, and forks that can't be read.
-use Rattle.std.specs.Prelude.{◌≡◌, ℕ, true}
+use Rattle.std.specs.Prelude.{◌≡◌, ◌<◌, ℕ, true}
 use Rattle.dinode_core.specs.declared.mapping.Fork.{Fork}
 use Rattle.fs_derive.specs.Chunks.{inodes}
 use Rattle.fs_derive.specs.Claims.{claims}
@@ -52,6 +52,11 @@ pub record AlikeGroup (p q : Group) : Type 0 where
 pub record Alike (a b : State) : Type 0 where
   pub inodes : AlikeInodes a b
   pub groups : (g : ℕ) → AlikeGroup (a.group g) (b.group g)
+
+-- the same of the groups that the image has: what stands at a number behind them nobody reads
+pub record AlikeInside (a b : State) : Type 0 where
+  pub inodes : AlikeInodes a b
+  pub groups : (g : ℕ) → g < a.geometry.agcount → AlikeGroup (a.group g) (b.group g)
 
 pub record SameDerived (a b : State) (g : ℕ) : Type 0 where
   pub claimed : claims b g ≡ claims a g

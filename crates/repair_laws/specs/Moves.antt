@@ -44,7 +44,7 @@ SwitchedKeeps = (a b : State) (left : List Kind) (g : ℕ) (own : ScrubUnit) (ro
 abbrev pub SpaceKeepsChunks : Type 0
 SpaceKeepsChunks = (a : State) (g : ℕ) (blocks : Kind → List ℕ) → SameChunks a (switched a g units.Free blocks) × SameChunks a (switched a g units.Refc blocks)
 
--- a unit whose trees hold what is derived again is good after its switch, counters too
+-- a unit whose trees, in the blocks that the entry laid, hold what is derived again is good after its switch, counters too
 abbrev pub SwitchedIsGood : Type 0
 SwitchedIsGood = (a b : State) (left : List Kind) (g : ℕ) (own : ScrubUnit) (root second : ℕ) → Splits a.geometry
-    → (s : Step a left (entries.Switched g own root second) b) → ((blocks : Kind → List ℕ) → DerivedAgain a g own blocks) → IsGood b g own
+    → (s : Step a left (entries.Switched g own root second) b) → DerivedAgain a g own s.row.0 → IsGood b g own

@@ -1,7 +1,9 @@
 ghost use Rattle.repair_laws.specs.Alike.{AlikeLaw, GoodStays};
 ghost use Rattle.repair_laws.specs.Ends.{EndsWithoutFaults, ForgetsNothing};
+ghost use Rattle.repair_laws.specs.Made.{BesideStays, ChunksStay, InodesKeepMappings, UnitIsMade};
 ghost use Rattle.repair_laws.specs.Moves.{ReleasedKeeps, SpaceKeepsChunks, SwitchedIsGood, SwitchedKeeps};
 ghost use Rattle.repair_laws.specs.Owners.{SpaceKeepsMappings};
+ghost use Rattle.repair_laws.specs.Pieces.{ElsewhereKeeps, ReapedKeeps, ReservedKeeps};
 ghost use Rattle.repair_laws.specs.Rows.{Rows};
 ghost use Rattle.repair_laws.specs.Kept.{FaultKeeps, MarkedKeeps, NoneMoves, ReplyKeeps, VerdictKeeps};
 
@@ -46,6 +48,16 @@ pub fn switched_is_good()
     ensures { SwitchedIsGood }
 {}
 
+/// A law: a switch leaves the chunks, makes its unit good, and keeps what is known beside it; of the owners that
+/// go into reverse mappings it is asked that inodes have blocks of chunks alone
+/// (XFS Online Fsck Design, "Writing the New B+Tree").
+pub fn switched_makes()
+    ensures chunks { ChunksStay }
+    ensures unit { UnitIsMade }
+    ensures beside { BesideStays }
+    ensures mappings { InodesKeepMappings }
+{}
+
 /// A law: a released reserve keeps what is known of each unit, since its blocks have the same owners in limbo
 /// (XFS Online Fsck Design, "Reaping After Repairing Ondisk Metadata").
 pub fn released_keeps()
@@ -63,4 +75,13 @@ pub fn worked_rows()
 /// (XFS Online Fsck Design, "Reaping After Repairing Ondisk Metadata").
 pub fn space_keeps_mappings()
     ensures { SpaceKeepsMappings }
+{}
+
+/// A law: a block that is reserved, of no chunk, and a run that is reaped keep all that is known of other groups,
+/// and of inodes in their own, where chunks stay and counters are words
+/// (XFS Online Fsck Design, "Reserving New B+Tree Blocks").
+pub fn pieces_keep()
+    ensures elsewhere { ElsewhereKeeps }
+    ensures reserved { ReservedKeeps }
+    ensures reaped { ReapedKeeps }
 {}

@@ -4,6 +4,6 @@
 mod laws;
 
 pub use laws::{
-    alike, ends, kept, released_keeps, space_keeps_mappings, switched_beside, switched_is_good,
-    worked_rows,
+    alike, ends, kept, pieces_keep, released_keeps, space_keeps_mappings, switched_beside,
+    switched_is_good, switched_makes, worked_rows,
 };

@@ -1,0 +1,11 @@
+use Rattle.repair_laws.proofs.Pieces.{elsewhere_keeps, reaped_keeps, reserved_keeps}
+use Rattle.repair_laws.proofs.laws.pieces_keep.Goals as goal
+
+pub returns-clause-elsewhere : goal.returns-clause-elsewhere
+returns-clause-elsewhere c = elsewhere_keeps
+
+pub returns-clause-reserved : goal.returns-clause-reserved
+returns-clause-reserved c = reserved_keeps
+
+pub returns-clause-reaped : goal.returns-clause-reaped
+returns-clause-reaped c = reaped_keeps
