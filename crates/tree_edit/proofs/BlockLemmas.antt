@@ -5,7 +5,7 @@ use Rattle.std.proofs.lemmas.Bool.Decides.{nat_tests}
 use Rattle.sblock.specs.Blocks.{AreBlocks}
 use Rattle.sblock.specs.Lists.{Each}
 use Rattle.tree_defs.specs.Lists.{In, times, AllDiffer}
-use Rattle.edit_blocks.specs.Choice.{chosen, taken, freed}
+use Rattle.edit_blocks.specs.Choice.{taken}
 use Rattle.edit_blocks.proofs.ChoiceLemmas.{times_append, each_once}
 use Rattle.redo_area.specs.Area.{Batch}
 use Rattle.join_blocks.specs.Joins.{LieBelow, OnlyThese, CountsAll, count_of}

@@ -1,7 +1,7 @@
 -- An edit that was prepared, joined and settled is one.
-use Rattle.std.proofs.Common.{◌≡◌, ◌≤◌, ◌<◌, ◌+◌, ◌*◌, ◌^◌, ℕ, true, List, ◌++◌, length, drop, Ok, [], ◌∷◌, refl, sym, ap, subst, ◌∙◌, inl, inr, arith}
+use Rattle.std.proofs.Common.{◌≡◌, ◌≤◌, ◌+◌, ℕ, true, List, ◌++◌, length, drop, Ok, [], ◌∷◌, sym, ap, subst, ◌∙◌, inl, inr, arith}
 use Rattle.std.proofs.lemmas.List.{length-take-le}
-use Rattle.std.specs.Prelude.{◌⊎◌, nat_lt, is_some, Option, Some, IfSome}
+use Rattle.std.specs.Prelude.{◌⊎◌, nat_lt, is_some, Option}
 use Rattle.blk_device.specs.Contents.{Contents}
 use Rattle.blk_device.specs.declared.device.Region.TheVariants.{Image}
 use Rattle.byte_fields.specs.declared.block.Block.{Block}
@@ -24,12 +24,11 @@ use Rattle.tree_defs.proofs.Rows.{blocks_differ_lem}
 use Rattle.edit_blocks.specs.Choice.{need_of, taken, untaken, for_list, for_limbo}
 use Rattle.edit_blocks.proofs.ChoiceLemmas.{taken_are_first}
 use Rattle.join_blocks.specs.Joins.{is_joined, count_of, placed_in, with_all, AreFound, LieBelow, OnlyThese}
-use Rattle.list_edit.specs.Edits.{edited}
 use Rattle.list_edit.specs.declared.edits.Edit.{Edit}
 use Rattle.load_trees.specs.Fit.{frame_of}
 use Rattle.redo_area.specs.declared.TheConstants.{MAX_BATCH}
 use Rattle.tree_blocks.proofs.ReadingLemmas.{told as is_told, each_told}
-use Rattle.tree_edit.specs.Anew.{root_of, AreJoined}
+use Rattle.tree_edit.specs.Anew.{AreJoined}
 use Rattle.tree_edit.specs.Device.{IsLeft, OnlyWrites}
 use Rattle.tree_edit.specs.Edited.{IsEdited, IsCounted, IsWithin, IsStamped, RefusesEdit}
 use Rattle.tree_edit.specs.Faults.{RefusesJoin}

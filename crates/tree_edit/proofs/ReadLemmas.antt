@@ -1,11 +1,11 @@
 -- A tree that was joined is read again.
-use Rattle.std.proofs.Common.{◌≡◌, ◌≤◌, ◌<◌, ◌-◌, ℕ, zero, suc, ◌+◌, List, [], ◌∷◌, ◌++◌, length, drop, refl, sym, ap, subst, ◌∙◌, inl, inr, arith, add-one, drop-cons}
+use Rattle.std.proofs.Common.{◌≡◌, ◌≤◌, ◌-◌, ℕ, zero, suc, ◌+◌, List, [], ◌∷◌, length, drop, refl, sym, ap, subst, ◌∙◌, inl, inr, arith, add-one, drop-cons}
 use Rattle.std.specs.Prelude.{unwrap_or, Option, Some, slice_index}
 use Rattle.byte_fields.specs.declared.block.Block.{Block}
 use Rattle.blk_device.specs.Contents.{Contents}
 use Rattle.blk_device.specs.declared.device.Region.TheVariants.{Image}
 use Rattle.redo_area.specs.Area.{Batch, Blocks}
-use Rattle.meta_txn.specs.Joined.{Joined, bytes_at, written}
+use Rattle.meta_txn.specs.Joined.{Joined, written}
 use Rattle.sblock.specs.Form.{Form, IsLawful}
 use Rattle.sblock.specs.declared.block.Frame.{Frame}
 use Rattle.tree_defs.specs.Levels.{blocks_of}

@@ -1,5 +1,5 @@
 -- An edit of a tree before anything is changed.
-use Rattle.std.specs.Prelude.{◌≡◌, ⊤, ◌⊎◌, ℕ, ◌+◌, List, length, Option, IfSome, Result, Ok, Err}
+use Rattle.std.specs.Prelude.{◌≡◌, ⊤, ◌⊎◌, ℕ, ◌+◌, List, length, Option, IfSome, Ok, Err}
 use Rattle.byte_fields.specs.Steps.{StepCount}
 use Rattle.blk_device.specs.Contents.{Contents}
 use Rattle.blk_device.specs.declared.device.Region.TheVariants.{Image}

@@ -1,4 +1,4 @@
-use Rattle.std.proofs.Common.{◌≡◌, true, sym, subst}
+use Rattle.std.proofs.Common.{subst}
 use Rattle.std.specs.Prelude.{OnOk, OnErr, IfErr}
 use Rattle.list_edit.specs.declared.edits.Edit.TheVariants.{Remove}
 use Rattle.tree_defs.specs.declared.site.Site.{Site}

@@ -1,10 +1,9 @@
-use Rattle.std.proofs.Common.{◌≡◌, ◌^◌, ◌+◌, ◌++◌, ℕ, List, length, ap, sym, subst, arith}
+use Rattle.std.proofs.Common.{◌^◌, ℕ, ap, sym, subst, arith}
 use Rattle.blk_device.specs.ReadingLaws.{read_on}
 use Rattle.blk_device.specs.declared.device.Region.{Region}
 use Rattle.blk_device.specs.declared.device.Region.TheVariants.{Image}
-use Rattle.join_blocks.specs.Joins.{placed_in, LieBelow, CountsAll, ReadsNew}
+use Rattle.join_blocks.specs.Joins.{placed_in, LieBelow}
 use Rattle.join_blocks.proofs.CountLemmas.{count_grows}
-use Rattle.redo_area.specs.Area.{Batch}
 use Rattle.tree_edit.proofs.BlockLemmas.{lie_first, lie_rest, only_more, only_then, counts_both, on_ok}
 use Rattle.tree_edit.proofs.join.join_both.Goals as goal
 

@@ -1,4 +1,4 @@
-use Rattle.std.proofs.Common.{◌≡◌, ◌∙◌, ◌++◌, ℕ, List, length, ap, sym, subst}
+use Rattle.std.proofs.Common.{◌∙◌, ◌++◌, ℕ, List, ap, sym, subst}
 use Rattle.join_blocks.specs.Joins.{count_of, placed_in, OnlyThese}
 use Rattle.join_blocks.proofs.CountLemmas.{counts_joined}
 use Rattle.tree_edit.proofs.join.join_tree.Goals as goal

@@ -1,5 +1,4 @@
-use Rattle.std.proofs.Common.{List, sym, subst}
-use Rattle.ag_headers.specs.Ring.{entries}
+use Rattle.std.proofs.Common.{sym, subst}
 use Rattle.sblock.specs.Blocks.{IsRising, AllInside}
 use Rattle.tree_edit.proofs.EditLemmas.{left_of_read, left_writes}
 use Rattle.tree_edit.proofs.MakeLemmas.{sound_after}
