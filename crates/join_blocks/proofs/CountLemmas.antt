@@ -6,14 +6,13 @@ use Rattle.std.specs.Result.{IsErr, IsErrAnd}
 use Rattle.byte_fields.specs.Steps.{StepCount}
 use Rattle.byte_fields.specs.declared.block.Block.{Block}
 use Rattle.redo_area.specs.Area.{Batch}
-use Rattle.redo_area.specs.Table.{rises}
 use Rattle.meta_txn.specs.Joined.{bytes_at, with_block, reads_block, IsBatch, WouldBe}
 use Rattle.meta_txn.specs.Places.{is_there}
 use Rattle.meta_txn.proofs.ListLemmas.{there_is}
 use Rattle.meta_txn.proofs.JoinedLaws.{bytes_at_with}
 use Rattle.meta_txn.specs.declared.fault.TxnFault.{TxnFault}
 use Rattle.meta_txn.specs.declared.fault.TxnFault.TheVariants.{TooMany, Failed}
-use Rattle.join_blocks.specs.Joins.{is_joined, fresh, numbers, count_of, placed_in, ReadsNew, CountsAll, CountsJoined, CountGrows}
+use Rattle.join_blocks.specs.Joins.{is_joined, fresh, numbers, count_of, placed_in, CountsJoined, CountGrows}
 
 -- one block more where its number wasn't there
 count_there : (at : ℕ) (bytes : List ℕ) (ps : Batch) → length (with_block at bytes ps) ≡ (if is_there at ps then length ps else suc (length ps))

@@ -1,14 +1,14 @@
 -- What stands at each number once blocks are joined.
-use Rattle.std.proofs.Common.{◌≡◌, ◌≤◌, ℕ, zero, suc, ◌+◌, Bool, true, false, List, [], ◌∷◌, length, refl, sym, ap, subst, ◌∙◌, inl, inr, arith, eqb-true, nat_eq}
-use Rattle.std.specs.Prelude.{◌==◌, ◌||◌, if◌then◌else◌, is_some, Option, Some, MatchOption, map}
+use Rattle.std.proofs.Common.{◌≡◌, ◌≤◌, ℕ, ◌+◌, Bool, true, false, List, [], ◌∷◌, length, refl, sym, ap, subst, ◌∙◌, inl, inr, arith, eqb-true}
+use Rattle.std.specs.Prelude.{◌==◌, if◌then◌else◌, is_some, Option, Some, MatchOption}
 use Rattle.byte_fields.specs.declared.block.Block.{Block}
 use Rattle.blk_device.specs.Contents.{Contents, Holds}
 use Rattle.blk_device.specs.declared.device.Region.TheVariants.{Image}
 use Rattle.redo_area.specs.Area.{Batch}
 use Rattle.meta_txn.specs.Joined.{bytes_at, with_block, Finds}
 use Rattle.meta_txn.proofs.JoinedLaws.{bytes_at_with}
-use Rattle.tree_defs.specs.Lists.{In, times, AllDiffer}
-use Rattle.join_blocks.specs.Joins.{is_joined, placed_in, with_all, AreFound, HaveBytes, OnlyThese, PutsEach, PutsOthers, FindsOthers, PutsAll, FindsAll, FindsKeep}
+use Rattle.tree_defs.specs.Lists.{In, times}
+use Rattle.join_blocks.specs.Joins.{is_joined, placed_in, with_all, AreFound, OnlyThese, PutsEach, PutsOthers, FindsOthers, PutsAll, FindsAll, FindsKeep}
 
 -- another number stays
 other_stays : (at n : ℕ) (bytes : List ℕ) (ps : Batch) → (n ≡ at → ⊥) → bytes_at n (with_block at bytes ps) ≡ bytes_at n ps

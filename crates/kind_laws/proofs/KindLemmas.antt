@@ -4,8 +4,8 @@ use Rattle.std.specs.Prelude.{◌&&◌, ◌||◌, not, nat_le, nat_lt}
 use Rattle.std.specs.List.{list_any}
 use Rattle.std.proofs.lemmas.Bool.Decides.{nat_tests}
 use Rattle.sblock.specs.Blocks.{AllInside}
-use Rattle.sblock.specs.Form.{Form, same_key}
-use Rattle.sblock.specs.Meets.{meets, share_block, covers, both_cover, first_of}
+use Rattle.sblock.specs.Form.{Form}
+use Rattle.sblock.specs.Meets.{meets, share_block, both_cover, first_of}
 use Rattle.sblock.specs.declared.block.Bounds.{Bounds}
 use Rattle.list_edit.specs.Edits.{bars, has_key}
 use Rattle.span_recs.specs.Spans.{bno_form, cnt_form, is_span_in_range}

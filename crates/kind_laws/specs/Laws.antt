@@ -1,11 +1,11 @@
 -- What holds of a kind of record beside its own law.
-use Rattle.std.specs.Prelude.{◌≡◌, ◌≤◌, Bool, true, List, All}
+use Rattle.std.specs.Prelude.{◌≡◌, ◌≤◌, true, List, All}
 use Rattle.std.specs.List.{list_any}
 use Rattle.sblock.specs.Blocks.{AllInside}
 use Rattle.sblock.specs.Form.{Form}
 use Rattle.sblock.specs.Meets.{meets}
 use Rattle.sblock.specs.declared.block.Bounds.{Bounds}
-use Rattle.list_edit.specs.Edits.{bars, bars_beside}
+use Rattle.list_edit.specs.Edits.{bars}
 
 module _ {R K : Type 0} (form : Form R K) where
   abbrev pub WritesEach : Type 0

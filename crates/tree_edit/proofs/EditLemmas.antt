@@ -85,7 +85,7 @@ module _ {R K : Type 0} (form : Form R K) (law : IsLawful form) (site : Site) (h
     join_refused count Missing e why = absurd why
     join_refused count Overlap e why = absurd why
     join_refused count (Short have need) e why = absurd why
-    join_refused count (TooLarge n) e why = on_told about p.was (λ c was. (p.recs, p.records, p.before, p.ready.claimed, made.left.items, was, p.edits, p.ready.chose, why.0 ∙ e ∙ ap (count_of old.blocks site.first) p.ready.touched, why.1))
+    join_refused count (TooLarge n) e why = on_told about p.was (λ c was. (p.recs, p.records, p.before, p.ready.claimed, made.left.items, made.levels, was, p.edits, p.ready.made_of.shape, p.ready.chose, why.0 ∙ e ∙ ap (count_of old.blocks site.first) p.ready.touched, why.1))
     join_refused count Failed e why = tt
     join_refused count Memory e why = tt
 
@@ -123,7 +123,7 @@ module _ {R K : Type 0} (form : Form R K) (law : IsLawful form) (site : Site) (h
           was = p.was;
           levels = made.levels;
           many = length r.claimed;
-          shape = r.made_of.shape;
+          size = r.made_of.shape;
           reads = omega (arith, reads, p.reads);
           writes = omega (arith, writes, p.writes, placed);
           moves = moves ∙ p.moves;
@@ -167,6 +167,7 @@ module _ {R K : Type 0} (form : Form R K) (law : IsLawful form) (site : Site) (h
               let read = joined_is_read form law site lsn made.levels p.records p.before listed r.claimed left made.placed.items c old new short differ r.chose r.made_of p.sound.supported all_written here in
               subst (λ (q : ℕ). (blocks : List ℕ) × (read_tree form site (group_blocks site (written (c Image) new)) q made.levels ≡ Ok (p.records, blocks)) × ((b : ℕ) → times b blocks ≡ times b r.claimed)) (sym r.root) read);
           front = taken_are_first p.before listed (length r.claimed);
+          size = r.made_of.shape;
           need = length-take-le (need_of (length p.before) (length r.claimed)) listed (omega (arith, r.need, r.enough));
           list = list_is ∙ ap (λ (k : ℕ). drop k listed ++ for_list (drop k listed) left) r.need;
           limbo = limbo_is ∙ ap (λ (k : ℕ). limbo ++ for_limbo (drop k listed) left) r.need;

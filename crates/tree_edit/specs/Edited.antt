@@ -10,12 +10,12 @@ use Rattle.sblock.specs.Form.{Form}
 use Rattle.tree_defs.specs.Lists.{In, times}
 use Rattle.tree_defs.specs.declared.site.Site.{Site}
 use Rattle.tree_blocks.specs.declared.tree.TreeAt.{TreeAt}
-use Rattle.bulk_load.specs.Shapes.{IsShape}
 use Rattle.edit_blocks.specs.Choice.{need_of, for_list, for_limbo}
 use Rattle.join_blocks.specs.Joins.{is_joined, count_of}
 use Rattle.list_edit.specs.Edits.{edited}
 use Rattle.list_edit.specs.declared.edits.Edit.{Edit}
 use Rattle.tree_edit.specs.Anew.{AreChosen}
+use Rattle.tree_edit.specs.Plans.{HasSize}
 use Rattle.tree_edit.specs.Prepared.{Held, ReadsTo, RefusesPrepared}
 use Rattle.tree_edit.specs.declared.fault.EditFault.{EditFault}
 use Rattle.tree_edit.specs.declared.fault.EditFault.TheVariants.{Bad, Missing, Overlap, Short, TooLarge, Failed, Memory}
@@ -58,6 +58,7 @@ module _ {R K : Type 0} (form : Form R K) (site : Site) (how : Edit) (rec : R) w
     pub was : IfSome told (λ c. ReadsTo form site c old recs before)
     pub is : IfSome told (λ c. All (λ r. form.is_written r ≡ true) records → (blocks : List ℕ) × ReadsTo form site c new records blocks × ((b : ℕ) → times b blocks ≡ times b after))
     pub front : old.listed ≡ taken ++ kept
+    pub size : HasSize form.kind (length records) new.levels (length after)
     pub need : length taken ≡ need_of (length before) (length after)
     pub list : new.listed ≡ kept ++ for_list kept left
     pub limbo : new.limbo ≡ old.limbo ++ for_limbo kept left
@@ -81,14 +82,14 @@ module _ {R K : Type 0} (form : Form R K) (site : Site) (how : Edit) (rec : R) w
     pub was : IfSome told (λ c. ReadsTo form site c old recs blocks)
     pub levels : ℕ
     pub many : ℕ
-    pub shape : IsShape form.kind (length records) levels many
+    pub size : HasSize form.kind (length records) levels many
     pub reads : after.reads + length old.joined.blocks ≡ before.reads + length blocks + length new.blocks
     pub writes : after.writes ≡ before.writes + many
     pub moves : after.moves ≡ before.moves
 
   -- the transaction would have so many blocks, more than a batch has
   abbrev pub IsTooLarge : Contents → Held → ℕ → Type 0
-  IsTooLarge c h n = (recs records : List R) × (blocks claimed left : List ℕ) × ReadsTo form site c h recs blocks × (edited form how rec recs ≡ Ok records) × AreChosen blocks h.listed claimed left × (n ≡ count_of h.joined.blocks site.first (claimed ++ left)) × (MAX_BATCH < n)
+  IsTooLarge c h n = (recs records : List R) × (blocks claimed left : List ℕ) × (levels : ℕ) × ReadsTo form site c h recs blocks × (edited form how rec recs ≡ Ok records) × HasSize form.kind (length records) levels (length claimed) × AreChosen blocks h.listed claimed left × (n ≡ count_of h.joined.blocks site.first (claimed ++ left)) × (MAX_BATCH < n)
 
   abbrev pub RefusesEdit : Option Contents → Held → EditFault → Type 0
   RefusesEdit told h (TooLarge n) = IfSome told (λ c. IsTooLarge c h n)

@@ -4,10 +4,9 @@ use Rattle.sblock.specs.Blocks.{AreBlocks}
 use Rattle.sblock.specs.Form.{Form}
 use Rattle.tree_defs.specs.Lists.{AllDiffer}
 use Rattle.tree_defs.specs.declared.site.Site.{Site}
-use Rattle.bulk_load.specs.Shapes.{IsShape}
 use Rattle.edit_blocks.specs.Choice.{chosen, need_of}
 use Rattle.tree_edit.specs.Anew.{root_of, AreChosen, IsMade}
-use Rattle.tree_edit.specs.Plans.{RefusesBlocks}
+use Rattle.tree_edit.specs.Plans.{HasSize, RefusesBlocks}
 use Rattle.tree_edit.specs.declared.fault.EditFault.{EditFault}
 use Rattle.tree_edit.specs.declared.fault.EditFault.TheVariants.{Bad, Missing, Overlap, Short, TooLarge, Failed, Memory}
 use Rattle.tree_edit.specs.declared.make.Made.{Made}
@@ -38,10 +37,10 @@ module _ {R K : Type 0} (form : Form R K) where
 
   -- the list is short of blocks, or the blocks aren't apart
   abbrev pub RefusesMaking : ℕ → ℕ → List ℕ → List ℕ → EditFault → Type 0
-  RefusesMaking len n before listed (Bad block fault) = (levels after : ℕ) × IsShape form.kind n levels after × ¬ AreApart len (chosen before listed after)
+  RefusesMaking len n before listed (Bad block fault) = (levels after : ℕ) × HasSize form.kind n levels after × ¬ AreApart len (chosen before listed after)
   RefusesMaking len n before listed Missing = ⊥
   RefusesMaking len n before listed Overlap = ⊥
-  RefusesMaking len n before listed (Short have need) = (levels after : ℕ) × IsShape form.kind n levels after × RefusesBlocks (length before) (length listed) after (Short have need)
+  RefusesMaking len n before listed (Short have need) = (levels after : ℕ) × HasSize form.kind n levels after × RefusesBlocks (length before) (length listed) after (Short have need)
   RefusesMaking len n before listed (TooLarge m) = ⊥
   RefusesMaking len n before listed Failed = ⊥
   RefusesMaking len n before listed Memory = ⊤

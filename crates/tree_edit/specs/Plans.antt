@@ -1,11 +1,18 @@
 -- What an edit needs, and when it is refused before anything is changed.
 use Rattle.std.specs.Prelude.{◌≡◌, ⊤, ℕ, ◌-◌, ◌^◌, ◌<◌, ◌≤◌, min, List, length, Result, Err}
+use Rattle.sblock.specs.declared.kind.Kind.{Kind}
+use Rattle.bulk_load.specs.Shapes.{IsShape}
 use Rattle.edit_blocks.specs.Choice.{chosen, need_of}
 use Rattle.list_edit.specs.declared.fault.ListFault.{ListFault}
 use Rattle.list_edit.specs.declared.fault.ListFault.TheVariants as list
 use Rattle.tree_edit.specs.declared.fault.EditFault.{EditFault}
 use Rattle.tree_edit.specs.declared.fault.EditFault.TheVariants.{Bad, Missing, Overlap, Short, TooLarge, Failed, Memory}
 use Rattle.tree_edit.specs.declared.plan.Plan.{Plan}
+
+-- How many levels and blocks a tree has once it is edited to n records. An edit writes the whole tree anew, so it has
+-- the shape of a new tree of so many. What an edit needs, frees and joins goes by this number.
+abbrev pub HasSize : Kind → ℕ → ℕ → ℕ → Type 0
+HasSize kind n levels blocks = IsShape kind n levels blocks
 
 -- the edited list's own refusal
 abbrev pub RefusesList : {A : Type 0} → Result A ListFault → EditFault → Type 0
