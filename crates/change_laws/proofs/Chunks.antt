@@ -49,7 +49,7 @@ any_gives b rs = list_any (gives_block b) rs
 alien : (b : ℕ) (r : RmapRec) → IsOther r.owner → gives_block b r ≡ false
 alien b r h = ap (λ x. x && nat_le r.start b && nat_lt b (r.start + r.count)) h
 
-put_gives : (b : ℕ) (r : RmapRec) (rs : List RmapRec) → any_gives b (put_rec r rs) ≡ (gives_block b r || any_gives b rs)
+pub put_gives : (b : ℕ) (r : RmapRec) (rs : List RmapRec) → any_gives b (put_rec r rs) ≡ (gives_block b r || any_gives b rs)
 unfolding put_rec
 put_gives b r [] = refl
 put_gives b r (x ∷ xs) = elim (is_before x r) as (λ t. any_gives b (cond t (x ∷ put_rec r xs) (r ∷ x ∷ xs)) ≡ (gives_block b r || (gives_block b x || any_gives b xs))) [
@@ -216,16 +216,20 @@ lists_in g f a h s = (elim (h == g) as (λ b. (h == g) ≡ b → SameLists (a.gr
 ]) refl
 
 -- a unit is a chunk as before where it is listed alike, and besides its cores verify alike, if it lies in its group
-pub chunk_by : (a x : State) (h u : ℕ) → x.geometry ≡ a.geometry → SameLists (a.group h) (x.group h) → (has_unit a.geometry h u ≡ true → unit_verifies a.geometry x.core h u ≡ unit_verifies a.geometry a.core h u) → is_chunk x h u ≡ is_chunk a h u
+pub unit_by : (a x : State) (h u : ℕ) → x.geometry ≡ a.geometry → lists_unit u (records_in (x.group h) Ino) ≡ lists_unit u (records_in (a.group h) Ino) → gives_unit u (records_in (x.group h) Rmap) ≡ gives_unit u (records_in (a.group h) Rmap)
+    → (has_unit a.geometry h u ≡ true → unit_verifies a.geometry x.core h u ≡ unit_verifies a.geometry a.core h u) → is_chunk x h u ≡ is_chunk a h u
 unfolding is_chunk is_listed ino_lists rmap_lists
-chunk_by a x h u g s v =
+unit_by a x h u g ino rmap v =
     ap (λ (at : Layout). (has_unit at h u && (lists_unit u (records_in (x.group h) Ino) || gives_unit u (records_in (x.group h) Rmap))) && unit_verifies at x.core h u) g
-    ∙ ap (λ b. (has_unit a.geometry h u && b) && unit_verifies a.geometry x.core h u) (ap₂ (λ i r. i || r) (s.ino u) (s.rmap u))
+    ∙ ap (λ b. (has_unit a.geometry h u && b) && unit_verifies a.geometry x.core h u) (ap₂ (λ i r. i || r) ino rmap)
     ∙ under (has_unit a.geometry h u) (lists_unit u (records_in (a.group h) Ino) || gives_unit u (records_in (a.group h) Rmap)) _ _ v
   where
     under : (i l v w : Bool) → (i ≡ true → v ≡ w) → ((i && l) && v) ≡ ((i && l) && w)
     under true l v w e = ap (λ b. l && b) (e refl)
     under false l v w e = refl
+
+pub chunk_by : (a x : State) (h u : ℕ) → x.geometry ≡ a.geometry → SameLists (a.group h) (x.group h) → (has_unit a.geometry h u ≡ true → unit_verifies a.geometry x.core h u ≡ unit_verifies a.geometry a.core h u) → is_chunk x h u ≡ is_chunk a h u
+chunk_by a x h u g s v = unit_by a x h u g (s.ino u) (s.rmap u) v
 
 pub chunks_by : (a x : State) → SameUnits a x → (h u : ℕ) → (has_unit a.geometry h u ≡ true → unit_verifies a.geometry x.core h u ≡ unit_verifies a.geometry a.core h u) → is_chunk x h u ≡ is_chunk a h u
 chunks_by a x s h u v = chunk_by a x h u s.geometry (s.lists h) v

@@ -3,6 +3,8 @@ mod Convert
 mod Covers
 mod Firsts
 mod Lists
+mod Made
+mod Making
 mod Members
 mod Pieces
 mod Rows

@@ -84,7 +84,7 @@ edit_turns : (b to_free : Bool) (i : ℕ) (p q : Group) → SameLists p q → Sa
 edit_turns true to_free i p q s = s
 edit_turns false to_free i p q s = lists_stay p
 
-bit_turned : (to_free : Bool) (i : ℕ) (p : Group) → SameLists p (turn to_free i p)
+pub bit_turned : (to_free : Bool) (i : ℕ) (p : Group) → SameLists p (turn to_free i p)
 bit_turned to_free i p =
     let q : Group = edit [] Ino (turn_inode to_free i) p in
     let f = follow_inode i (turn_inode to_free i (records_in p Ino)) in

@@ -42,7 +42,7 @@ use Rattle.change_laws.proofs.Members.{any_flat, any_same, hasc, owners_by_inode
 use Rattle.change_laws.proofs.Rows.{step_keeps_chunks}
 use Rattle.change_laws.specs.Chunks.{LeavesChunks}
 use Rattle.change_laws.specs.Owners.{inode_claims, has_claim_of}
-use Rattle.change_laws.specs.Settled.{LeavesOwners, OtherEntriesKeep, IsOwedOnce, IsNextOnce, given_next, taken_next, FinishedStepMoves, IsHeldApart, ShadowStays, ShadowFollows}
+use Rattle.change_laws.specs.Settled.{LeavesOwners, OtherEntriesKeep, IsOwedOnce, IsNextOnce, given_next, taken_next, FinishedStepMoves, IsHeldApart, ShadowBySettled, ShadowStays, ShadowFollows}
 
 -- ---- inodes that stay, with their forks
 
@@ -337,10 +337,14 @@ held_same a b left e h k (Some ino) fit s l apart =
     let g : b.geometry ≡ a.geometry = (beside.changes_one_group a b left e s).geometry in
     λ i. map tuple_of (piece_of (g i) (λ f. read_same (a.fork ino f) (b.fork ino f) (same.1 f) i) h ino k)
 
-pub shadow_stays : ShadowStays
+pub shadow_by_settled : ShadowBySettled
 unfolding shadow_of
+shadow_by_settled a b left e h cursor k held fit s l apart same =
+    ap₂ (λ ts us. set_of (filter (λ t. visited cursor t.owner) ts ++ us)) same (held_same a b left e h k held fit s l apart)
+
+pub shadow_stays : ShadowStays
 shadow_stays a b left e h cursor k held fit s l apart =
-    ap₂ (λ ts us. set_of (filter (λ t. visited cursor t.owner) ts ++ us)) (other_entries_keep a b left e h fit s l) (held_same a b left e h k held fit s (leaves_chunks a e l) apart)
+    shadow_by_settled a b left e h cursor k held fit s (leaves_chunks a e l) apart (other_entries_keep a b left e h fit s l)
 
 follows : (s o n v k : Bool) → (o ≡ true → k ≡ false) → (((((s && not o) || n) && v) || k)) ≡ ((((s && v) || k) && not (o && v)) || (n && v))
 follows s true n v true e = absurd (true≢false (e refl))

@@ -1,5 +1,5 @@
 -- Which chunks there are behind an entry ("Inode B+trees").
-use Rattle.std.specs.Prelude.{◌≡◌, ℕ, ◌/◌, ◌==◌, false, List, [], ◌∷◌, Option, Some, None}
+use Rattle.std.specs.Prelude.{◌≡◌, ℕ, ◌*◌, ◌/◌, ◌==◌, ◌&&◌, ◌||◌, true, false, List, [], ◌∷◌, Option, Some, None}
 use Rattle.fs_model.specs.declared.entry.Entry.{Entry}
 use Rattle.fs_model.specs.declared.entry.Entry.TheVariants as entries
 use Rattle.fs_model.specs.declared.unit.Unit.{Unit as ScrubUnit}
@@ -9,13 +9,14 @@ use Rattle.rmap_recs.specs.Owners.{number_of}
 use Rattle.rmap_recs.specs.Runs.{AreTuples, HaveNext}
 use Rattle.rmap_recs.specs.declared.owner.Owner.TheVariants.{Inodes}
 use Rattle.sblock.specs.declared.kind.Kind.{Kind}
+use Rattle.sblock.specs.declared.kind.Kind.TheVariants.{Ino}
 use Rattle.fs_state.specs.Apart.{is_chunk}
-use Rattle.fs_state.specs.State.{State}
+use Rattle.fs_state.specs.State.{State, is_readable}
 use Rattle.fs_state.specs.declared.intent.Intent.{Intent}
 use Rattle.fs_derive.specs.Own.{own}
 use Rattle.fs_change.specs.Changes.{owner_of_run}
 use Rattle.fs_change.specs.Laws.{OnlyChunks}
-use Rattle.fs_change.specs.Step.{Step}
+use Rattle.fs_change.specs.Step.{Step, group_of_inode}
 use Rattle.fs_change.specs.Switch.{moved}
 
 -- this isn't the owner that chunks have
@@ -42,3 +43,8 @@ LeavesChunks a e = Unit {0}
 
 abbrev pub StepKeepsChunks : Type 0
 StepKeepsChunks = (a b : State) (left : List Kind) (e : Entry) → HasFitting a.geometry → Step a left e b → LeavesChunks a e → (h u : ℕ) → is_chunk b h u ≡ is_chunk a h u
+
+-- A new chunk is one more, that of its eight blocks, and no other, where the inode btree can be read.
+abbrev pub ChunkIsMade : Type 0
+ChunkIsMade = (a b : State) (left : List Kind) (writer ino uid block : ℕ) → HasFitting a.geometry → Step a left (entries.Taken writer ino uid (Some block)) b
+    → is_readable ((a.group (group_of_inode a ino)).tree Ino).reading ≡ true → (h u : ℕ) → is_chunk b h u ≡ (is_chunk a h u || ((h == group_of_inode a ino) && (8 * u == block)))

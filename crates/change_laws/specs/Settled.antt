@@ -72,6 +72,11 @@ abbrev pub ShadowStays : Type 0
 ShadowStays = (a b : State) (left : List Kind) (e : Entry) (h cursor k : ℕ) (held : Option ℕ) → HasFitting a.geometry → Step a left e b → LeavesOwners a e → IsHeldApart a e held
     → shadow_of b h cursor held k ≡ shadow_of a h cursor held k
 
+-- so does each entry that leaves the settled owners, as first events do
+abbrev pub ShadowBySettled : Type 0
+ShadowBySettled = (a b : State) (left : List Kind) (e : Entry) (h cursor k : ℕ) (held : Option ℕ) → HasFitting a.geometry → Step a left e b → LeavesChunks a e → IsHeldApart a e held
+    → settled_forks b h ≡ settled_forks a h → shadow_of b h cursor held k ≡ shadow_of a h cursor held k
+
 -- a finished step gives a scan what it gives of visited inodes, and takes what it takes of these, and of no others
 abbrev pub ShadowFollows : Type 0
 ShadowFollows = (a b : State) (left : List Kind) (c ino g block n h cursor k : ℕ) (held : Option ℕ) → HasFitting a.geometry → c < most_chains → Step a left (entries.RmapDone c ino g block n) b

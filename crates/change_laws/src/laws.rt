@@ -1,6 +1,6 @@
 ghost use Rattle.change_laws.specs.Forks.{ConvertedKeeps, MappedKeeps, SharedKeeps, UnmappedKeeps};
-ghost use Rattle.change_laws.specs.Chunks.{StepKeepsChunks};
-ghost use Rattle.change_laws.specs.Settled.{FinishedStepMoves, OtherEntriesKeep, ShadowFollows, ShadowStays};
+ghost use Rattle.change_laws.specs.Chunks.{ChunkIsMade, StepKeepsChunks};
+ghost use Rattle.change_laws.specs.Settled.{FinishedStepMoves, OtherEntriesKeep, ShadowBySettled, ShadowFollows, ShadowStays};
 ghost use Rattle.change_laws.specs.Owners.{OwnersByInode};
 
 /// A law: of an owner that is no inode forks have no block, and of an inode those of its own forks.
@@ -55,4 +55,14 @@ pub fn shared_keeps()
 /// A law: so does a piece that becomes written, and one that was written already.
 pub fn converted_keeps()
     ensures { ConvertedKeeps }
+{}
+
+/// A law: an entry that leaves the settled owners, as a first event does, leaves what a scan has seen.
+pub fn shadow_by_settled()
+    ensures { ShadowBySettled }
+{}
+
+/// A law: an entry that makes a chunk makes one more, that of its eight blocks, and leaves all others.
+pub fn chunk_is_made()
+    ensures { ChunkIsMade }
 {}

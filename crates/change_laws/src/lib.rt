@@ -4,6 +4,7 @@
 mod laws;
 
 pub use laws::{
-    converted_keeps, finished_step_moves, mapped_keeps, other_entries_keep, owners_by_inode,
-    shadow_follows, shadow_stays, shared_keeps, step_keeps_chunks, unmapped_keeps,
+    chunk_is_made, converted_keeps, finished_step_moves, mapped_keeps, other_entries_keep,
+    owners_by_inode, shadow_by_settled, shadow_follows, shadow_stays, shared_keeps,
+    step_keeps_chunks, unmapped_keeps,
 };
