@@ -1,41 +1,30 @@
 -- Entries and chunks: what isn't of the owner of inodes lists none, and cores that verify go on verifying.
-use Rattle.std.proofs.Common.{◌≡◌, ℕ, ◌+◌, ◌-◌, ◌*◌, ◌^◌, ◌<◌, ◌≤◌, ◌==◌, ◌&&◌, ◌||◌, zero, suc, Bool, true, false, not, cond, nat_lt, nat_le, List, [], ◌∷◌, ◌++◌, map, filter, find, drop, Option, Some, None, refl, sym, ap, ap₂, subst, ◌∙◌, arith, eqb-true, eq-eqb}
-use Rattle.std.specs.Prelude.{◌/◌, ◌%◌, if◌then◌else◌}
+use Rattle.std.proofs.Common.{◌≡◌, ℕ, ◌+◌, ◌-◌, ◌*◌, ◌==◌, ◌&&◌, ◌||◌, zero, suc, Bool, true, false, cond, nat_lt, nat_le, List, [], ◌∷◌, find, Option, Some, None, refl, sym, ap, ap₂, subst, ◌∙◌, eqb-true}
 use Rattle.std.specs.List.{list_any}
-use Rattle.std.proofs.lemmas.Bool.{false≢true, true≢false, and_parts, ltb-true, lt-ltb}
-use Rattle.std.proofs.lemmas.Bool.Decides.{nat_tests}
+use Rattle.std.proofs.lemmas.Bool.{false≢true, and_parts}
 use Rattle.byte_fields.specs.Below.{all_below}
-use Rattle.fs_model.specs.declared.entry.Entry.{Entry}
-use Rattle.fs_model.specs.declared.entry.Entry.TheVariants as entries
 use Rattle.fs_model.specs.declared.entry.Extent.{Extent}
 use Rattle.fs_model.specs.declared.unit.Trust.{Trust}
-use Rattle.fs_model.specs.declared.unit.Unit.{Unit as ScrubUnit}
-use Rattle.fs_model.specs.declared.unit.Unit.TheVariants as units
-use Rattle.fs_model.specs.declared.verdict.Verdict.{Verdict}
-use Rattle.fs_model.specs.declared.verdict.Verdict.TheVariants as verdicts
-use Rattle.geom.specs.Apart.{HasFitting}
-use Rattle.geom.specs.Layout.{Layout, group_len_of, split_of, inode_at}
-use Rattle.ino_recs.specs.declared.chunk.InoRec.{InoRec}
+use Rattle.geom.specs.Layout.{Layout}
 use Rattle.rmap_recs.specs.Owners.{number_of}
 use Rattle.rmap_recs.specs.Rmap.{can_join}
 use Rattle.rmap_recs.specs.Words.{word_goes_on}
-use Rattle.rmap_recs.specs.declared.owner.Owner.TheVariants.{Ag, Inodes}
+use Rattle.rmap_recs.specs.declared.owner.Owner.TheVariants.{Inodes}
 use Rattle.rmap_recs.specs.declared.records.RmapRec.{RmapRec}
 use Rattle.run_edits.specs.Edits.{is_before, put_rec, put_if, grown, holds, rest_put, front_of, back_of, joined_before, joined_after}
 use Rattle.sblock.specs.declared.kind.Kind.{Kind}
-use Rattle.sblock.specs.declared.kind.Kind.TheVariants.{Bno, Cnt, Rmap, Refc, Ino, Fino}
-use Rattle.fs_state.specs.Apart.{verifies, ino_lists, rmap_lists, has_unit, is_listed, block_verifies, unit_verifies, is_chunk}
-use Rattle.fs_state.specs.State.{State, Group, Index, CoreState, Broken, Whole, Reading, Readable, Unreadable, recs_of}
+use Rattle.sblock.specs.declared.kind.Kind.TheVariants.{Rmap, Ino}
+use Rattle.fs_state.specs.Apart.{ino_lists, rmap_lists, has_unit, is_listed, unit_verifies, is_chunk}
+use Rattle.fs_state.specs.State.{State, Group, Reading, Readable, Unreadable, recs_of}
 use Rattle.fs_state.specs.declared.intent.Intent.{Intent}
 use Rattle.fs_state.specs.declared.intent.IntentKind.{IntentKind}
 use Rattle.fs_state.specs.declared.intent.IntentKind.TheVariants.{RmapAdd, RmapRemove, RmapChange, RefMore, RefLess, Free}
-use Rattle.fs_derive.specs.Lists.{numbers}
 use Rattle.fs_change.proofs.Alike.{gives_unit, lists_unit, recs_at}
 use Rattle.fs_change.specs.Chains.{run_of, word_taken}
 use Rattle.fs_change.specs.Changes.{do_mapping, plain_run, give_owner, take_owner}
-use Rattle.fs_change.specs.Parts.{in_group, change_tree, tree_only, with_recs, is_edited, edit, set_trust, set_trusts, records_in}
+use Rattle.fs_change.specs.Parts.{in_group, change_tree, with_recs, is_edited, edit, set_trust, set_trusts, records_in}
 use Rattle.fs_change.specs.Records.{without_first, give_mapping, take_mapping}
-use Rattle.change_laws.specs.Chunks.{IsOther, IsOthers}
+use Rattle.change_laws.specs.Chunks.{IsOther}
 
 -- ---- records of reverse mappings with another owner than inodes
 

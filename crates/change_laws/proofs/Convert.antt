@@ -1,12 +1,10 @@
 -- A piece that becomes written: it leaves its list, and is added to what is left.
-use Rattle.std.proofs.Common.{◌≡◌, ◌⊎◌, inl, inr, ℕ, ◌+◌, ◌-◌, ◌*◌, ◌^◌, ◌<◌, ◌≤◌, ◌==◌, ◌&&◌, ◌||◌, zero, suc, Bool, true, false, not, cond, nat_le, nat_lt, List, [], ◌∷◌, ◌++◌, find, flat_map, Option, Some, None, refl, sym, ap, ap₂, subst, ◌∙◌, arith, eqb-true, eq-eqb}
-use Rattle.std.specs.Prelude.{Result, if◌then◌else◌}
+use Rattle.std.proofs.Common.{◌≡◌, ◌⊎◌, inl, inr, ℕ, ◌+◌, ◌-◌, ◌*◌, ◌^◌, ◌<◌, ◌≤◌, ◌==◌, ◌&&◌, ◌||◌, Bool, true, false, not, cond, nat_le, nat_lt, List, [], ◌∷◌, ◌++◌, find, flat_map, Option, Some, None, refl, sym, ap, ap₂, subst, ◌∙◌, arith}
+use Rattle.std.specs.Prelude.{if◌then◌else◌}
 use Rattle.std.specs.List.{list_any}
 use Rattle.std.specs.Option.{option_map_or}
-use Rattle.std.proofs.lemmas.Bool.{false≢true, true≢false, and_parts, ltb-true, leb-true}
+use Rattle.std.proofs.lemmas.Bool.{false≢true, and_parts, ltb-true, leb-true}
 use Rattle.std.proofs.lemmas.Bool.Decides.{nat_tests}
-use Rattle.dinode_core.specs.declared.mapping.Fork.{Fork}
-use Rattle.dinode_core.specs.declared.mapping.ForkFault.{ForkFault}
 use Rattle.dinode_core.specs.declared.mapping.Mapping.{Mapping}
 use Rattle.fs_model.specs.declared.claim.Claim.{Claim}
 use Rattle.fs_model.specs.declared.claim.Claim.TheVariants.{Data}
@@ -18,16 +16,16 @@ use Rattle.geom.specs.Layout.{Layout, group_len_of, fs_block_of, split_of}
 use Rattle.rmap_recs.specs.Runs.{has}
 use Rattle.rmap_recs.specs.declared.tuples.Tuple.{Tuple}
 use Rattle.sblock.specs.declared.kind.Kind.{Kind}
-use Rattle.fs_state.specs.State.{State, ForkList}
+use Rattle.fs_state.specs.State.{State}
 use Rattle.fs_state.specs.declared.intent.Intent.{Intent}
 use Rattle.fs_state.specs.declared.intent.IntentKind.TheVariants.{RmapChange}
 use Rattle.fs_derive.specs.Claims.{read_fork, word_of}
 use Rattle.fs_derive.specs.Lists.{numbers, only_if}
 use Rattle.fs_change.proofs.Beside as beside
-use Rattle.fs_change.specs.Chains.{pending, given_by, taken_by, owed_gifts, owed_takings, settled_forks, tuples_of}
+use Rattle.fs_change.specs.Chains.{pending, given_by, taken_by, settled_forks, tuples_of}
 use Rattle.fs_change.specs.Changes.{converted, intent, extent_of, data_of, mapping_of, change_data}
-use Rattle.fs_change.specs.Parts.{at_only, set_chain}
-use Rattle.fs_change.specs.Records.{maps, add_mapping, take_piece, mapping_rest, mapping_at, is_piece, is_unmapped, is_unwritten_at}
+use Rattle.fs_change.specs.Parts.{set_chain}
+use Rattle.fs_change.specs.Records.{maps, add_mapping, take_piece, mapping_rest, mapping_at, is_piece, is_unwritten_at}
 use Rattle.fs_change.specs.Step.{Step}
 use Rattle.change_laws.proofs.Covers.{covers, flag_word, Place, place_of, maps_it, maps_at, maps_placed}
 use Rattle.change_laws.proofs.Firsts.{Change, any_of, begins, forks_by, run_tuples, run_owner, run_low, below_all, in_len, plain_word}

@@ -1,16 +1,13 @@
 -- Which owners a mapping has: of one, of two that are joined, and of one that is cut.
-use Rattle.std.proofs.Common.{◌≡◌, ℕ, ◌+◌, ◌-◌, ◌*◌, ◌^◌, ◌<◌, ◌≤◌, ◌==◌, ◌&&◌, ◌||◌, zero, suc, Bool, true, false, not, cond, nat_le, nat_lt, List, [], ◌∷◌, ◌++◌, map, Option, Some, None, refl, sym, ap, ap₂, subst, ◌∙◌, arith, eqb-true, eq-eqb}
-use Rattle.std.specs.Prelude.{◌/◌, ◌%◌, if◌then◌else◌}
-use Rattle.std.specs.List.{list_any}
-use Rattle.std.proofs.lemmas.Bool.{false≢true, true≢false, and_parts, lt-ltb}
+use Rattle.std.proofs.Common.{◌≡◌, ℕ, ◌+◌, ◌-◌, ◌*◌, ◌^◌, ◌<◌, ◌≤◌, ◌==◌, ◌&&◌, ◌||◌, zero, suc, Bool, true, false, cond, nat_le, nat_lt, [], map, Option, Some, None, refl, sym, ap, ap₂, subst, ◌∙◌, arith, eqb-true}
+use Rattle.std.specs.Prelude.{◌/◌, if◌then◌else◌}
+use Rattle.std.proofs.lemmas.Bool.{false≢true, and_parts, lt-ltb}
 use Rattle.std.proofs.lemmas.Bool.Decides.{nat_tests}
 use Rattle.dinode_core.specs.declared.mapping.Mapping.{Mapping}
 use Rattle.fs_model.specs.declared.claim.Claim.{Claim}
-use Rattle.geom.proofs.ApartLemmas.{splits_in}
-use Rattle.geom.specs.Apart.{HasFitting}
-use Rattle.geom.specs.Layout.{Layout, group_len_of, fs_block_of, split_of}
+use Rattle.geom.specs.Layout.{Layout, group_len_of, split_of}
 use Rattle.rmap_recs.proofs.WordLemmas.{same_sort}
-use Rattle.rmap_recs.specs.Runs.{is_same, has, tuple_at}
+use Rattle.rmap_recs.specs.Runs.{has, tuple_at}
 use Rattle.rmap_recs.specs.Words.{is_fork_data, flags_of}
 use Rattle.rmap_recs.specs.declared.records.RmapRec.{RmapRec}
 use Rattle.rmap_recs.specs.declared.tuples.Tuple.{Tuple}

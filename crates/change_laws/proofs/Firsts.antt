@@ -1,8 +1,8 @@
 -- First events, fork by fork.
-use Rattle.std.proofs.Common.{◌≡◌, ℕ, ◌+◌, ◌-◌, ◌^◌, ◌<◌, ◌≤◌, ◌==◌, ◌&&◌, ◌||◌, zero, suc, Bool, true, false, not, cond, nat_le, nat_lt, List, [], ◌∷◌, ◌++◌, map, flat_map, Option, Some, None, refl, sym, ap, ap₂, subst, ◌∙◌, arith, eqb-true, eq-eqb}
-use Rattle.std.specs.Prelude.{◌/◌, Result, Ok, Err, if◌then◌else◌}
+use Rattle.std.proofs.Common.{◌≡◌, ℕ, ◌+◌, ◌-◌, ◌^◌, ◌<◌, ◌≤◌, ◌==◌, ◌&&◌, ◌||◌, zero, suc, Bool, true, false, not, nat_le, nat_lt, List, [], ◌∷◌, ◌++◌, map, Option, Some, None, refl, sym, ap, ap₂, subst, ◌∙◌, arith, eqb-true, eq-eqb}
+use Rattle.std.specs.Prelude.{Result, Ok, if◌then◌else◌}
 use Rattle.std.specs.List.{list_any}
-use Rattle.std.proofs.lemmas.Bool.{false≢true, true≢false, and_parts, ltb-true, lt-ltb}
+use Rattle.std.proofs.lemmas.Bool.{false≢true, true≢false, and_parts}
 use Rattle.std.proofs.lemmas.Bool.Decides.{nat_tests}
 use Rattle.dinode_core.specs.ForkTree.{TreeBlock}
 use Rattle.dinode_core.specs.declared.mapping.Fork.{Fork}
@@ -13,7 +13,6 @@ use Rattle.fs_model.specs.declared.claim.Claim.{Claim}
 use Rattle.fs_model.specs.declared.claim.Claim.TheVariants.{Data, Attr, ForkTree}
 use Rattle.fs_model.specs.declared.entry.Entry.{Entry}
 use Rattle.fs_model.specs.declared.entry.Entry.TheVariants as entries
-use Rattle.fs_model.specs.declared.entry.Extent.{Extent}
 use Rattle.fs_model.specs.declared.entry.Piece.{Piece}
 use Rattle.fs_model.specs.declared.entry.SharedPiece.{SharedPiece}
 use Rattle.geom.proofs.ApartLemmas.{splits_in}
@@ -26,17 +25,17 @@ use Rattle.sblock.specs.declared.kind.Kind.{Kind}
 use Rattle.fs_state.specs.Apart.{is_inode}
 use Rattle.fs_state.specs.State.{State, ForkList}
 use Rattle.fs_state.specs.declared.intent.Intent.{Intent}
-use Rattle.fs_state.specs.declared.intent.IntentKind.TheVariants.{RmapAdd, RmapRemove, RmapChange, RefMore, RefLess}
-use Rattle.fs_derive.specs.Claims.{read_fork, fork_of, blocks_at, mapping_claims, tree_block_at, fork_tree_claims, data_claims, attribute_claims, tree_claims, word_of, attribute, unwritten}
+use Rattle.fs_state.specs.declared.intent.IntentKind.TheVariants.{RmapAdd, RmapRemove, RefMore, RefLess}
+use Rattle.fs_derive.specs.Claims.{read_fork, fork_of, blocks_at, mapping_claims, tree_block_at, fork_tree_claims, attribute_claims, tree_claims, word_of, attribute, unwritten}
 use Rattle.fs_derive.specs.Lists.{numbers, only_if}
 use Rattle.fs_change.proofs.Beside as beside
 use Rattle.fs_change.proofs.Inodes.{data_beside}
 use Rattle.fs_change.proofs.Owed.{same_at, first_event_keeps}
 use Rattle.fs_change.proofs.Sets.{has_both}
-use Rattle.fs_change.specs.Chains.{most_chains, pending, gives, takes, run_of, tuples_of, given_by, taken_by, owed_gifts, settled_forks}
-use Rattle.fs_change.specs.Changes.{mapped, unmapped, shared, intent, data_word, extent_of, data_of, mapping_of, changed_fork, change_data, take_free}
-use Rattle.fs_change.specs.Laws.{BeginsChange, fork_owners, all_given, all_taken}
-use Rattle.fs_change.specs.Parts.{at_only, in_group, data_only}
+use Rattle.fs_change.specs.Chains.{pending, gives, takes, run_of, tuples_of, given_by, owed_gifts, settled_forks}
+use Rattle.fs_change.specs.Changes.{mapped, unmapped, shared, intent, data_word, extent_of, data_of, mapping_of, changed_fork, change_data}
+use Rattle.fs_change.specs.Laws.{fork_owners, all_given, all_taken}
+use Rattle.fs_change.specs.Parts.{at_only, data_only}
 use Rattle.fs_change.specs.Records.{add_mapping, take_piece, is_unmapped, is_piece, is_unwritten_at}
 use Rattle.fs_change.specs.Step.{Step, IsFirst, is_mapping_of}
 use Rattle.change_laws.proofs.Covers.{covers, flag_word, counts_up, has_record, maps_it, maps_at}
@@ -45,8 +44,8 @@ use Rattle.change_laws.proofs.Members.{any_flat, none_any, hasc, hasc_both, hasc
 use Rattle.change_laws.proofs.Pieces.{run_has, unmapped_has, piece_lost, piece_had}
 use Rattle.change_laws.proofs.Settled.{same_inodes, open_forks, owners_by}
 use Rattle.change_laws.specs.Chunks.{LeavesChunks}
-use Rattle.change_laws.specs.Forks.{Each, LieFrom, IsPlaced, AreApart, IsSound, IsRunAt, MappedKeeps, UnmappedKeeps, SharedKeeps, shared_extent}
-use Rattle.change_laws.specs.Owners.{inode_claims, has_claim_of}
+use Rattle.change_laws.specs.Forks.{LieFrom, IsPlaced, IsSound, IsRunAt, MappedKeeps, UnmappedKeeps, SharedKeeps, shared_extent}
+use Rattle.change_laws.specs.Owners.{has_claim_of}
 
 -- ---- claims that aren't of a data fork's mappings have high words
 

@@ -6,6 +6,7 @@ mod Lists
 mod Made
 mod Making
 mod Members
+mod Newly
 mod Pieces
 mod Rows
 mod Settled

@@ -1,22 +1,15 @@
 -- Lists of mappings: one is added, or a piece leaves.
-use Rattle.std.proofs.Common.{◌≡◌, ◌⊎◌, inl, inr, ℕ, ◌+◌, ◌-◌, ◌*◌, ◌^◌, ◌<◌, ◌≤◌, ◌==◌, ◌&&◌, ◌||◌, zero, suc, Bool, true, false, not, cond, nat_le, nat_lt, List, [], ◌∷◌, ◌++◌, filter, find, flat_map, Option, Some, None, refl, sym, ap, ap₂, subst, ◌∙◌, arith, eqb-true, eq-eqb}
-use Rattle.std.specs.Prelude.{◌/◌, ◌%◌, if◌then◌else◌}
+use Rattle.std.proofs.Common.{◌≡◌, ℕ, ◌+◌, ◌<◌, ◌≤◌, ◌||◌, Bool, true, false, not, cond, nat_lt, List, [], ◌∷◌, filter, find, Option, Some, None, refl, sym, ap, ap₂, subst, ◌∙◌, arith}
 use Rattle.std.specs.List.{list_any}
 use Rattle.std.specs.Option.{option_map_or}
-use Rattle.std.proofs.lemmas.Bool.{false≢true, true≢false, and_parts, lt-ltb, ltb-true, leb-true, cases_lt}
-use Rattle.std.proofs.lemmas.Bool.Decides.{nat_tests}
+use Rattle.std.proofs.lemmas.Bool.{false≢true, true≢false}
 use Rattle.dinode_core.specs.declared.mapping.Mapping.{Mapping}
 use Rattle.fs_model.specs.declared.claim.Claim.{Claim}
-use Rattle.geom.proofs.ApartLemmas.{splits_in}
-use Rattle.geom.specs.Apart.{HasFitting}
-use Rattle.geom.specs.Layout.{Layout, group_len_of, fs_block_of, split_of}
+use Rattle.geom.specs.Layout.{Layout}
 use Rattle.rmap_recs.specs.declared.tuples.Tuple.{Tuple}
-use Rattle.fs_derive.specs.Claims.{word_of, unwritten}
-use Rattle.fs_derive.specs.Lists.{only_if}
-use Rattle.fs_change.specs.Records.{meets, maps, put_by, joined_to, with_before, add_mapping, take_piece, mapping_rest, mapping_at, is_piece, is_unmapped, is_unwritten_at}
-use Rattle.change_laws.proofs.Covers.{covers, flag_word, Place, place_of, maps_it, maps_at, maps_placed, Meeting, meeting, as_one, joined_has, joined_placed}
-use Rattle.change_laws.proofs.Members.{any_flat, any_both, or_again, IsSplit}
-use Rattle.change_laws.specs.Forks.{Each, LieFrom, IsPlaced, AreApart}
+use Rattle.fs_change.specs.Records.{meets, put_by, joined_to, with_before, add_mapping}
+use Rattle.change_laws.proofs.Covers.{maps_it, Meeting, meeting, joined_has, joined_placed}
+use Rattle.change_laws.specs.Forks.{Each, IsPlaced, AreApart}
 
 -- ---- tests of lists
 

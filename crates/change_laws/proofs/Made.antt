@@ -1,12 +1,11 @@
 -- Which chunks there are behind an entry that makes one.
-use Rattle.std.proofs.Common.{◌≡◌, ℕ, ◌+◌, ◌-◌, ◌*◌, ◌^◌, ◌<◌, ◌≤◌, ◌==◌, ◌&&◌, ◌||◌, zero, suc, Bool, true, false, not, cond, nat_lt, nat_le, List, [], ◌∷◌, ◌++◌, filter, find, Option, Some, None, refl, sym, ap, ap₂, subst, ◌∙◌, arith, eqb-true, eq-eqb}
+use Rattle.std.proofs.Common.{◌≡◌, ℕ, ◌+◌, ◌*◌, ◌<◌, ◌==◌, ◌&&◌, ◌||◌, zero, suc, Bool, true, false, not, cond, nat_lt, nat_le, List, [], ◌∷◌, ◌++◌, filter, find, Option, Some, None, refl, sym, ap, ap₂, subst, ◌∙◌, arith, eqb-true, eq-eqb}
 use Rattle.std.specs.Prelude.{◌/◌, ◌%◌, option_map, if◌then◌else◌}
 use Rattle.std.specs.List.{list_any}
 use Rattle.std.specs.Option.{option_or}
 use Rattle.std.proofs.lemmas.Bool.{false≢true, true≢false, and_parts, ltb-true, lt-ltb}
 use Rattle.std.proofs.lemmas.Bool.Decides.{nat_tests}
 use Rattle.byte_fields.specs.Below.{all_below}
-use Rattle.fs_model.specs.declared.entry.Entry.TheVariants as entries
 use Rattle.fs_model.specs.declared.entry.Extent.{Extent}
 use Rattle.geom.specs.Apart.{HasFitting}
 use Rattle.geom.specs.Layout.{Layout, group_len_of, split_of, inode_at}
@@ -14,20 +13,19 @@ use Rattle.ino_recs.specs.declared.chunk.InoRec.{InoRec}
 use Rattle.rmap_recs.specs.Owners.{number_of}
 use Rattle.rmap_recs.specs.declared.owner.Owner.TheVariants.{Inodes}
 use Rattle.rmap_recs.specs.declared.records.RmapRec.{RmapRec}
-use Rattle.sblock.specs.declared.kind.Kind.{Kind}
 use Rattle.sblock.specs.declared.kind.Kind.TheVariants.{Bno, Cnt, Rmap, Ino, Fino}
 use Rattle.fs_state.specs.Apart.{verifies, ino_lists, rmap_lists, has_unit, is_listed, block_verifies, unit_verifies, is_chunk}
-use Rattle.fs_state.specs.State.{State, Group, CoreState, Whole, Reading, Readable, Unreadable, recs_of, is_readable}
+use Rattle.fs_state.specs.State.{State, Group, CoreState, Reading, Readable, Unreadable, recs_of, is_readable}
 use Rattle.fs_derive.specs.Lists.{numbers}
 use Rattle.fs_change.proofs.Alike.{gives_unit, lists_unit}
 use Rattle.fs_change.proofs.Beside as beside
 use Rattle.fs_change.proofs.Trees.{in_itself, spaced, edited, given_owner}
 use Rattle.fs_change.specs.Changes.{taken, turn, inodes_follow, make_chunk, list_chunk, free_chunk, chunk_extent, take_free, give_owner, plain_run, core_with, file_mode}
 use Rattle.fs_change.specs.Choice.{is_usable, none_sick, space_kinds, inode_kinds, chunk_run, first_in, is_free_unit, extent, inode_of}
-use Rattle.fs_change.specs.Parts.{at_only, in_group, set_cores, is_place, with_recs, change_tree, is_edited, edit, is_sick, sick_in, records_in}
+use Rattle.fs_change.specs.Parts.{is_place, with_recs, change_tree, is_edited, edit, is_sick, sick_in, records_in}
 use Rattle.fs_change.specs.Records.{put_by, put_chunk, give_mapping}
-use Rattle.fs_change.specs.Step.{Step, Row, group_of_inode}
-use Rattle.change_laws.proofs.Chunks.{SameLists, lists_stay, gives_block, any_gives, unit_by}
+use Rattle.fs_change.specs.Step.{group_of_inode}
+use Rattle.change_laws.proofs.Chunks.{SameLists, gives_block, any_gives, unit_by}
 use Rattle.change_laws.proofs.Making.{gift_gives}
 use Rattle.change_laws.proofs.Members.{any_filter, which_below, leads_back}
 use Rattle.change_laws.proofs.Rows.{bit_turned, same_up_to}
@@ -81,7 +79,7 @@ fourth false true x y z h = absurd (false≢true h)
 fourth false false true y z h = absurd (false≢true h)
 fourth false false false true z h = absurd (false≢true h)
 
-made_at : (a : State) (gates : ℕ → Bool) (g b : ℕ) → chunk_run a gates ≡ Some (record { group = g; block = b; count = 8 }) → MadeAt a g b
+pub made_at : (a : State) (gates : ℕ → Bool) (g b : ℕ) → chunk_run a gates ≡ Some (record { group = g; block = b; count = 8 }) → MadeAt a g b
 unfolding chunk_run
 made_at a gates g b h =
     let e : Extent = record { group = g; block = b; count = 8 } in

@@ -1,26 +1,14 @@
 -- A new chunk: the unit of its eight blocks is one more, and no other.
-use Rattle.std.proofs.Common.{◌≡◌, ◌⊎◌, inl, inr, ℕ, ◌+◌, ◌-◌, ◌*◌, ◌^◌, ◌<◌, ◌≤◌, ◌==◌, ◌&&◌, ◌||◌, zero, suc, Bool, true, false, not, cond, nat_lt, nat_le, List, [], ◌∷◌, ◌++◌, filter, find, Option, Some, None, refl, sym, ap, ap₂, subst, ◌∙◌, arith, eqb-true, eq-eqb}
-use Rattle.std.specs.Prelude.{◌/◌, ◌%◌, option_map, if◌then◌else◌}
+use Rattle.std.proofs.Common.{◌≡◌, ℕ, ◌+◌, ◌<◌, ◌==◌, ◌&&◌, ◌||◌, Bool, true, false, cond, nat_lt, nat_le, List, [], ◌∷◌, find, Option, Some, None, refl, sym, ap, subst, ◌∙◌, arith, eqb-true}
 use Rattle.std.specs.List.{list_any}
-use Rattle.std.specs.Option.{option_or, option_map_or}
-use Rattle.std.proofs.lemmas.Bool.{false≢true, true≢false, and_parts, ltb-true, lt-ltb}
+use Rattle.std.specs.Option.{option_map_or}
+use Rattle.std.proofs.lemmas.Bool.{false≢true, and_parts}
 use Rattle.std.proofs.lemmas.Bool.Decides.{nat_tests}
-use Rattle.byte_fields.specs.Below.{all_below}
-use Rattle.fs_model.specs.declared.entry.Entry.TheVariants as entries
-use Rattle.fs_model.specs.declared.entry.Extent.{Extent}
-use Rattle.geom.specs.Apart.{HasFitting}
-use Rattle.geom.specs.Layout.{Layout, group_len_of, split_of, inode_at}
-use Rattle.ino_recs.specs.declared.chunk.InoRec.{InoRec}
-use Rattle.rmap_recs.specs.Owners.{number_of}
 use Rattle.rmap_recs.specs.Rmap.{can_join}
 use Rattle.rmap_recs.specs.Words.{word_goes_on}
-use Rattle.rmap_recs.specs.declared.owner.Owner.TheVariants.{Inodes}
 use Rattle.rmap_recs.specs.declared.records.RmapRec.{RmapRec}
-use Rattle.run_edits.specs.Edits.{put_rec, grown, joined, joined_before, joined_after}
-use Rattle.sblock.specs.declared.kind.Kind.{Kind}
-use Rattle.sblock.specs.declared.kind.Kind.TheVariants.{Bno, Rmap, Ino, Fino}
-use Rattle.fs_change.proofs.Alike.{gives_unit, lists_unit}
-use Rattle.fs_change.specs.Records.{put_by, without_first, give_mapping}
+use Rattle.run_edits.specs.Edits.{grown, joined, joined_before, joined_after}
+use Rattle.fs_change.specs.Records.{without_first, give_mapping}
 use Rattle.change_laws.proofs.Chunks.{gives_block, any_gives, put_gives}
 
 -- ---- one run more

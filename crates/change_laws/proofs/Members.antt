@@ -2,7 +2,7 @@
 use Rattle.std.proofs.Common.{◌≡◌, ℕ, ◌+◌, ◌*◌, ◌^◌, ◌<◌, ◌≤◌, ◌==◌, ◌&&◌, ◌||◌, zero, suc, Bool, true, false, cond, nat_lt, List, [], ◌∷◌, ◌++◌, map, filter, flat_map, Option, Some, None, refl, sym, ap, ap₂, subst, ◌∙◌, arith, eqb-true, eq-eqb}
 use Rattle.std.specs.Prelude.{◌/◌, ◌%◌}
 use Rattle.std.specs.List.{list_any}
-use Rattle.std.proofs.lemmas.Bool.{false≢true, true≢false, and_parts, ltb-true, lt-ltb}
+use Rattle.std.proofs.lemmas.Bool.{false≢true, true≢false, and_parts, ltb-true}
 use Rattle.std.proofs.lemmas.Bool.Decides.{nat_tests}
 use Rattle.std.proofs.lemmas.Nat.{div-add-mod'}
 use Rattle.dinode_core.specs.ForkTree.{TreeBlock}
@@ -22,8 +22,7 @@ use Rattle.fs_derive.specs.Chunks.{chunks, inode_in, inodes_in, inodes}
 use Rattle.fs_derive.specs.Claims.{Claimed, word_of, mapped_blocks, blocks_at, mapping_claims, tree_block_at, fork_tree_claims, data_claims, attribute_claims, tree_claims, fork_claims, fork_of, attribute}
 use Rattle.fs_derive.specs.Lists.{numbers, only_if}
 use Rattle.fs_derive.specs.Own.{tuple_of}
-use Rattle.fs_change.specs.Laws.{fork_owners}
-use Rattle.change_laws.specs.Owners.{inode_claims, has_claim_of, OwnersByInode}
+use Rattle.change_laws.specs.Owners.{inode_claims, OwnersByInode}
 
 -- ---- tests of lists
 

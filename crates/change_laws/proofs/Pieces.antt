@@ -1,6 +1,5 @@
 -- A piece leaves a list of mappings; and mappings beside a run have none of its owners.
-use Rattle.std.proofs.Common.{◌≡◌, ℕ, ◌+◌, ◌-◌, ◌*◌, ◌^◌, ◌<◌, ◌≤◌, ◌==◌, ◌&&◌, ◌||◌, zero, suc, Bool, true, false, not, cond, nat_le, nat_lt, List, [], ◌∷◌, ◌++◌, filter, find, flat_map, Option, Some, None, refl, sym, ap, ap₂, subst, ◌∙◌, arith, eqb-true, eq-eqb}
-use Rattle.std.specs.Prelude.{◌/◌, ◌%◌, if◌then◌else◌}
+use Rattle.std.proofs.Common.{◌≡◌, ℕ, ◌+◌, ◌-◌, ◌*◌, ◌^◌, ◌<◌, ◌≤◌, ◌==◌, ◌&&◌, ◌||◌, Bool, true, false, not, cond, nat_le, nat_lt, List, [], ◌∷◌, ◌++◌, find, Option, Some, None, refl, sym, ap, ap₂, ◌∙◌, arith, eqb-true}
 use Rattle.std.specs.List.{list_any}
 use Rattle.std.specs.Option.{option_map_or}
 use Rattle.std.proofs.lemmas.Bool.{false≢true, true≢false, and_parts, ltb-true, leb-true}
@@ -11,9 +10,9 @@ use Rattle.geom.proofs.ApartLemmas.{splits_in}
 use Rattle.geom.specs.Apart.{HasFitting}
 use Rattle.geom.specs.Layout.{Layout, group_len_of, fs_block_of, split_of}
 use Rattle.rmap_recs.specs.declared.tuples.Tuple.{Tuple}
-use Rattle.fs_derive.specs.Claims.{word_of, unwritten}
+use Rattle.fs_derive.specs.Claims.{word_of}
 use Rattle.fs_derive.specs.Lists.{only_if}
-use Rattle.fs_change.specs.Records.{maps, take_piece, mapping_rest, mapping_at, is_piece, is_unmapped, is_unwritten_at}
+use Rattle.fs_change.specs.Records.{maps, take_piece, mapping_rest, is_piece, is_unmapped, is_unwritten_at}
 use Rattle.change_laws.proofs.Covers.{covers, flag_word, Place, place_of, maps_it, maps_at, maps_placed}
 use Rattle.change_laws.proofs.Lists.{found_one, none_that, both_each}
 use Rattle.change_laws.proofs.Members.{any_both}

@@ -1,8 +1,7 @@
 -- Each row against chunks.
-use Rattle.std.proofs.Common.{◌≡◌, ℕ, ◌+◌, ◌-◌, ◌*◌, ◌<◌, ◌≤◌, ◌==◌, ◌&&◌, ◌||◌, zero, suc, Bool, true, false, not, cond, nat_lt, nat_le, List, [], ◌∷◌, ◌++◌, map, filter, drop, Option, Some, None, refl, sym, ap, ap₂, subst, ◌∙◌, arith, eqb-true, eq-eqb}
+use Rattle.std.proofs.Common.{◌≡◌, ℕ, ◌+◌, ◌*◌, ◌<◌, ◌==◌, ◌&&◌, ◌||◌, zero, suc, Bool, true, false, not, cond, nat_lt, nat_le, List, [], ◌∷◌, ◌++◌, filter, drop, Option, Some, None, refl, sym, ap, ap₂, subst, ◌∙◌, arith, eqb-true}
 use Rattle.std.specs.Prelude.{◌/◌, ◌%◌, if◌then◌else◌}
-use Rattle.std.specs.List.{list_any}
-use Rattle.std.proofs.lemmas.Bool.{false≢true, true≢false, and_parts, ltb-true, lt-ltb}
+use Rattle.std.proofs.lemmas.Bool.{and_parts, ltb-true}
 use Rattle.std.proofs.lemmas.Bool.Decides.{nat_tests}
 use Rattle.byte_fields.proofs.BelowLemmas.{one_fails}
 use Rattle.byte_fields.specs.Below.{all_below}
@@ -20,11 +19,10 @@ use Rattle.geom.specs.Apart.{HasFitting}
 use Rattle.geom.specs.Layout.{Layout, group_len_of, split_of, inode_at}
 use Rattle.ino_recs.specs.declared.chunk.InoRec.{InoRec}
 use Rattle.rmap_recs.specs.Owners.{number_of}
-use Rattle.rmap_recs.specs.declared.owner.Owner.TheVariants.{Ag, Inodes}
-use Rattle.rmap_recs.specs.declared.records.RmapRec.{RmapRec}
+use Rattle.rmap_recs.specs.declared.owner.Owner.TheVariants.{Ag}
 use Rattle.span_recs.specs.declared.refcount.RefcRec.{RefcRec}
 use Rattle.sblock.specs.declared.kind.Kind.{Kind}
-use Rattle.sblock.specs.declared.kind.Kind.TheVariants.{Bno, Cnt, Rmap, Refc, Ino, Fino}
+use Rattle.sblock.specs.declared.kind.Kind.TheVariants.{Rmap, Refc, Ino, Fino}
 use Rattle.fs_state.specs.Apart.{verifies, ino_lists, rmap_lists, has_unit, is_listed, block_verifies, unit_verifies, is_chunk}
 use Rattle.fs_state.specs.State.{State, Group, CoreState, Broken, Whole, Reading, Readable, Unreadable, recs_of}
 use Rattle.fs_state.specs.declared.intent.Intent.{Intent}
@@ -32,19 +30,18 @@ use Rattle.fs_derive.specs.Lists.{numbers}
 use Rattle.fs_derive.specs.Derive.{derive}
 use Rattle.fs_derive.specs.Faults.{kind_of_fault}
 use Rattle.fs_derive.specs.Kinds.{kinds_of}
-use Rattle.fs_change.proofs.Alike.{lists_unit, gives_unit, moved_listed, chunk_alike, chunk_again as inodes_again}
+use Rattle.fs_change.proofs.Alike.{lists_unit, moved_listed, chunk_alike, chunk_again as inodes_again}
 use Rattle.fs_change.proofs.Beside as beside
 use Rattle.fs_change.proofs.Mapped as rebuilt
 use Rattle.fs_change.proofs.Taking.{same_unit, taken_keeps_chunks}
 use Rattle.fs_change.proofs.Trees.{spaced, given_space, edited}
 use Rattle.fs_change.proofs.Trees as trees
-use Rattle.fs_change.specs.Changes.{mapped, unmapped, converted, shared, rmap_done, ref_done, freed, taken, given, refilled, trimmed, marked, judged, judge, reserved, released, reaped, reap_in, take_free, give_free, give_owner, take_owner, do_mapping, change_count, changes_count, new_count, turn, inodes_follow, extent_of, is_in_extent, own_new, leave, block_extent, owner_of_run, joins_no_space, leave_limbo, shares_blocks, mark_shared, freed_core, change_data, mapping_of, data_of}
-use Rattle.fs_change.specs.Loose.{Loosely}
-use Rattle.fs_change.specs.Parts.{at_only, in_group, set_core, set_cores, stands_in, is_place, with_recs, is_edited, edit, set_trust, records_in}
+use Rattle.fs_change.specs.Changes.{mapped, unmapped, converted, shared, rmap_done, ref_done, freed, given, refilled, trimmed, marked, judged, judge, reserved, released, reaped, reap_in, take_free, give_free, give_owner, take_owner, do_mapping, change_count, changes_count, new_count, turn, inodes_follow, extent_of, is_in_extent, own_new, leave, block_extent, owner_of_run, joins_no_space, leave_limbo, shares_blocks, mark_shared, freed_core, change_data, mapping_of, data_of}
+use Rattle.fs_change.specs.Parts.{at_only, in_group, set_cores, is_place, with_recs, is_edited, edit, set_trust, records_in}
 use Rattle.fs_change.specs.Records.{set_count, turn_inode, follow_inode, turned, has_inode, is_unwritten_at, add_mapping}
-use Rattle.fs_change.specs.Step.{Row, Step, group_of_entry, group_of_inode}
+use Rattle.fs_change.specs.Step.{Row, group_of_inode}
 use Rattle.fs_change.specs.Switch.{switched, moved, move_blocks, derived_in, hold, exact_counters, unit_owner, owned_by, join_limbo}
-use Rattle.change_laws.proofs.Chunks.{SameLists, SameUnits, lists_stay, lists_go_on, by_records, by_trees, owner_given, owner_taken, step_taken, trust_set, trusts_set, lists_in, chunk_by, chunks_by}
+use Rattle.change_laws.proofs.Chunks.{SameLists, SameUnits, lists_stay, lists_go_on, by_trees, owner_given, owner_taken, step_taken, trust_set, trusts_set, lists_in, chunk_by, chunks_by}
 use Rattle.change_laws.proofs.Members.{leads_back}
 use Rattle.change_laws.specs.Chunks.{IsOther, IsOthers, IsRebuiltAlike, LeavesChunks, StepKeepsChunks}
 
@@ -379,7 +376,7 @@ decided a x left (entries.Released g unit) fit r l = as_is a x _ r.1 (by_release
 decided a x left (entries.Fault g unit fault) fit r l = as_is a x _ r.2 (by_marked g (kind_of_fault fault) a)
 decided a x left (entries.Verdict g unit verdict) fit r l = as_is a x _ r.1 (by_judged g unit verdict a)
 decided a x left (entries.Switched g units.Inode root second) fit r l = as_is a x _ r.4 (by_inode_switch a g r.0)
-decided a x left (entries.Switched g units.Rmap root second) fit r l = as_is a x _ r.4 (by_rmap_switch a g r.0 (l r.0))
+decided a x left (entries.Switched g units.Rmap root second) fit r l = as_is a x _ r.4 (by_rmap_switch a g r.0 (l r.0 r.2))
 decided a x left (entries.Switched g units.Free root second) fit r l = as_is a x _ r.4 (by_other_switch a g units.Free r.0 (trees.by_switched g units.Free r.0 a Ino refl) (trees.by_switched g units.Free r.0 a Rmap refl))
 decided a x left (entries.Switched g units.Refc root second) fit r l = as_is a x _ r.4 (by_other_switch a g units.Refc r.0 (trees.by_switched g units.Refc r.0 a Ino refl) (trees.by_switched g units.Refc r.0 a Rmap refl))
 decided a x left (entries.Reaped e) fit r l = as_is a x _ r.1 (by_reaped left (owner_of_run (a.group e.group) e) e a l)

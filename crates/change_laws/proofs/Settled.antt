@@ -1,6 +1,6 @@
 -- Entries and settled owners.
-use Rattle.std.proofs.Common.{◌≡◌, ℕ, ◌+◌, ◌-◌, ◌<◌, ◌≤◌, ◌==◌, ◌&&◌, ◌||◌, Bool, true, false, not, cond, length, nat_le, nat_lt, List, [], ◌∷◌, ◌++◌, map, filter, flat_map, Option, Some, None, is_ok, refl, sym, ap, ap₂, subst, ◌∙◌, arith, eqb-true}
-use Rattle.std.specs.Prelude.{◌/◌, Result, Ok, Err, is_some, if◌then◌else◌}
+use Rattle.std.proofs.Common.{◌≡◌, ◌⊎◌, inl, inr, ℕ, ◌+◌, ◌-◌, ◌<◌, ◌==◌, ◌&&◌, ◌||◌, Bool, true, false, not, cond, length, nat_le, nat_lt, List, [], ◌∷◌, ◌++◌, map, filter, flat_map, Option, Some, None, refl, sym, ap, ap₂, subst, ◌∙◌, arith, eqb-true}
+use Rattle.std.specs.Prelude.{◌/◌, Result, Ok, Err, if◌then◌else◌}
 use Rattle.std.specs.List.{list_any}
 use Rattle.std.proofs.lemmas.Bool.{false≢true, true≢false, and_parts}
 use Rattle.std.proofs.lemmas.Bool.Decides.{nat_tests}
@@ -16,10 +16,10 @@ use Rattle.geom.specs.Layout.{Layout, split_of}
 use Rattle.rmap_recs.specs.Runs.{is_same, has}
 use Rattle.rmap_recs.specs.declared.tuples.Tuple.{Tuple}
 use Rattle.sblock.specs.declared.kind.Kind.{Kind}
-use Rattle.sblock.specs.declared.kind.Kind.TheVariants.{Refc}
+use Rattle.sblock.specs.declared.kind.Kind.TheVariants.{Refc, Ino}
 use Rattle.fs_state.specs.Apart.{is_inode, in_chunk, is_chunk}
 use Rattle.fs_state.specs.Frame.{SameFork}
-use Rattle.fs_state.specs.State.{State, Group, ForkList}
+use Rattle.fs_state.specs.State.{State, ForkList, is_readable}
 use Rattle.fs_state.specs.declared.intent.Intent.{Intent}
 use Rattle.fs_state.specs.declared.intent.IntentKind.{IntentKind}
 use Rattle.fs_state.specs.declared.intent.IntentKind.TheVariants.{RmapAdd, RmapRemove, RmapChange, RefMore, RefLess, Free}
@@ -32,13 +32,14 @@ use Rattle.fs_change.proofs.Owed.{step_moves}
 use Rattle.fs_change.proofs.Sets.{one_set, has_set, has_both, has_passing}
 use Rattle.fs_change.proofs.Settled.{in_settled}
 use Rattle.fs_change.specs.Chains.{most_chains, pending, gives, takes, tuples_in, word_taken, given_by, taken_by, owed_gifts, owed_takings, settled_forks}
-use Rattle.fs_change.specs.Changes.{intent, taken, given, reserved, rmap_done, ref_done, freed, to_free, behind, owner_of_run}
-use Rattle.fs_change.specs.Laws.{IsOther, chain_of, EndsChange, fork_owners, changes_inode, is_seen}
-use Rattle.fs_change.specs.Parts.{at_only, is_place, stands_in, sick_in, records_in}
+use Rattle.fs_change.specs.Changes.{intent, taken, given, rmap_done, ref_done, freed, to_free, behind}
+use Rattle.fs_change.specs.Laws.{IsOther, chain_of, EndsChange, fork_owners, is_seen}
+use Rattle.fs_change.specs.Parts.{at_only, is_place, no_forks, stands_in, sick_in, records_in}
 use Rattle.fs_change.specs.Records.{count_at}
 use Rattle.fs_change.specs.Scan.{visited, first_mappings, held_tuples, shadow_of}
 use Rattle.fs_change.specs.Step.{Row, Step, is_ref, group_of_inode}
-use Rattle.change_laws.proofs.Members.{any_flat, any_same, hasc, owners_by_inode}
+use Rattle.change_laws.proofs.Members.{any_flat, any_same, owners_by_inode}
+use Rattle.change_laws.proofs.Newly.{NewAt, new_at, forks_behind, no_claims}
 use Rattle.change_laws.proofs.Rows.{step_keeps_chunks}
 use Rattle.change_laws.specs.Chunks.{LeavesChunks}
 use Rattle.change_laws.specs.Owners.{inode_claims, has_claim_of}
@@ -90,27 +91,27 @@ unfolding given
 given_fork g i own a ino = refl
 
 -- an entry that leaves owners leaves the forks of all inodes
-row_forks : (a x : State) (left : List Kind) (e : Entry) → Row a left e x → LeavesOwners a e → (ino : ℕ) → is_inode a ino ≡ true → x.fork ino ≡ a.fork ino
-row_forks a x left (entries.Mapped m) r l ino is = absurd l
-row_forks a x left (entries.Unmapped m) r l ino is = absurd l
-row_forks a x left (entries.Converted m) r l ino is = absurd l
-row_forks a x left (entries.Shared m) r l ino is = absurd l
-row_forks a x left (entries.RmapDone c own g b n) r l ino is = absurd l
-row_forks a x left (entries.Taken writer own uid None) r l ino is = ap (λ (s : State). s.fork ino) r.3 ∙ taken_fork (group_of_inode a own) r.0 own uid a ino
-row_forks a x left (entries.Taken writer own uid (Some b)) r l ino is = absurd l
-row_forks a x left (entries.Given writer own) r l ino is = ap (λ (s : State). s.fork ino) r.4 ∙ given_fork (group_of_inode a own) r.0 own a ino
-row_forks a x left (entries.Reserved g unit b spare) r l ino is = (inodes.decided a x left (entries.Reserved g unit b spare) r ino (not_there a g b ino l is)).fork
-row_forks a x left (entries.RefDone c g b n more) r l ino is = (inodes.decided a x left (entries.RefDone c g b n more) r ino refl).fork
-row_forks a x left (entries.Freed c g b n kept) r l ino is = (inodes.decided a x left (entries.Freed c g b n kept) r ino refl).fork
-row_forks a x left (entries.Refilled e) r l ino is = (inodes.decided a x left (entries.Refilled e) r ino refl).fork
-row_forks a x left (entries.Trimmed e) r l ino is = (inodes.decided a x left (entries.Trimmed e) r ino refl).fork
-row_forks a x left (entries.Marked g k cause) r l ino is = (inodes.decided a x left (entries.Marked g k cause) r ino refl).fork
-row_forks a x left (entries.Released g unit) r l ino is = (inodes.decided a x left (entries.Released g unit) r ino refl).fork
-row_forks a x left (entries.Fault g unit fault) r l ino is = (inodes.decided a x left (entries.Fault g unit fault) r ino refl).fork
-row_forks a x left (entries.Verdict g unit verdict) r l ino is = (inodes.decided a x left (entries.Verdict g unit verdict) r ino refl).fork
-row_forks a x left (entries.Switched g unit root second) r l ino is = (inodes.decided a x left (entries.Switched g unit root second) r ino refl).fork
-row_forks a x left (entries.Reaped e) r l ino is = (inodes.decided a x left (entries.Reaped e) r ino refl).fork
-row_forks a x left (entries.Reply writer line code done refused begun) r l ino is = (inodes.decided a x left (entries.Reply writer line code done refused begun) r ino refl).fork
+row_forks : (a x : State) (left : List Kind) (e : Entry) → Row a left e x → LeavesOwners a e → LeavesChunks a e → (ino : ℕ) → is_inode a ino ≡ true → x.fork ino ≡ a.fork ino
+row_forks a x left (entries.Mapped m) r l c ino is = absurd l
+row_forks a x left (entries.Unmapped m) r l c ino is = absurd l
+row_forks a x left (entries.Converted m) r l c ino is = absurd l
+row_forks a x left (entries.Shared m) r l c ino is = absurd l
+row_forks a x left (entries.RmapDone d own g b n) r l c ino is = absurd l
+row_forks a x left (entries.Taken writer own uid None) r l c ino is = ap (λ (s : State). s.fork ino) r.3 ∙ taken_fork (group_of_inode a own) r.0 own uid a ino
+row_forks a x left (entries.Taken writer own uid (Some b)) r l c ino is = absurd c
+row_forks a x left (entries.Given writer own) r l c ino is = ap (λ (s : State). s.fork ino) r.4 ∙ given_fork (group_of_inode a own) r.0 own a ino
+row_forks a x left (entries.Reserved g unit b spare) r l c ino is = (inodes.decided a x left (entries.Reserved g unit b spare) r ino (not_there a g b ino l is)).fork
+row_forks a x left (entries.RefDone d g b n more) r l c ino is = (inodes.decided a x left (entries.RefDone d g b n more) r ino refl).fork
+row_forks a x left (entries.Freed d g b n kept) r l c ino is = (inodes.decided a x left (entries.Freed d g b n kept) r ino refl).fork
+row_forks a x left (entries.Refilled e) r l c ino is = (inodes.decided a x left (entries.Refilled e) r ino refl).fork
+row_forks a x left (entries.Trimmed e) r l c ino is = (inodes.decided a x left (entries.Trimmed e) r ino refl).fork
+row_forks a x left (entries.Marked g k cause) r l c ino is = (inodes.decided a x left (entries.Marked g k cause) r ino refl).fork
+row_forks a x left (entries.Released g unit) r l c ino is = (inodes.decided a x left (entries.Released g unit) r ino refl).fork
+row_forks a x left (entries.Fault g unit fault) r l c ino is = (inodes.decided a x left (entries.Fault g unit fault) r ino refl).fork
+row_forks a x left (entries.Verdict g unit verdict) r l c ino is = (inodes.decided a x left (entries.Verdict g unit verdict) r ino refl).fork
+row_forks a x left (entries.Switched g unit root second) r l c ino is = (inodes.decided a x left (entries.Switched g unit root second) r ino refl).fork
+row_forks a x left (entries.Reaped e) r l c ino is = (inodes.decided a x left (entries.Reaped e) r ino refl).fork
+row_forks a x left (entries.Reply writer line code done refused begun) r l c ino is = (inodes.decided a x left (entries.Reply writer line code done refused begun) r ino refl).fork
 
 -- from the decided state to the one behind it
 pub open_forks : (a b : State) (left : List Kind) (e : Entry) (s : Step a left e b) (ino : ℕ) → is_inode b ino ≡ true → (f : Fork) → fork_of b ino f ≡ fork_of s.decided ino f
@@ -230,7 +231,8 @@ row_owes a x left (entries.RefDone c g b n more) r l F t skips d =
 row_owes a x left (entries.Freed c g b n kept) r l F t skips d =
     ap (λ (s : State). owes F (s.chains d) t) r.6
     ∙ by_freed a left c kept (record { group = g; block = b; count = n }) r.0 r.1 F t skips r.2.next (ap gives r.3, ap takes r.3) d
-row_owes a x left (entries.Taken writer ino uid chunk) r l F t skips d = of_none a x left (entries.Taken writer ino uid chunk) r refl F t d
+row_owes a x left (entries.Taken writer ino uid None) r l F t skips d = of_none a x left (entries.Taken writer ino uid None) r refl F t d
+row_owes a x left (entries.Taken writer ino uid (Some b)) r l F t skips d = of_none a x left (entries.Taken writer ino uid (Some b)) r refl F t d
 row_owes a x left (entries.Given writer ino) r l F t skips d = of_none a x left (entries.Given writer ino) r refl F t d
 row_owes a x left (entries.Refilled e) r l F t skips d = of_none a x left (entries.Refilled e) r refl F t d
 row_owes a x left (entries.Trimmed e) r l F t skips d = of_none a x left (entries.Trimmed e) r refl F t d
@@ -255,41 +257,85 @@ settled_alike a b h gifts takings owners =
     ∙ (λ i. (owners t i && not (gifts t i)) || takings t i)
     ∙ sym (in_settled (owed_gifts a h) (owed_takings a h) (fork_owners a h) t))
 
-leaves_chunks : (a : State) (e : Entry) → LeavesOwners a e → LeavesChunks a e
-leaves_chunks a (entries.Mapped m) l = absurd l
-leaves_chunks a (entries.Unmapped m) l = absurd l
-leaves_chunks a (entries.Converted m) l = absurd l
-leaves_chunks a (entries.Shared m) l = absurd l
-leaves_chunks a (entries.RmapDone c ino g b n) l = absurd l
-leaves_chunks a (entries.RefDone c g b n more) l = l
-leaves_chunks a (entries.Freed c g b n kept) l = l
-leaves_chunks a (entries.Taken writer ino uid chunk) l = l
-leaves_chunks a (entries.Given writer ino) l = l
-leaves_chunks a (entries.Refilled e) l = l
-leaves_chunks a (entries.Trimmed e) l = l
-leaves_chunks a (entries.Marked g k cause) l = l
-leaves_chunks a (entries.Reserved g unit b spare) l = l
-leaves_chunks a (entries.Released g unit) l = l
-leaves_chunks a (entries.Fault g unit fault) l = l
-leaves_chunks a (entries.Verdict g unit verdict) l = l
-leaves_chunks a (entries.Switched g unit root second) l = l
-leaves_chunks a (entries.Reaped e) l = l
-leaves_chunks a (entries.Reply writer line code done refused begun) l = l
+-- the entry makes a chunk
+record Makes (a : State) (e : Entry) : Type 0 where
+  writer : ℕ
+  ino : ℕ
+  uid : ℕ
+  block : ℕ
+  is : e ≡ entries.Taken writer ino uid (Some block)
+  readable : is_readable ((a.group (group_of_inode a ino)).tree Ino).reading ≡ true
+
+leaves_or_makes : (a : State) (e : Entry) → LeavesOwners a e → LeavesChunks a e ⊎ Makes a e
+leaves_or_makes a (entries.Mapped m) l = absurd l
+leaves_or_makes a (entries.Unmapped m) l = absurd l
+leaves_or_makes a (entries.Converted m) l = absurd l
+leaves_or_makes a (entries.Shared m) l = absurd l
+leaves_or_makes a (entries.RmapDone c ino g b n) l = absurd l
+leaves_or_makes a (entries.RefDone c g b n more) l = inl l
+leaves_or_makes a (entries.Freed c g b n kept) l = inl l
+leaves_or_makes a (entries.Taken writer ino uid None) l = inl l
+leaves_or_makes a (entries.Taken writer ino uid (Some b)) l = inr (record { writer = writer; ino = ino; uid = uid; block = b; is = refl; readable = l })
+leaves_or_makes a (entries.Given writer ino) l = inl l
+leaves_or_makes a (entries.Refilled e) l = inl l
+leaves_or_makes a (entries.Trimmed e) l = inl l
+leaves_or_makes a (entries.Marked g k cause) l = inl l
+leaves_or_makes a (entries.Reserved g unit b spare) l = inl l
+leaves_or_makes a (entries.Released g unit) l = inl l
+leaves_or_makes a (entries.Fault g unit fault) l = inl l
+leaves_or_makes a (entries.Verdict g unit verdict) l = inl l
+leaves_or_makes a (entries.Switched g unit root second) l = inl l
+leaves_or_makes a (entries.Reaped e) l = inl l
+leaves_or_makes a (entries.Reply writer line code done refused begun) l = inl l
 
 step_owes : (a b : State) (left : List Kind) (e : Entry) → Step a left e b → LeavesOwners a e → (F : Intent → List Tuple) (t : Tuple) → Skips F t → has (flat_map F (flat_map b.chains (numbers 0 most_chains))) t ≡ has (flat_map F (flat_map a.chains (numbers 0 most_chains))) t
 step_owes a b left e s l F t skips =
     same_owed F b.chains a.chains t (λ c. ap (λ (f : ℕ → List Intent). owes F (f c) t) s.loosely.chains ∙ row_owes a s.decided left e s.row l F t skips c)
 
+-- an entry that makes a chunk leaves whose the blocks of forks are
+made_owners : (a b : State) (left : List Kind) (writer ino uid block h : ℕ) (t : Tuple) → HasFitting a.geometry → Step a left (entries.Taken writer ino uid (Some block)) b → is_readable ((a.group (group_of_inode a ino)).tree Ino).reading ≡ true
+    → has (fork_owners b h) t ≡ has (fork_owners a h) t
+made_owners a b left writer ino uid block h t fit s readable = by (stands_in a (group_of_inode a ino) block 8 t.owner) refl
+  where
+    at : b.geometry ≡ a.geometry
+    at = (beside.changes_one_group a b left (entries.Taken writer ino uid (Some block)) s).geometry
+
+    new : NewAt a b (group_of_inode a ino) block t.owner
+    new = new_at a b left writer ino uid block t.owner fit s readable
+
+    -- its forks, as they are decided
+    behind_it : (v : Bool) → stands_in a (group_of_inode a ino) block 8 t.owner ≡ v → is_inode b t.owner ≡ true → (f : Fork) → fork_of b t.owner f ≡ read_fork ((if v then no_forks else a.fork t.owner) f)
+    behind_it v k is f =
+        open_forks a b left (entries.Taken writer ino uid (Some block)) s t.owner is f
+        ∙ ap (λ (r : Fork → Result ForkList ForkFault). read_fork (r f))
+        (ap (λ (x : State). x.fork t.owner) s.row.3 ∙ forks_behind a (group_of_inode a ino) s.row.0 ino uid block t.owner ∙ ap (λ (c : Bool). if c then no_forks else a.fork t.owner) k)
+
+    neither : (x y u v : Bool) → (x ≡ true → y ≡ false) → u ≡ false → (x && y) ≡ (u && v)
+    neither true y u v p q = p refl ∙ sym (ap (λ c. c && v) q)
+    neither false y u v p q = sym (ap (λ c. c && v) q)
+
+    by : (v : Bool) → stands_in a (group_of_inode a ino) block 8 t.owner ≡ v → has (fork_owners b h) t ≡ has (fork_owners a h) t
+    by true k =
+        owners_by_inode b h t (subst HasFitting (sym at) fit)
+        ∙ neither (is_inode b t.owner) (has_claim_of b h t.owner t) (is_inode a t.owner) (has_claim_of a h t.owner t) (λ is. no_claims b h t.owner t (behind_it true k is)) (new.gone k)
+        ∙ sym (owners_by_inode a h t fit)
+    by false k = owners_by a b h t fit at (new.stay k) (λ is f. behind_it false k is f)
+
+-- each entry that leaves owners leaves these
+owners_stay : (a b : State) (left : List Kind) (e : Entry) (h : ℕ) (t : Tuple) → HasFitting a.geometry → Step a left e b → LeavesOwners a e → LeavesChunks a e ⊎ Makes a e → has (fork_owners b h) t ≡ has (fork_owners a h) t
+owners_stay a b left e h t fit s l (inl c) =
+    owners_by a b h t fit ((beside.changes_one_group a b left e s).geometry) (same_inodes a b left e t.owner fit s c) (λ is f.
+    open_forks a b left e s t.owner is f
+    ∙ ap (λ (r : Fork → Result ForkList ForkFault). read_fork (r f)) (row_forks a s.decided left e s.row l c t.owner (sym (same_inodes a b left e t.owner fit s c) ∙ is)))
+owners_stay a b left e h t fit s l (inr m) = made_owners a b left m.writer m.ino m.uid m.block h t fit (subst (λ (n : Entry). Step a left n b) m.is s) m.readable
+
 pub other_entries_keep : OtherEntriesKeep
 unfolding pending
 other_entries_keep a b left e h fit s l =
-    let g = (beside.changes_one_group a b left e s).geometry in
     settled_alike a b h
     (λ t. step_owes a b left e s l (given_by h) t (λ i p. no_gift h i p t))
     (λ t. step_owes a b left e s l (taken_by h) t (λ i p. no_taking h i p t))
-    (λ t. owners_by a b h t fit g (same_inodes a b left e t.owner fit s (leaves_chunks a e l)) (λ is f.
-    open_forks a b left e s t.owner is f
-    ∙ ap (λ (r : Fork → Result ForkList ForkFault). read_fork (r f)) (row_forks a s.decided left e s.row l t.owner (sym (same_inodes a b left e t.owner fit s (leaves_chunks a e l)) ∙ is))))
+    (λ t. owners_stay a b left e h t fit s l (leaves_or_makes a e l))
 
 -- ---- a finished step
 
@@ -329,22 +375,46 @@ piece_of at F h ino k =
     mapping_claims at h (Data ino) ino 0 d.mappings ++ mapping_claims at h (Attr ino) ino attribute t.mappings
     ++ fork_tree_claims at h ino 0 d.blocks ++ fork_tree_claims at h ino attribute t.blocks
 
-held_same : (a b : State) (left : List Kind) (e : Entry) (h k : ℕ) (held : Option ℕ) → HasFitting a.geometry → Step a left e b → LeavesChunks a e → IsHeldApart a e held → held_tuples b h held k ≡ held_tuples a h held k
-held_same a b left e h k None fit s l apart = refl
-held_same a b left e h k (Some ino) fit s l apart =
-    let is : is_inode b ino ≡ true = same_inodes a b left e ino fit s l ∙ apart.1 in
+held_same : (a b : State) (left : List Kind) (e : Entry) (h k : ℕ) (held : Option ℕ) → Step a left e b → ((ino : ℕ) → is_inode a ino ≡ true → is_inode b ino ≡ true) → IsHeldApart a e held → held_tuples b h held k ≡ held_tuples a h held k
+held_same a b left e h k None s still apart = refl
+held_same a b left e h k (Some ino) s still apart =
+    let is : is_inode b ino ≡ true = still ino apart.1 in
     let same = inodes.keeps_other_inodes a b left e s ino apart.0 is in
     let g : b.geometry ≡ a.geometry = (beside.changes_one_group a b left e s).geometry in
     λ i. map tuple_of (piece_of (g i) (λ f. read_same (a.fork ino f) (b.fork ino f) (same.1 f) i) h ino k)
 
-pub shadow_by_settled : ShadowBySettled
+shadow_same : (a b : State) (left : List Kind) (e : Entry) (h cursor k : ℕ) (held : Option ℕ) → Step a left e b → ((ino : ℕ) → is_inode a ino ≡ true → is_inode b ino ≡ true) → IsHeldApart a e held
+    → settled_forks b h ≡ settled_forks a h → shadow_of b h cursor held k ≡ shadow_of a h cursor held k
 unfolding shadow_of
+shadow_same a b left e h cursor k held s still apart same = ap₂ (λ ts us. set_of (filter (λ t. visited cursor t.owner) ts ++ us)) same (held_same a b left e h k held s still apart)
+
+-- inodes of chunks that all stay
+still_inodes : (a b : State) (left : List Kind) (e : Entry) → HasFitting a.geometry → Step a left e b → LeavesChunks a e → (ino : ℕ) → is_inode a ino ≡ true → is_inode b ino ≡ true
+still_inodes a b left e fit s l ino is = same_inodes a b left e ino fit s l ∙ is
+
+pub shadow_by_settled : ShadowBySettled
 shadow_by_settled a b left e h cursor k held fit s l apart same =
-    ap₂ (λ ts us. set_of (filter (λ t. visited cursor t.owner) ts ++ us)) same (held_same a b left e h k held fit s l apart)
+    shadow_same a b left e h cursor k held s (still_inodes a b left e fit s l) apart same
+
+-- an inode that there was is one behind an entry that makes a chunk
+still_made : (a b : State) (left : List Kind) (writer ino uid block n : ℕ) → HasFitting a.geometry → Step a left (entries.Taken writer ino uid (Some block)) b → is_readable ((a.group (group_of_inode a ino)).tree Ino).reading ≡ true
+    → is_inode a n ≡ true → is_inode b n ≡ true
+still_made a b left writer ino uid block n fit s readable is = by (stands_in a (group_of_inode a ino) block 8 n) refl
+  where
+    new : NewAt a b (group_of_inode a ino) block n
+    new = new_at a b left writer ino uid block n fit s readable
+
+    by : (v : Bool) → stands_in a (group_of_inode a ino) block 8 n ≡ v → is_inode b n ≡ true
+    by true k = absurd (true≢false (sym is ∙ new.gone k))
+    by false k = new.stay k ∙ is
+
+still_there : (a b : State) (left : List Kind) (e : Entry) → HasFitting a.geometry → Step a left e b → LeavesChunks a e ⊎ Makes a e → (ino : ℕ) → is_inode a ino ≡ true → is_inode b ino ≡ true
+still_there a b left e fit s (inl c) ino is = still_inodes a b left e fit s c ino is
+still_there a b left e fit s (inr m) ino is = still_made a b left m.writer m.ino m.uid m.block ino fit (subst (λ (n : Entry). Step a left n b) m.is s) m.readable is
 
 pub shadow_stays : ShadowStays
 shadow_stays a b left e h cursor k held fit s l apart =
-    shadow_by_settled a b left e h cursor k held fit s (leaves_chunks a e l) apart (other_entries_keep a b left e h fit s l)
+    shadow_same a b left e h cursor k held s (still_there a b left e fit s (leaves_or_makes a e l)) apart (other_entries_keep a b left e h fit s l)
 
 follows : (s o n v k : Bool) → (o ≡ true → k ≡ false) → (((((s && not o) || n) && v) || k)) ≡ ((((s && v) || k) && not (o && v)) || (n && v))
 follows s true n v true e = absurd (true≢false (e refl))
@@ -391,5 +461,5 @@ seen_after old new owners us cursor apart =
 pub shadow_follows : ShadowFollows
 unfolding shadow_of
 shadow_follows a b left c ino g block n h cursor k held fit below s l once apart old =
-    ap₂ (λ ts us. set_of (filter (is_seen cursor) ts ++ us)) (finished_step_moves a b left c ino g block n h fit below s l once) (held_same a b left (entries.RmapDone c ino g block n) h k held fit s l apart)
+    ap₂ (λ ts us. set_of (filter (is_seen cursor) ts ++ us)) (finished_step_moves a b left c ino g block n h fit below s l once) (held_same a b left (entries.RmapDone c ino g block n) h k held s (still_inodes a b left (entries.RmapDone c ino g block n) fit s l) apart)
     ∙ seen_after (taken_next h (a.chains c)) (given_next h (a.chains c)) (settled_forks a h) (held_tuples a h held k) cursor old

@@ -7,25 +7,28 @@ use Rattle.geom.specs.Apart.{HasFitting}
 use Rattle.rmap_recs.specs.Runs.{has}
 use Rattle.rmap_recs.specs.declared.tuples.Tuple.{Tuple}
 use Rattle.sblock.specs.declared.kind.Kind.{Kind}
+use Rattle.sblock.specs.declared.kind.Kind.TheVariants.{Ino}
 use Rattle.fs_state.specs.Apart.{is_inode}
-use Rattle.fs_state.specs.State.{State}
+use Rattle.fs_state.specs.State.{State, is_readable}
 use Rattle.fs_state.specs.declared.intent.Intent.{Intent}
 use Rattle.fs_derive.specs.Own.{set_of}
 use Rattle.fs_change.specs.Chains.{most_chains, given_by, taken_by, owed_gifts, owed_takings, settled_forks}
 use Rattle.fs_change.specs.Laws.{fork_owners, changes_inode, is_seen}
 use Rattle.fs_change.specs.Scan.{held_tuples, shadow_of}
-use Rattle.fs_change.specs.Step.{Step}
+use Rattle.fs_change.specs.Step.{Step, group_of_inode}
 use Rattle.change_laws.specs.Chunks.{LeavesChunks}
 
 -- ---- entries that neither begin nor end a change of mappings
 
--- entries that aren't first events, nor finished steps of reverse mappings
+-- entries that aren't first events, nor finished steps of reverse mappings; one that makes a chunk too, where the inode
+-- btree can be read: inodes of a new chunk have no mappings
 abbrev pub LeavesOwners : State → Entry → Type 0
 LeavesOwners a (entries.Mapped m) = ⊥
 LeavesOwners a (entries.Unmapped m) = ⊥
 LeavesOwners a (entries.Converted m) = ⊥
 LeavesOwners a (entries.Shared m) = ⊥
 LeavesOwners a (entries.RmapDone c ino g b n) = ⊥
+LeavesOwners a (entries.Taken writer ino uid (Some block)) = is_readable ((a.group (group_of_inode a ino)).tree Ino).reading ≡ true
 LeavesOwners a e = LeavesChunks a e
 
 -- Such an entry leaves the settled owners of all forks, in every group.
@@ -67,7 +70,8 @@ abbrev pub IsHeldApart : State → Entry → Option ℕ → Type 0
 IsHeldApart a e None = Unit {0}
 IsHeldApart a e (Some ino) = (changes_inode a e ino ≡ false) × (is_inode a ino ≡ true)
 
--- an entry that is neither leaves what a scan has seen: also one that takes an inode, or gives one back
+-- an entry that is neither leaves what a scan has seen: also one that takes an inode, out of a new chunk too, or gives one
+-- back
 abbrev pub ShadowStays : Type 0
 ShadowStays = (a b : State) (left : List Kind) (e : Entry) (h cursor k : ℕ) (held : Option ℕ) → HasFitting a.geometry → Step a left e b → LeavesOwners a e → IsHeldApart a e held
     → shadow_of b h cursor held k ≡ shadow_of a h cursor held k

@@ -15,7 +15,7 @@ pub fn step_keeps_chunks()
 {}
 
 /// A law: an entry that is neither a first event nor a finished step of reverse mappings leaves the settled
-/// owners of all forks, in every group.
+/// owners of all forks, in every group. One that makes a chunk does where the inode btree can be read.
 pub fn other_entries_keep()
     ensures { OtherEntriesKeep }
 {}
@@ -25,7 +25,7 @@ pub fn finished_step_moves()
     ensures { FinishedStepMoves }
 {}
 
-/// A law: every other such entry leaves what a scan has seen.
+/// A law: every other such entry leaves what a scan has seen, also one that makes a chunk.
 pub fn shadow_stays()
     ensures { ShadowStays }
 {}
