@@ -10,7 +10,7 @@ ghost use Rattle.tree_blocks.specs.Reading.{is_failed};
 ghost use Rattle.tree_find.specs.Meets.{Meets};
 ghost use Rattle.inode_scan.specs.Search.{Rise};
 ghost use Rattle.inode_scan.specs.NextInode.{IsRightNext};
-ghost use Rattle.inode_scan.specs.Cursor.{is_visited, first_number as first_number_of, numbers_in as numbers_of, start_in as start_of, next_in_tree as next_of_tree, next_in_trees, reads_in_tree as reads_of_tree, reads_in_trees, IsInoTree, AllInoTrees};
+ghost use Rattle.inode_scan.specs.Cursor.{is_visited, first_number as first_number_of, numbers_in as numbers_of, start_in as start_of, next_in_tree as next_of_tree, next_in_trees, reads_in_tree as reads_of_tree, reads_in_trees as all_reads, IsInoTree, AllInoTrees};
 
 use crate::tree::next_in_group;
 use blk_cache::BlkCache;
@@ -129,7 +129,7 @@ impl Cursor {
         ensures cause { HasCause is_failed (D.faults dev.old) (D.faults dev.new) result }
         ensures agrees { AgreesTold cache.new (D.content dev.new) }
         ensures counted { IfSome (D.content dev.old)
-            (λ m. Rise result steps.old.reads steps.new.reads (reads_in_trees (layout geo.now) (m Image) self.now.at trees.now)) }
+            (λ m. Rise result steps.old.reads steps.new.reads (all_reads (layout geo.now) (m Image) self.now.at trees.now)) }
     {
         let at = self.at;
         let mut rest = trees;

@@ -19,14 +19,14 @@ use Rattle.run_edits.proofs.SortLemmas.{put_sorted, put_if_sorted, filter_sorted
 to_le : (a b : ℕ) → a ≤ b → nat_le a b ≡ true
 to_le a b h = grind (arith, nat_tests)
 
-from_lt : (a b : ℕ) → nat_lt a b ≡ true → a < b
+pub from_lt : (a b : ℕ) → nat_lt a b ≡ true → a < b
 from_lt a b h = grind (arith, nat_tests)
 
 three : (a b f c : Bool) → a ≡ true → b ≡ true → (f ≡ true → c ≡ true) → (a && b && (not f || c)) ≡ true
 three a b true c h i j = rw (h, i, j refl) refl
 three a b false c h i j = rw (h, i) refl
 
-end_by : (r : RmapRec) → 1 ≤ r.count → r.start + r.count < 2 ^ 32 → (is_fork_data r.owner r.word ≡ true → offset_of r.word + r.count ≤ 2 ^ 54) → HasRoom r
+pub end_by : (r : RmapRec) → 1 ≤ r.count → r.start + r.count < 2 ^ 32 → (is_fork_data r.owner r.word ≡ true → offset_of r.word + r.count ≤ 2 ^ 54) → HasRoom r
 unfolding has_end
 end_by r some ends offsets = (
   three (nat_le 1 r.count) (nat_le (r.start + r.count) (2 ^ 32)) (is_fork_data r.owner r.word) (nat_le (offset_of r.word + r.count) (2 ^ 54))
@@ -103,7 +103,7 @@ all_by recs each = λ k d within. each (get_or recs k d) (at_place recs k d with
 put_rooms : (m : RmapRec) (recs : List RmapRec) → HasRoom m → All HasRoom recs → All HasRoom (put_rec m recs)
 put_rooms m recs room all = all_by (put_rec m recs) (λ q c. elim (put_has m recs q c) [ inl same ↦ subst HasRoom same room | inr old ↦ has_room_at recs all q old ])
 
-filter_rooms : (p : RmapRec → Bool) (recs : List RmapRec) → All HasRoom recs → All HasRoom (filter p recs)
+pub filter_rooms : (p : RmapRec → Bool) (recs : List RmapRec) → All HasRoom recs → All HasRoom (filter p recs)
 filter_rooms p recs all = all_by (filter p recs) (λ q c. has_room_at recs all q (filtered p recs q c).0)
 
 pub give_rooms : (recs : List RmapRec) → All HasRoom recs → (r : RmapRec) → HasRoom r → All HasRoom (give_run r recs)
@@ -135,7 +135,7 @@ module _ (p r : RmapRec) (room : HasRoom p) (some : 1 ≤ r.count) (holds_it : h
   sort : is_fork_data r.owner r.word ≡ is_fork_data p.owner p.word
   sort = ap (λ (o : ℕ). is_fork_data o r.word) (eqb-true r.owner p.owner each.2) ∙ same_sort p.owner r.word p.word flags
 
-  front_room : p.start < r.start → HasRoom (front_of p r)
+  pub front_room : p.start < r.start → HasRoom (front_of p r)
   front_room before =
       let at = ends_in in
       let fits = room.1 in
@@ -158,7 +158,7 @@ module _ (p r : RmapRec) (room : HasRoom p) (some : 1 ≤ r.count) (holds_it : h
       )
   behind_by inside false is = (sort, λ h. absurd (false≢true (sym is ∙ sort ∙ h)))
 
-  back_room : r.start + r.count < p.start + p.count → HasRoom (back_of p r)
+  pub back_room : r.start + r.count < p.start + p.count → HasRoom (back_of p r)
   back_room inside =
       let both = behind_by inside (is_fork_data r.owner r.word) refl in
       room_by (back_of p r) p (record { some = omega (arith, inside); ends = omega (arith, inside); sort = both.0; offsets = both.1 }) room
@@ -205,14 +205,14 @@ put_if_length : (b : Bool) (m : RmapRec) (xs : List RmapRec) → length (put_if 
 put_if_length true m xs = let e = put_length m xs in omega (arith, e)
 put_if_length false m xs = omega arith
 
-fewer : (p : RmapRec → Bool) (xs : List RmapRec) → length (filter p xs) ≤ length xs
+pub fewer : (p : RmapRec → Bool) (xs : List RmapRec) → length (filter p xs) ≤ length xs
 fewer p [] = omega arith
 fewer p (x ∷ xs) = elim (p x) as (λ b. length (cond b (x ∷ filter p xs) (filter p xs)) ≤ length (x ∷ xs)) [
   | true ↦ let rest = fewer p xs in omega (arith, rest)
   | false ↦ let rest = fewer p xs in omega (arith, rest)
 ]
 
-one_less : (q : RmapRec → Bool) (xs : List RmapRec) (o : Option RmapRec) (p : RmapRec) → find q xs ≡ o → o ≡ Some p → length (filter (λ x. not (q x)) xs) + 1 ≤ length xs
+pub one_less : (q : RmapRec → Bool) (xs : List RmapRec) (o : Option RmapRec) (p : RmapRec) → find q xs ≡ o → o ≡ Some p → length (filter (λ x. not (q x)) xs) + 1 ≤ length xs
 one_less q [] o p found is = cc
 one_less q (x ∷ xs) o p found is = (elim (q x) as (λ b. cond b (Some x) (find q xs) ≡ o → length (cond (not b) (x ∷ filter (λ y. not (q y)) xs) (filter (λ y. not (q y)) xs)) + 1 ≤ length (x ∷ xs)) [
   | true ↦ λ h. let rest = fewer (λ y. not (q y)) xs in omega (arith, rest)

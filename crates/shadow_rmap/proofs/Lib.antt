@@ -1,2 +1,4 @@
+pub mod HullLemmas
 pub mod NextLemmas
 pub mod ToldLemmas
+pub mod UnionLemmas

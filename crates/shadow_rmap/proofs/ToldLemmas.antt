@@ -11,7 +11,7 @@ use Rattle.rmap_recs.specs.Runs.{AreRuns, is_tuple_before, tuple_key, tuple_at}
 use Rattle.rmap_recs.specs.declared.records.RmapRec.{RmapRec}
 use Rattle.rmap_recs.specs.declared.tuples.Tuple.{Tuple}
 use Rattle.rmap_recs.proofs.RisingLemmas.{nothing_in, in_front, in_either, mapped, kept_by_map}
-use Rattle.run_edits.specs.EditLaws.{IsOf, AreGiven, AreTaken, AreUntied}
+use Rattle.run_edits.specs.EditLaws.{IsOf, AreUntied}
 use Rattle.run_edits.specs.Pieces.{tuples_of}
 use Rattle.run_edits.proofs.TupleLemmas.{have_tuples}
 use Rattle.live_hooks.specs.Heard.{Inode, Owned, owned_at, owned_by, tuples_in, AreOrdered, AreAdded}
@@ -20,6 +20,7 @@ use Rattle.live_hooks.specs.declared.records.GroupRec.{GroupRec}
 use Rattle.shadow_rmap.specs.Kept.{Kept, Keeps}
 use Rattle.shadow_rmap.specs.Told.{KeepsOwn}
 use Rattle.shadow_rmap.specs.ToldLaws.{from_tuples, in_tuples, own_alike, untied_alike}
+use Rattle.shadow_rmap.specs.Union.{AreUnion, AreLeft}
 
 -- a record's blocks are those of its tuples
 pub in_record : (v : Inode) (r : GroupRec) (t : Tuple) → IsOf r.rec t → Contains (owned_by v r) (owned_at v r.group t)
@@ -98,12 +99,11 @@ module _ (v : Inode) (r : GroupRec) (os ps : List Owned) (added : AreAdded (owne
           | inr old ↦ inl (subst (Contains (tuples_in g os)) at.3 (in_tuples g os at.0 old at.2))
         ]
 
-    pub are_given : AreGiven (tuples_in g os) (tuples_in g ps) r.rec
-    are_given = record { new = never_both; kept = is_kept; given = is_given; only = is_only }
+    pub are_given : AreUnion (tuples_in g os) (tuples_in g ps) r.rec
+    are_given = record { kept = is_kept; given = is_given; only = is_only }
 
-    pub are_taken : AreTaken (tuples_in g ps) (tuples_in g os) r.rec
+    pub are_taken : AreLeft (tuples_in g ps) (tuples_in g os) r.rec
     are_taken = record {
-      there = is_given;
       kept = λ t c other. elim (is_only t c) [ inl old ↦ old | inr of ↦ absurd (other of) ];
       only = λ t c. (is_kept t c, λ of. never_both t of c);
     }
@@ -145,10 +145,10 @@ module _ (v : Inode) (r : GroupRec) (os ps : List Owned) (added : AreAdded (owne
         ]
 
 abbrev pub Gives : Kept → Kept → RmapRec → Type 0
-Gives old new r = (ts us : List Tuple) → AreUntied us → AreGiven ts us r → Keeps ts old → Keeps us new
+Gives old new r = (ts us : List Tuple) → AreUntied us → AreUnion ts us r → Keeps ts old → Keeps us new
 
 abbrev pub Takes : Kept → Kept → RmapRec → Type 0
-Takes old new r = (ts us : List Tuple) → AreUntied us → AreTaken ts us r → Keeps ts old → Keeps us new
+Takes old new r = (ts us : List Tuple) → AreUntied us → AreLeft ts us r → Keeps ts old → Keeps us new
 
 moved_in : (g : ℕ) (s : Kept) → s.group ≡ g → (os : List Owned) → AreUntied (tuples_in g os) → Keeps (tuples_in g os) s → KeepsOwn s os
 moved_in g s is os untied keeps = record {

@@ -2,3 +2,4 @@ pub mod Inner
 pub mod Kept
 pub mod Told
 pub mod ToldLaws
+pub mod Union

@@ -3,5 +3,6 @@
 
 mod listening;
 mod shadow;
+mod union;
 
 pub use shadow::Shadow;

@@ -1,8 +1,8 @@
 ghost use Rattle.std.specs.Prelude.{◌≡◌};
 ghost use Rattle.shadow_rmap.specs.Kept.{is_behind as is_behind_of};
 
+use crate::union;
 use rmap_recs::{Key, Memory, RmapKind, RmapRec};
-use run_edits::{give, take};
 use sblock::RecKind;
 use std::alloc::Global;
 use std::marker::Model;
@@ -42,9 +42,10 @@ fn is_behind(after: &Option<Key>, rec: &RmapRec) -> bool
 impl Shadow {
     ghost use Rattle.std.specs.Prelude.{◌≤◌, ◌+◌, List, [], IfOk, OnOk, OnErr};
     ghost use Rattle.rmap_recs.specs.declared.tuples.Tuple.{Tuple};
-    ghost use Rattle.run_edits.specs.EditLaws.{AreGiven, AreTaken, AreUntied};
-    ghost use Rattle.run_edits.specs.Edits.{HasRoom, give_run, take_run};
+    ghost use Rattle.run_edits.specs.EditLaws.{AreUntied};
+    ghost use Rattle.run_edits.specs.Edits.{HasRoom};
     ghost use Rattle.shadow_rmap.specs.Kept.{Keeps, first_behind, NextRun};
+    ghost use Rattle.shadow_rmap.specs.Union.{AreLeft, AreUnion, add_run, remove_run};
 
     /// An empty shadow of the group of this number.
     pub fn new(alloc: Global, group: u32) -> Result<Self, Memory>
@@ -64,33 +65,32 @@ impl Shadow {
         self.group
     }
 
-    /// Puts in the tuples of a record, of which none is there: it joins the runs that it goes on
-    /// from and that go on from it. Where some are there already, the record is put in all the same,
-    /// and the list is no set's maximal runs any more. Without memory all stays.
+    /// Puts in the tuples of a record; those that are there already stay. It joins the runs that have
+    /// some of them, that it goes on from and that go on from it. Without memory all stays.
     pub fn add(&mut self, rec: &RmapRec) -> Result<(), Memory>
         requires { HasRoom rec.now }
-        ensures kept { OnOk result ((ts us : List Tuple) → AreUntied us → AreGiven ts us rec.now → Keeps ts self.old → Keeps us self.new) }
-        ensures list { OnOk result (self.new.runs ≡ give_run rec.now self.old.runs) }
+        ensures kept { OnOk result ((ts us : List Tuple) → AreUntied us → AreUnion ts us rec.now → Keeps ts self.old → Keeps us self.new) }
+        ensures list { OnOk result (self.new.runs ≡ add_run rec.now self.old.runs) }
         ensures group { self.new.group ≡ self.old.group }
         ensures refused { OnErr result (self.new.runs ≡ self.old.runs) }
         ensures room { self.old.room ≤ self.new.room + 1 }
         ensures full { OnErr result (self.old.room ≡ 0) }
     {
-        Ok(give(&mut self.runs, rec)?)
+        Ok(union::add(&mut self.runs, rec)?)
     }
 
-    /// Takes out the tuples of a record, all of which are there: of the run that has them, what lies
-    /// before and behind stays. Without memory all stays.
+    /// Takes out those tuples of a record that are there: of the runs that have them, what lies before
+    /// and behind stays. Without memory all stays.
     pub fn remove(&mut self, rec: &RmapRec) -> Result<(), Memory>
         requires { HasRoom rec.now }
-        ensures kept { OnOk result ((ts us : List Tuple) → AreUntied us → AreTaken ts us rec.now → Keeps ts self.old → Keeps us self.new) }
-        ensures list { OnOk result (self.new.runs ≡ take_run rec.now self.old.runs) }
+        ensures kept { OnOk result ((ts us : List Tuple) → AreUntied us → AreLeft ts us rec.now → Keeps ts self.old → Keeps us self.new) }
+        ensures list { OnOk result (self.new.runs ≡ remove_run rec.now self.old.runs) }
         ensures group { self.new.group ≡ self.old.group }
         ensures refused { OnErr result (self.new.runs ≡ self.old.runs) }
         ensures room { self.old.room ≤ self.new.room + 1 }
         ensures full { OnErr result (self.old.room ≡ 0) }
     {
-        Ok(take(&mut self.runs, rec)?)
+        Ok(union::remove(&mut self.runs, rec)?)
     }
 
     /// The first maximal run behind a key, or the first of all; none where there is none left. So a
