@@ -26,8 +26,9 @@ use space_check::Halt;
 use std::alloc::Global;
 use std::sync::ledger::Ledger;
 
-// Why a unit isn't judged.
-fn halt_of(stop: PassStop) -> Halt
+/// What a pass over inodes that stopped is to a check: the device failed, or there was no memory
+/// (XFS Online Fsck Design, "Inode Scans").
+pub fn halt_of(stop: PassStop) -> Halt
     ensures failed { is_failed result ≡ is_failed_pass stop }
     ensures outside { IsOutside result }
 {

@@ -1,6 +1,6 @@
 -- What a pass over the forks of inodes has found, by the state that the image stands for.
 use Rattle.std.specs.Global.{Vec}
-use Rattle.std.specs.Prelude.{◌≡◌, ℕ, zero, suc, ◌+◌, ◌*◌, ◌<◌, All, List, [], ◌∷◌, length, map, flat_map, Option, Some, None}
+use Rattle.std.specs.Prelude.{◌≡◌, ⊤, ℕ, zero, suc, ◌+◌, ◌*◌, ◌<◌, All, List, [], ◌∷◌, length, map, flat_map, Option, Some, None}
 use Rattle.fs_derive.specs.Chunks.{chunks}
 use Rattle.fs_derive.specs.Contradiction.{bad_fork, first_bad_fork}
 use Rattle.fs_derive.specs.Lists.{first_of_all, numbers}
@@ -63,6 +63,11 @@ pub record AreForkClaims (a : State) (sets : List ClaimSet) : Type 0 where
 abbrev pub AreForksOf : State → ForksSeen → Type 0
 AreForksOf a (Claims sets) = AreForkClaims a sets.items
 AreForksOf a (GaveUp evidence) = first_bad_fork a ≡ Some evidence
+
+-- as many sets as groups
+abbrev pub HasSets : ℕ → ForksSeen → Type 0
+HasSets n (Claims sets) = length sets.items ≡ n
+HasSets n (GaveUp evidence) = ⊤
 
 -- the answer is of the state that the image stands for right after it was opened, where the lists are its chunks
 abbrev pub IsPass : Layout → List (Vec ℕ) → Image → ForksSeen → Type 0

@@ -3,7 +3,7 @@ ghost use Rattle.blk_device.specs.Causes.{HasCause};
 ghost use Rattle.blk_device.specs.Contents.{Contents};
 ghost use Rattle.blk_device.specs.Reading.{OnlyRead};
 ghost use Rattle.blk_device.specs.declared.device.Region.TheVariants.{Image};
-ghost use Rattle.fork_pass.specs.Passed.{AreChunks, ArePassed, IsPass, LieInGroups, inodes_from};
+ghost use Rattle.fork_pass.specs.Passed.{AreChunks, ArePassed, HasSets, IsPass, LieInGroups, inodes_from};
 ghost use Rattle.geom.specs.Places.{layout};
 ghost use Rattle.inode_pass.specs.Stops.{is_failed};
 ghost use Rattle.inode_pass.specs.Units.{opened_state};
@@ -71,6 +71,7 @@ pub fn read_forks<D: Device, L: Ledger>(
     requires inside { LieInGroups (layout geo.now) chunks.now }
     requires room { geo.now.dblocks ≤ D.blocks dev.old Image }
     ensures exact { IfOk result (λ seen. (c : Contents) → D.content dev.old ≡ Some c → IsPass (layout geo.now) chunks.now (c Image) seen) }
+    ensures groups { IfOk result (HasSets geo.now.agcount) }
     ensures reading { OnlyRead D.Device dev.old dev.new steps.old steps.new }
     ensures cause { HasCause is_failed (D.faults dev.old) (D.faults dev.new) result }
 {

@@ -26,3 +26,9 @@ returns-in-None-clause-exact g c = λ m e p.
     let claims = claims_put a c.args.geo.now.agcount inos c.deref_mut.result.now c.pass_groups.new.sets (whole_pass (layout c.args.geo.now) a c.args.chunks.now refl p) fresh refl passed in
     let long : length c.pass_groups.new.sets ≡ c.in_ok-sets.sets.len = omega (arith, c.pass_groups.ensures.groups, c.deref_mut.ensures.len) in
     subst (λ (xs : List ClaimSet). AreForkClaims a xs) (sym (whole_sets c.in_ok-sets.sets.len c.pass_groups.new.sets (drop (length c.pass_groups.new.sets) c.in_ok-sets.sets.items) long)) claims
+
+pub returns-in-None-clause-groups : goal.returns-in-None-clause-groups
+returns-in-None-clause-groups g c =
+    let fresh = subst (λ (xs : List ClaimSet). AreFresh c.args.geo.now.agcount xs) (sym c.deref_mut.ensures.value) c.in_ok-sets.ensures.fresh in
+    let long : length c.pass_groups.new.sets ≡ c.in_ok-sets.sets.len = omega (arith, c.pass_groups.ensures.groups, c.deref_mut.ensures.len) in
+    subst (λ (xs : List ClaimSet). length xs ≡ c.args.geo.now.agcount) (sym (whole_sets c.in_ok-sets.sets.len c.pass_groups.new.sets (drop (length c.pass_groups.new.sets) c.in_ok-sets.sets.items) long)) (c.pass_groups.ensures.groups ∙ fresh.long)

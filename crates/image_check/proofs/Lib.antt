@@ -1,0 +1,10 @@
+pub mod AllLemmas
+pub mod ChunkLemmas
+pub mod EndLemmas
+pub mod FallenLemmas
+pub mod ForkLemmas
+pub mod ListLemmas
+pub mod MapLemmas
+pub mod PieceLemmas
+pub mod SetLemmas
+pub mod WholeLemmas

@@ -1,0 +1,21 @@
+use Rattle.std.proofs.Common.{◌∙◌, ℕ, Option, Some, subst, sym}
+use Rattle.blk_device.specs.declared.device.Region.TheVariants.{Image}
+use Rattle.check_phases.specs.Phases.{Mappings, lacks_inodes}
+use Rattle.geom.specs.Places.{layout}
+use Rattle.inode_pass.specs.Units.{opened_state}
+use Rattle.image_check.proofs.AllLemmas.{of_whole}
+use Rattle.image_check.proofs.FallenLemmas.{all_pass}
+use Rattle.image_check.specs.Checked.{ChecksAll}
+use Rattle.image_check.proofs.image.check_all_mappings.Goals as goal
+
+pub returns-in-Some-clause-exact : goal.returns-in-Some-clause-exact
+returns-in-Some-clause-exact g c = λ m e.
+    subst (λ (o : Option ℕ). ChecksAll (layout c.args.geo.now) (m Image) o c.args.tally.now c.skip_part.new.tally c.skip_part.result) (sym c.in-Some.is)
+    (of_whole (opened_state (layout c.args.geo.now) (m Image)) Mappings (lacks_inodes (Some c.in-Some.g)) c.whole.result c.args.geo.now.agcount c.args.tally.now c.skip_part.new.tally c.skip_part.result c.whole.ensures.from c.whole.ensures.to (c.skip_part.ensures.exact (opened_state (layout c.args.geo.now) (m Image))))
+
+pub check_by_forks-requires-clause-passed : goal.check_by_forks-requires-clause-passed
+check_by_forks-requires-clause-passed g c = λ m e. all_pass (layout c.args.geo.now) (m Image) (sym (c.requires.first m e) ∙ c.in-None.is)
+
+pub returns-in-None-clause-exact : goal.returns-in-None-clause-exact
+returns-in-None-clause-exact g c = λ m e.
+    subst (λ (o : Option ℕ). ChecksAll (layout c.args.geo.now) (m Image) o c.args.tally.now c.check_by_forks.new.tally c.check_by_forks.result) (sym c.in-None.is) (c.check_by_forks.ensures.exact m e)

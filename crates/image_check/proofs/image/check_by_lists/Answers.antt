@@ -1,0 +1,42 @@
+use Rattle.std.proofs.Common.{◌∙◌, None, subst, sym}
+use Rattle.blk_device.specs.ReadingLaws.{read_on}
+use Rattle.blk_device.specs.declared.device.Region.TheVariants.{Image}
+use Rattle.check_phases.specs.Phases.{Mappings, lacks_inodes}
+use Rattle.fork_pass.specs.Passed.{AreForksOf, HasSets}
+use Rattle.fork_pass.specs.declared.pass.ForksSeen.{ForksSeen}
+use Rattle.geom.specs.Places.{layout}
+use Rattle.inode_pass.specs.Units.{opened_state}
+use Rattle.space_check.proofs.EventLemmas.{with_err}
+use Rattle.image_check.proofs.AllLemmas.{are_ready, cut_phase, of_whole}
+use Rattle.image_check.specs.Checked.{ChecksAll}
+use Rattle.image_check.proofs.image.check_by_lists.Goals as goal
+
+pub returns-in_err-forks-clause-exact : goal.returns-in_err-forks-clause-exact
+returns-in_err-forks-clause-exact g c = λ m e.
+    with_err {T = Unit {0}} (λ r. ChecksAll (layout c.args.geo.now) (m Image) None c.args.tally.now c.args.tally.now r) c.in_err-forks.field-0.0 c.from_residual.result c.from_residual.ensures
+    (cut_phase (opened_state (layout c.args.geo.now) (m Image)) (lacks_inodes None) (Unit {0}) c.args.geo.now.agcount c.args.tally.now c.in_err-forks.field-0.0 c.args.geo.now.fitting.some_groups c.requires.begun c.in_err-forks.ensures.outside)
+
+pub returns-in-GaveUp-clause-exact : goal.returns-in-GaveUp-clause-exact
+returns-in-GaveUp-clause-exact g c = λ m e.
+    let a = opened_state (layout c.args.geo.now) (m Image) in
+    of_whole a Mappings (lacks_inodes None) c.whole.result c.args.geo.now.agcount c.args.tally.now c.give_up_part.new.tally c.give_up_part.result c.whole.ensures.from c.whole.ensures.to
+    (c.give_up_part.ensures.exact a (subst (λ (seen : ForksSeen). AreForksOf a seen) c.in-GaveUp.is (c.in_ok-forks.ensures.exact m e (c.requires.chunks m e))))
+
+pub check_by_sets-requires-clause-heads : goal.check_by_sets-requires-clause-heads
+check_by_sets-requires-clause-heads g c = λ m e. c.requires.heads m (sym c.in_ok-forks.ensures.reading.same ∙ e)
+
+pub check_by_sets-requires-clause-sets : goal.check_by_sets-requires-clause-sets
+check_by_sets-requires-clause-sets g c = subst (HasSets c.args.geo.now.agcount) c.in-Claims.is c.in_ok-forks.ensures.groups
+
+pub check_by_sets-requires-clause-ready : goal.check_by_sets-requires-clause-ready
+check_by_sets-requires-clause-ready g c = λ m e.
+    let old = sym c.in_ok-forks.ensures.reading.same ∙ e in
+    let a = opened_state (layout c.args.geo.now) (m Image) in
+    are_ready (layout c.args.geo.now) (m Image) c.args.lists.now c.in-Claims.sets.items (c.requires.chunks m old) (subst (λ (seen : ForksSeen). AreForksOf a seen) c.in-Claims.is (c.in_ok-forks.ensures.exact m old (c.requires.chunks m old)))
+
+pub returns-in-Claims-clause-exact : goal.returns-in-Claims-clause-exact
+returns-in-Claims-clause-exact g c = λ m e. c.check_by_sets.ensures.exact m (c.in_ok-forks.ensures.reading.same ∙ e)
+
+pub returns-in-Claims-clause-reading : goal.returns-in-Claims-clause-reading
+returns-in-Claims-clause-reading g c =
+    read_on g.D.Device g.met.D.Device.only_now g.met.D.Device.counts_now c.args.dev.now c.forks_of.new.dev c.check_by_sets.new.dev c.args.steps.now c.forks_of.new.steps c.check_by_sets.new.steps c.in_ok-forks.ensures.reading c.check_by_sets.ensures.reading

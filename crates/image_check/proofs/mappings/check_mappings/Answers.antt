@@ -1,0 +1,25 @@
+use Rattle.std.proofs.Common.{None}
+use Rattle.blk_device.specs.declared.device.Region.TheVariants.{Image}
+use Rattle.fs_model.specs.declared.unit.Unit.TheVariants as units
+use Rattle.geom.specs.Places.{layout}
+use Rattle.inode_pass.specs.Units.{opened_state}
+use Rattle.check_phases.specs.Checks.{ChecksUnit}
+use Rattle.check_phases.proofs.UnitLemmas.{unit_added, unit_cut, unit_full}
+use Rattle.space_check.proofs.EventLemmas.{with_err}
+use Rattle.image_check.proofs.mappings.check_mappings.Goals as goal
+
+pub returns-in_err-begin-clause-exact : goal.returns-in_err-begin-clause-exact
+returns-in_err-begin-clause-exact g c = λ m e forks.
+    let a = opened_state (layout c.args.geo.now) (m Image) in
+    with_err {T = Unit {0}} (λ r. ChecksUnit a None c.args.g units.Rmap c.args.tally.now c.args.tally.now r) c.in_err-begin.field-0.0 c.from_residual.result c.from_residual.ensures
+    (unit_full a None c.args.g (Unit {0}) (Unit {0}) units.Rmap c.args.tally.now c.in_err-begin.field-0.0 c.in_err-begin.ensures)
+
+pub returns-in_err-judged-clause-exact : goal.returns-in_err-judged-clause-exact
+returns-in_err-judged-clause-exact g c = λ m e forks.
+    let a = opened_state (layout c.args.geo.now) (m Image) in
+    with_err {T = Unit {0}} (λ r. ChecksUnit a None c.args.g units.Rmap c.args.tally.now c.args.tally.now r) c.in_err-judged.field-0.0 c.from_residual-in_err-judged.result c.from_residual-in_err-judged.ensures
+    (unit_cut a None c.args.g (Unit {0}) units.Rmap c.args.tally.now c.in_err-judged.field-0.0 c.in_ok-begin.ensures c.in_err-judged.ensures.outside)
+
+pub returns-clause-exact : goal.returns-clause-exact
+returns-clause-exact g c = λ m e forks.
+    unit_added (opened_state (layout c.args.geo.now) (m Image)) c.args.g units.Rmap c.args.tally.now c.add.new.self c.add.result c.in_ok-judged.judged (c.in_ok-judged.ensures.exact m e forks) c.in_ok-begin.ensures c.add.ensures.added c.add.ensures.passed

@@ -1,0 +1,17 @@
+//! The full check of a quiet image: what the three phases need of each other, and the phases one after
+//! the other.
+#![tactic(auto)]
+
+mod chunks;
+mod image;
+mod lists;
+mod mappings;
+mod parts;
+mod sets;
+
+pub use chunks::read_chunks;
+pub use image::check_units;
+pub use lists::all_chunks;
+pub use mappings::{check_mapping_part, check_mappings};
+pub use parts::{give_up_part, skip_part};
+pub use sets::take_set;
