@@ -2,6 +2,7 @@ mod Blocks
 mod Covers
 mod First
 mod Follow
+mod Framed
 mod Free
 mod Guards
 mod Holders

@@ -6,7 +6,7 @@ ghost use Rattle.account_laws.specs.Rows.{Rows};
 ghost use Rattle.account_laws.specs.Space.{FreedSound, GivenSpans, MappedSound, TakenSpans};
 ghost use Rattle.account_laws.specs.Guard.{GuardPasses};
 ghost use Rattle.account_laws.specs.Ledger.{EntriesOfABlock, SettledIsDerived};
-ghost use Rattle.account_laws.specs.Stated.{QuietIsDerived};
+ghost use Rattle.account_laws.specs.Stated.{FreedStated, QuietIsDerived, RmapDoneStated};
 
 /// A law: each change of a block's numbers that an entry makes keeps the block sound; and where nothing is
 /// pending, it is free exactly where no mapping covers it, and else has as many owners as mappings
@@ -88,4 +88,12 @@ pub fn guard_passes()
 /// with its claims as the state has them (XFS Online Fsck Design, "Eventual Consistency").
 pub fn quiet_agrees()
     ensures { QuietIsDerived }
+{}
+
+/// A law: a finished step of reverse mappings, and a run that is freed and not kept, leave all claims of the group
+/// where chunks stay, so a block that was sound with those that the state had is so again
+/// (XFS Online Fsck Design, "Eventual Consistency").
+pub fn claims_stay()
+    ensures mappings { RmapDoneStated }
+    ensures freed { FreedStated }
 {}

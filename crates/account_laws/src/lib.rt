@@ -5,6 +5,6 @@
 mod laws;
 
 pub use laws::{
-    block_stays_sound, chain_follows, first_keeps, guard_passes, list_keeps, pairs_hold,
-    quiet_agrees, rmap_done_keeps, runs_keep, space_follows, worked_rows,
+    block_stays_sound, chain_follows, claims_stay, first_keeps, guard_passes, list_keeps,
+    pairs_hold, quiet_agrees, rmap_done_keeps, runs_keep, space_follows, worked_rows,
 };

@@ -1,6 +1,7 @@
 mod Ending
 mod Groups
 mod Keeping
+mod Listed
 mod Made
 mod Owners
 mod Pieces

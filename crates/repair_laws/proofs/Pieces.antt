@@ -44,7 +44,7 @@ module _ (a b : State) (left : List Kind) (e : Entry) (splits : Splits a.geometr
   unfolding is_inode
   inode_stays ino is = ap (λ at. in_chunk b (split_of at (ino / 8))) (changes_one_group a b left e s).geometry ∙ in_same_chunk a b chunks (split_of a.geometry (ino / 8)) ∙ is
 
-  inodes_alike : AlikeInodes a b
+  pub inodes_alike : AlikeInodes a b
   inodes_alike = record {
     geometry = (changes_one_group a b left e s).geometry;
     chunks = chunks;
@@ -181,7 +181,7 @@ module _ (a b : State) (left : List Kind) (e : Entry) (splits : Splits a.geometr
 -- ---- the two entries
 
 -- an inode of a block that isn't a chunk's is none
-not_there : (a : State) (g block ino : ℕ) → is_chunk a g (block / 8) ≡ false → is_inode a ino ≡ true → stands_in a g block 1 ino ≡ false
+pub not_there : (a : State) (g block ino : ℕ) → is_chunk a g (block / 8) ≡ false → is_inode a ino ≡ true → stands_in a g block 1 ino ≡ false
 unfolding is_inode
 not_there a g block ino out is = by_place (split_of a.geometry (ino / 8)) is
   where

@@ -36,3 +36,9 @@ ReservedKeeps = (a b : State) (left : List Kind) (g : ℕ) (own : ScrubUnit) (bl
 abbrev pub ReapedKeeps : Type 0
 ReapedKeeps = (a b : State) (left : List Kind) (e : Extent) (h : ℕ) (unit : ScrubUnit) → Splits a.geometry
     → Step a left (entries.Reaped e) b → SameChunks a b → AreWords (a.group e.group) → Reaches e.group h unit → Stands a h unit → Stands b h unit
+
+-- A block of the list that a rebuild of free space or of reverse mappings reserves has the group as owner before and
+-- behind: it keeps all that is known, in its own group too.
+abbrev pub ListedKeeps : Type 0
+ListedKeeps = (a b : State) (left : List Kind) (g : ℕ) (own : ScrubUnit) (block : ℕ) (h : ℕ) (unit : ScrubUnit) → Splits a.geometry → (own ≡ units.Free) ⊎ (own ≡ units.Rmap)
+    → Step a left (entries.Reserved g own block false) b → SameChunks a b → is_chunk a g (block / 8) ≡ false → Stands a h unit → Stands b h unit

@@ -3,7 +3,7 @@ ghost use Rattle.repair_laws.specs.Ends.{EndsWithoutFaults, ForgetsNothing};
 ghost use Rattle.repair_laws.specs.Made.{BesideStays, ChunksStay, InodesKeepMappings, UnitIsMade};
 ghost use Rattle.repair_laws.specs.Moves.{ReleasedKeeps, SpaceKeepsChunks, SwitchedIsGood, SwitchedKeeps};
 ghost use Rattle.repair_laws.specs.Owners.{SpaceKeepsMappings};
-ghost use Rattle.repair_laws.specs.Pieces.{ElsewhereKeeps, ReapedKeeps, ReservedKeeps};
+ghost use Rattle.repair_laws.specs.Pieces.{ElsewhereKeeps, ListedKeeps, ReapedKeeps, ReservedKeeps};
 ghost use Rattle.repair_laws.specs.Rows.{Rows};
 ghost use Rattle.repair_laws.specs.Kept.{FaultKeeps, MarkedKeeps, NoneMoves, ReplyKeeps, VerdictKeeps};
 
@@ -78,10 +78,11 @@ pub fn space_keeps_mappings()
 {}
 
 /// A law: a block that is reserved, of no chunk, and a run that is reaped keep all that is known of other groups,
-/// and of inodes in their own, where chunks stay and counters are words
-/// (XFS Online Fsck Design, "Reserving New B+Tree Blocks").
+/// and of inodes in their own, where chunks stay and counters are words; a block of the list keeps all where free
+/// space or reverse mappings are rebuilt (XFS Online Fsck Design, "Reserving New B+Tree Blocks").
 pub fn pieces_keep()
     ensures elsewhere { ElsewhereKeeps }
     ensures reserved { ReservedKeeps }
     ensures reaped { ReapedKeeps }
+    ensures listed { ListedKeeps }
 {}

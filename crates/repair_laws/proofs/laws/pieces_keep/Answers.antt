@@ -1,3 +1,4 @@
+use Rattle.repair_laws.proofs.Listed.{listed_keeps}
 use Rattle.repair_laws.proofs.Pieces.{elsewhere_keeps, reaped_keeps, reserved_keeps}
 use Rattle.repair_laws.proofs.laws.pieces_keep.Goals as goal
 
@@ -9,3 +10,6 @@ returns-clause-reserved c = reserved_keeps
 
 pub returns-clause-reaped : goal.returns-clause-reaped
 returns-clause-reaped c = reaped_keeps
+
+pub returns-clause-listed : goal.returns-clause-listed
+returns-clause-listed c = listed_keeps
