@@ -4,3 +4,4 @@ pub mod MakeLemmas
 pub mod PrepareLemmas
 pub mod ReadLemmas
 pub mod StampLemmas
+pub mod StopLemmas

@@ -16,6 +16,7 @@ use Rattle.list_edit.specs.declared.edits.Edit.{Edit}
 use Rattle.list_edit.specs.declared.edits.Edit.TheVariants.{Insert, Remove, Change}
 use Rattle.tree_edit.specs.Edited.{IsEdited, IsCounted, IsWithin, RefusesEdit}
 use Rattle.tree_edit.specs.Prepared.{held}
+use Rattle.tree_edit.specs.Stopped.{CountsRefused}
 use Rattle.tree_edit.specs.declared.fault.EditFault.{EditFault}
 
 module _ {R K : Type 0} (form : Form R K) where
@@ -29,6 +30,9 @@ module _ {R K : Type 0} (form : Form R K) where
 
     abbrev pub Counts : Joined → StepCount → StepCount → Type 0
     Counts txn' before after = IsCounted form site how rec told (record { root = tree.root; levels = tree.levels; joined = txn; listed = []; limbo = [] }) txn' before after
+
+    abbrev pub Stopped : StepCount → StepCount → EditFault → Type 0
+    Stopped before after fault = CountsRefused form site how rec told (record { root = tree.root; levels = tree.levels; joined = txn; listed = []; limbo = [] }) before after fault
 
   -- the transaction is as it was, or has some blocks more of the tree and of the list
   abbrev pub StopsAt : Site → Option Contents → TreeAt → Joined → FreeRing → Joined → Type 0
@@ -53,11 +57,20 @@ module _ {R K : Type 0} (form : Form R K) where
     abbrev pub RefusesChange : FreeRing → Vec ℕ Global → EditFault → Type 0
     RefusesChange = Refuses (site_of (layout geo) tree.group) Change rec told tree txn
 
+    abbrev pub StoppedInsert : StepCount → StepCount → EditFault → Type 0
+    StoppedInsert = Stopped (site_of (layout geo) tree.group) Insert rec told tree txn
+
     abbrev pub CountsInsert : Joined → StepCount → StepCount → Type 0
     CountsInsert = Counts (site_of (layout geo) tree.group) Insert rec told tree txn
 
+    abbrev pub StoppedRemove : StepCount → StepCount → EditFault → Type 0
+    StoppedRemove = Stopped (site_of (layout geo) tree.group) Remove rec told tree txn
+
     abbrev pub CountsRemove : Joined → StepCount → StepCount → Type 0
     CountsRemove = Counts (site_of (layout geo) tree.group) Remove rec told tree txn
+
+    abbrev pub StoppedChange : StepCount → StepCount → EditFault → Type 0
+    StoppedChange = Stopped (site_of (layout geo) tree.group) Change rec told tree txn
 
     abbrev pub CountsChange : Joined → StepCount → StepCount → Type 0
     CountsChange = Counts (site_of (layout geo) tree.group) Change rec told tree txn

@@ -7,3 +7,4 @@ pub mod Making
 pub mod Plans
 pub mod Prepared
 pub mod Reads
+pub mod Stopped

@@ -1,7 +1,9 @@
 -- An edited tree's blocks, made before anything is changed, and why they can't be.
-use Rattle.std.specs.Prelude.{◌≡◌, ⊤, ℕ, ◌≤◌, List, ◌++◌, length}
+use Rattle.std.specs.Prelude.{◌≡◌, ⊤, ℕ, ◌≤◌, ◌+◌, List, ◌++◌, length}
+use Rattle.byte_fields.specs.Steps.{StepCount}
 use Rattle.sblock.specs.Blocks.{AreBlocks}
 use Rattle.sblock.specs.Form.{Form}
+use Rattle.sblock.specs.declared.kind.Kind.{Kind}
 use Rattle.tree_defs.specs.Lists.{AllDiffer}
 use Rattle.tree_defs.specs.declared.site.Site.{Site}
 use Rattle.edit_blocks.specs.Choice.{chosen, need_of}
@@ -23,6 +25,20 @@ RefusesLaying len claimed (Short have need) = ⊥
 RefusesLaying len claimed (TooLarge n) = ⊥
 RefusesLaying len claimed Failed = ⊥
 RefusesLaying len claimed Memory = ⊤
+
+-- no more blocks were counted as written than a tree of n records has
+abbrev pub LaysSome : Kind → ℕ → StepCount → StepCount → Type 0
+LaysSome kind n before after = (levels many : ℕ) × HasSize kind n levels many × (after.writes ≤ before.writes + many)
+
+-- what was counted where the blocks aren't laid: nothing, or some of them without memory
+abbrev pub CountsLaying : Kind → ℕ → StepCount → StepCount → EditFault → Type 0
+CountsLaying kind n before after (Bad block fault) = after ≡ before
+CountsLaying kind n before after Missing = ⊥
+CountsLaying kind n before after Overlap = ⊥
+CountsLaying kind n before after (Short have need) = after ≡ before
+CountsLaying kind n before after (TooLarge m) = ⊥
+CountsLaying kind n before after Failed = ⊥
+CountsLaying kind n before after Memory = LaysSome kind n before after
 
 module _ {R K : Type 0} (form : Form R K) where
   -- all that a tree of these records needs, by the blocks that are claimed for it

@@ -1,6 +1,10 @@
 -- What a walk answers, as an edit tells it.
-use Rattle.std.specs.Prelude.{◌≡◌, ⊤, ℕ, List, Result, Ok, Err}
+use Rattle.std.specs.Prelude.{◌≡◌, ◌≤◌, ◌+◌, ⊤, ℕ, List, Result, Ok, Err}
 use Rattle.sblock.specs.declared.block.BlockFault.{BlockFault}
+use Rattle.sblock.specs.Form.{Form}
+use Rattle.tree_defs.specs.Walked.{walked}
+use Rattle.tree_defs.specs.declared.site.Site.{Site}
+use Rattle.tree_blocks.specs.declared.tree.TreeAt.{TreeAt}
 use Rattle.tree_blocks.specs.declared.tree.TreeRead.{TreeRead}
 use Rattle.tree_blocks.specs.declared.tree.WalkFault.{WalkFault}
 use Rattle.tree_blocks.specs.declared.tree.WalkFault.TheVariants.{Bad as BadBlock, Failed as WalkFailed, Memory as WalkMemory}
@@ -36,3 +40,18 @@ IsOfWalk (Short have need) = ⊥
 IsOfWalk (TooLarge n) = ⊥
 IsOfWalk Failed = ⊤
 IsOfWalk Memory = ⊤
+
+-- n blocks were counted as read, or no more than n where the walk was cut off
+abbrev pub StopsWalk : ℕ → ℕ → ℕ → EditFault → Type 0
+StopsWalk before n after (Bad block fault) = after ≡ before + n
+StopsWalk before n after Missing = ⊥
+StopsWalk before n after Overlap = ⊥
+StopsWalk before n after (Short have need) = ⊥
+StopsWalk before n after (TooLarge m) = ⊥
+StopsWalk before n after Failed = after ≤ before + n
+StopsWalk before n after Memory = after ≤ before + n
+
+-- where this tree isn't read, the blocks that a walk reads were counted
+abbrev pub StopsTree : {A R K : Type 0} → Form R K → Site → (ℕ → List ℕ) → TreeAt → ℕ → ℕ → Result A EditFault → Type 0
+StopsTree form site m tree before after (Ok a) = ⊤
+StopsTree form site m tree before after (Err fault) = StopsWalk before (walked form site m tree.root tree.levels) after fault

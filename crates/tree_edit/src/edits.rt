@@ -8,7 +8,7 @@ ghost use Rattle.geom.specs.Places.{layout};
 ghost use Rattle.meta_txn.specs.Joined.{AreBelow};
 ghost use Rattle.tree_defs.specs.Sites.{site_of};
 ghost use Rattle.tree_edit.specs.Device.{IsLeft};
-ghost use Rattle.tree_edit.specs.Calls.{Inserts, Removes, Changes, CountsInsert, CountsRemove, CountsChange, RefusesInsert, RefusesRemove, RefusesChange, Stops};
+ghost use Rattle.tree_edit.specs.Calls.{Inserts, Removes, Changes, CountsInsert, CountsRemove, CountsChange, StoppedInsert, StoppedRemove, StoppedChange, RefusesInsert, RefusesRemove, RefusesChange, Stops};
 ghost use Rattle.tree_edit.specs.Edited.{IsSameTree};
 ghost use Rattle.tree_edit.specs.Faults.{is_devices};
 
@@ -54,6 +54,7 @@ pub fn insert<K: RecKind, D: Device, L: Ledger>(
     requires agreed { AgreesTold cache.old (D.content dev.old) }
     ensures edited { OnOk result (Inserts K.form geo.now rec (D.content dev.old) tree.old txn.old list.old limbo.old tree.new txn.new list.new limbo.new) }
     ensures counted { OnOk result (CountsInsert K.form geo.now rec (D.content dev.old) tree.old txn.old txn.new steps.old steps.new) }
+    ensures ticks { IfErr result (StoppedInsert K.form geo.now rec (D.content dev.old) tree.old txn.old steps.old steps.new) }
     ensures refused { IfErr result (RefusesInsert K.form geo.now rec (D.content dev.old) tree.old txn.old list.old limbo.old) }
     ensures kept { IfErr result (λ fault. fault ≢ EditFault.Failed → txn.new ≡ txn.old) }
     ensures stops { OnErr result (Stops K.form geo.now (D.content dev.old) tree.old txn.old list.old txn.new) }
@@ -103,6 +104,7 @@ pub fn remove<K: RecKind, D: Device, L: Ledger>(
     requires agreed { AgreesTold cache.old (D.content dev.old) }
     ensures edited { OnOk result (Removes K.form geo.now rec (D.content dev.old) tree.old txn.old list.old limbo.old tree.new txn.new list.new limbo.new) }
     ensures counted { OnOk result (CountsRemove K.form geo.now rec (D.content dev.old) tree.old txn.old txn.new steps.old steps.new) }
+    ensures ticks { IfErr result (StoppedRemove K.form geo.now rec (D.content dev.old) tree.old txn.old steps.old steps.new) }
     ensures refused { IfErr result (RefusesRemove K.form geo.now rec (D.content dev.old) tree.old txn.old list.old limbo.old) }
     ensures kept { IfErr result (λ fault. fault ≢ EditFault.Failed → txn.new ≡ txn.old) }
     ensures stops { OnErr result (Stops K.form geo.now (D.content dev.old) tree.old txn.old list.old txn.new) }
@@ -155,6 +157,7 @@ pub fn change<K: RecKind, D: Device, L: Ledger>(
     requires agreed { AgreesTold cache.old (D.content dev.old) }
     ensures edited { OnOk result (Changes K.form geo.now rec (D.content dev.old) tree.old txn.old list.old limbo.old tree.new txn.new list.new limbo.new) }
     ensures counted { OnOk result (CountsChange K.form geo.now rec (D.content dev.old) tree.old txn.old txn.new steps.old steps.new) }
+    ensures ticks { IfErr result (StoppedChange K.form geo.now rec (D.content dev.old) tree.old txn.old steps.old steps.new) }
     ensures refused { IfErr result (RefusesChange K.form geo.now rec (D.content dev.old) tree.old txn.old list.old limbo.old) }
     ensures kept { IfErr result (λ fault. fault ≢ EditFault.Failed → txn.new ≡ txn.old) }
     ensures stops { OnErr result (Stops K.form geo.now (D.content dev.old) tree.old txn.old list.old txn.new) }

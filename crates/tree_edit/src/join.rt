@@ -7,6 +7,7 @@ ghost use Rattle.join_blocks.specs.Causes.{is_device};
 ghost use Rattle.join_blocks.specs.Joins.{count_of, placed_in, LieBelow, OnlyThese, ReadsNew, CountsAll};
 ghost use Rattle.tree_edit.specs.Anew.{AreJoined};
 ghost use Rattle.tree_edit.specs.Faults.{is_devices, RefusesJoin};
+ghost use Rattle.tree_edit.specs.Stopped.{StopsJoin};
 
 use crate::fault::EditFault;
 use blk_cache::BlkCache;
@@ -36,6 +37,7 @@ fn join_both<D: Device, L: Ledger>(
     ensures count { OnOk result (CountsAll first (placed_in placed.now ++ left.now) txn.old.blocks txn.new.blocks) }
     ensures others { OnlyThese first (placed_in placed.now ++ left.now) txn.old.blocks txn.new.blocks }
     ensures ticks { OnOk result (ReadsNew steps.old steps.new txn.old.blocks txn.new.blocks) }
+    ensures few { steps.new.reads ≤ steps.old.reads + length (placed_in placed.now ++ left.now) }
     ensures marked { txn.new.marked ≡ txn.old.marked }
     ensures kind { IfErr result (λ fault. fault ≡ TxnFault.Failed) }
     ensures reading { OnlyRead D.Device dev.old dev.new steps.old steps.new }
@@ -73,6 +75,7 @@ pub fn join_tree<D: Device, L: Ledger>(
     ensures refused { IfErr result (RefusesJoin (count_of txn.old.blocks first touched.now)) }
     ensures count { OnOk result (length txn.new.blocks ≡ count_of txn.old.blocks first touched.now) }
     ensures ticks { OnOk result (ReadsNew steps.old steps.new txn.old.blocks txn.new.blocks) }
+    ensures stops { IfErr result (StopsJoin (length touched.now) steps.old.reads steps.new.reads) }
     ensures kept { MAX_BATCH < count_of txn.old.blocks first touched.now → txn.new ≡ txn.old }
     ensures kept_early { IfErr result (λ fault. fault ≢ EditFault.Failed → txn.new ≡ txn.old) }
     ensures others { OnlyThese first touched.now txn.old.blocks txn.new.blocks }

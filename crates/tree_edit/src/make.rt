@@ -6,7 +6,7 @@ ghost use Rattle.sblock.specs.Blocks.{IsRising, AllInside};
 ghost use Rattle.edit_blocks.specs.Choice.{freed};
 ghost use Rattle.tree_edit.specs.Anew.{root_of, IsMade};
 ghost use Rattle.tree_edit.specs.Device.{OnlyWrites};
-ghost use Rattle.tree_edit.specs.Making.{IsReady, RefusesLaying, RefusesMaking};
+ghost use Rattle.tree_edit.specs.Making.{IsReady, RefusesLaying, RefusesMaking, CountsLaying};
 
 use crate::fault::EditFault;
 use crate::plan::plan_blocks;
@@ -51,6 +51,7 @@ fn lay<K: RecKind, L: Ledger>(
     ensures counted { OnOk result (steps.new ≡ record steps.old { writes = steps.old.writes + length claimed.now }) }
     ensures steps { OnlyWrites steps.old steps.new }
     ensures refused { IfErr result (RefusesLaying site.now.bounds.length claimed.now) }
+    ensures unlaid { IfErr result (CountsLaying K.form.kind (length recs.now) steps.old steps.new) }
 {
     match load_tree::<K, L>(alloc, recs, site, tree.lsn, claimed, steps) {
         Ok(placed) => Ok(placed),
@@ -104,6 +105,7 @@ pub(crate) fn make<K: RecKind, L: Ledger>(
     ensures counted { IfOk result (λ made. steps.new ≡ record steps.old { writes = steps.old.writes + length made.placed.items }) }
     ensures steps { OnlyWrites steps.old steps.new }
     ensures refused { IfErr result (RefusesMaking K.form site.now.bounds.length (length recs.now) before.now (entries list.now)) }
+    ensures unlaid { IfErr result (CountsLaying K.form.kind (length recs.now) steps.old steps.new) }
 {
     let form = shape(recs.len() as u64, K::kind());
     let plan = match plan_blocks(alloc, before, list, &form) {

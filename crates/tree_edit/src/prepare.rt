@@ -7,6 +7,7 @@ ghost use Rattle.list_edit.specs.Laws.{IsPut};
 ghost use Rattle.tree_edit.specs.Device.{IsLeft};
 ghost use Rattle.tree_edit.specs.Faults.{is_devices};
 ghost use Rattle.tree_edit.specs.Prepared.{held, IsPrepared, RefusesPrepared};
+ghost use Rattle.tree_edit.specs.Calls.{Stopped};
 
 use crate::fault::EditFault;
 use crate::make::{Made, make};
@@ -43,6 +44,7 @@ pub(crate) fn prepare<K: RecKind, D: Device, L: Ledger>(
     requires agreed { AgreesTold cache.old (D.content dev.old) }
     ensures prepared { IfOk result (IsPrepared K.form site.now how rec.now tree.now.lsn (D.content dev.old) (held tree.now txn.old list.now []) steps.old steps.new) }
     ensures refused { IfErr result (RefusesPrepared K.form site.now how rec.now (D.content dev.old) (held tree.now txn.old list.now [])) }
+    ensures ticks { IfErr result (Stopped K.form site.now how rec.now (D.content dev.old) tree.now txn.old steps.old steps.new) }
     ensures txn { txn.new ≡ txn.old }
     ensures left { IsLeft D.Device dev.old dev.new steps.old steps.new }
     ensures cause { HasCause is_devices (D.faults dev.old) (D.faults dev.new) result }

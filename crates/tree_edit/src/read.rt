@@ -8,7 +8,7 @@ ghost use Rattle.tree_defs.specs.Tree.{read_tree};
 ghost use Rattle.tree_walk.specs.Trails.{AreSound, LieInside};
 ghost use Rattle.txn_blocks.specs.Through.{OfEdited};
 ghost use Rattle.tree_edit.specs.Faults.{is_devices};
-ghost use Rattle.tree_edit.specs.Reads.{met_as, ReadsAs, IsOfWalk};
+ghost use Rattle.tree_edit.specs.Reads.{met_as, ReadsAs, IsOfWalk, StopsTree};
 
 use crate::fault::EditFault;
 use blk_cache::BlkCache;
@@ -51,6 +51,7 @@ pub(crate) fn walked<K: RecKind, D: Device, L: Ledger>(
     ensures lie { IfOk result (λ read. LieInside site.now.bounds.length read.blocks.items) }
     ensures kind { IfErr result IsOfWalk }
     ensures txn { txn.new ≡ txn.old }
+    ensures stops { OfEdited site.now txn.old (D.content dev.old) (λ m. StopsTree K.form site.now m tree.now steps.old.reads steps.new.reads result) }
     ensures each { IfOk result (λ read. steps.new.reads ≡ steps.old.reads + length read.blocks.items) }
     ensures reading { OnlyRead D.Device dev.old dev.new steps.old steps.new }
     ensures cause { HasCause is_devices (D.faults dev.old) (D.faults dev.new) result }

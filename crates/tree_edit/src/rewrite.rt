@@ -9,7 +9,7 @@ ghost use Rattle.list_edit.specs.Laws.{IsPut};
 ghost use Rattle.meta_txn.specs.Joined.{AreBelow};
 ghost use Rattle.sblock.specs.Headers.{no_block};
 ghost use Rattle.tree_edit.specs.Device.{IsLeft};
-ghost use Rattle.tree_edit.specs.Calls.{Edits, Refuses, Counts, StopsAt};
+ghost use Rattle.tree_edit.specs.Calls.{Edits, Refuses, Counts, Stopped, StopsAt};
 ghost use Rattle.tree_edit.specs.Edited.{IsSameTree};
 ghost use Rattle.tree_edit.specs.Faults.{is_devices};
 
@@ -52,6 +52,7 @@ pub(crate) fn rewrite<K: RecKind, D: Device, L: Ledger>(
     ensures edited { OnOk result (Edits K.form site.now how rec.now (D.content dev.old) tree.old txn.old list.old limbo.old tree.new txn.new list.new limbo.new) }
     ensures counted { OnOk result (Counts K.form site.now how rec.now (D.content dev.old) tree.old txn.old txn.new steps.old steps.new) }
     ensures refused { IfErr result (Refuses K.form site.now how rec.now (D.content dev.old) tree.old txn.old list.old limbo.old) }
+    ensures ticks { IfErr result (Stopped K.form site.now how rec.now (D.content dev.old) tree.old txn.old steps.old steps.new) }
     ensures kept { IfErr result (λ fault. fault ≢ EditFault.Failed → txn.new ≡ txn.old) }
     ensures stops { OnErr result (StopsAt K.form site.now (D.content dev.old) tree.old txn.old list.old txn.new) }
     ensures kept_tree { OnErr result (tree.new ≡ tree.old) }

@@ -2,7 +2,7 @@ use Rattle.std.proofs.Common.{◌≡◌, true, sym, subst}
 use Rattle.std.specs.Prelude.{OnOk, OnErr, IfErr}
 use Rattle.list_edit.specs.declared.edits.Edit.TheVariants.{Change}
 use Rattle.tree_defs.specs.declared.site.Site.{Site}
-use Rattle.tree_edit.specs.Calls.{Edits, Counts, Refuses, StopsAt}
+use Rattle.tree_edit.specs.Calls.{Edits, Counts, Refuses, Stopped, StopsAt}
 use Rattle.tree_edit.proofs.edits.change.Goals as goal
 
 pub rewrite-requires-clause-given : goal.rewrite-requires-clause-given
@@ -35,3 +35,9 @@ returns-clause-stops g c =
     let told = g.D.Device.content c.args.dev.now in
     subst (λ (s : Site). OnErr c.rewrite.result (StopsAt g.K.RecKind.form s told c.args.tree.now c.args.txn.now c.args.list.now c.rewrite.new.txn))
     c.of_group-site.ensures.exact c.rewrite.ensures.stops
+
+pub returns-clause-ticks : goal.returns-clause-ticks
+returns-clause-ticks g c =
+    let told = g.D.Device.content c.args.dev.now in
+    subst (λ (s : Site). IfErr c.rewrite.result (Stopped g.K.RecKind.form s Change c.args.rec told c.args.tree.now c.args.txn.now c.args.steps.now c.rewrite.new.steps))
+    c.of_group-site.ensures.exact c.rewrite.ensures.ticks

@@ -1,8 +1,10 @@
 use Rattle.std.proofs.Common.{sym, subst}
+use Rattle.ag_headers.specs.Ring.{entries}
 use Rattle.sblock.specs.Blocks.{IsRising, AllInside}
 use Rattle.tree_edit.proofs.EditLemmas.{left_of_read, left_writes}
 use Rattle.tree_edit.proofs.MakeLemmas.{sound_after}
 use Rattle.tree_edit.proofs.PrepareLemmas.{is_prepared}
+use Rattle.tree_edit.proofs.StopLemmas.{list_counts, make_ticks}
 use Rattle.tree_edit.proofs.prepare.prepare.Goals as goal
 
 pub make-requires-clause-rising : goal.make-requires-clause-rising
@@ -27,3 +29,16 @@ returns-clause-prepared g c =
 
 pub returns-clause-left : goal.returns-clause-left
 returns-clause-left g c = left_writes g.D.Device c.args.dev.now c.walked.new.dev c.args.steps.now c.walked.new.steps c.make.new.steps (left_of_read g.D.Device c.args.dev.now c.walked.new.dev c.args.steps.now c.walked.new.steps c.walked.ensures.reading) c.make.ensures.steps
+
+pub returns-in-Err-plan_records-clause-ticks : goal.returns-in-Err-plan_records-clause-ticks
+returns-in-Err-plan_records-clause-ticks g c =
+    let tree = c.args.tree.now in
+    list_counts g.K.RecKind.form g.met.K.RecKind.lawful c.args.site.now c.args.how c.args.rec.now (g.D.Device.content c.args.dev.now) tree.root tree.levels c.args.txn.now (entries c.args.list.now) c.args.steps.now
+    c.in-Ok.read.recs.items c.in-Ok.read.blocks.items c.in-Ok.ensures.read c.walked.new.steps c.in-Ok.ensures.each c.walked.ensures.reading.writes c.in-Err-plan_records.fault c.in-Err-plan_records.ensures.refused
+
+pub returns-clause-ticks : goal.returns-clause-ticks
+returns-clause-ticks g c =
+    let tree = c.args.tree.now in
+    make_ticks g.K.RecKind.form g.met.K.RecKind.lawful c.args.site.now c.args.how c.args.rec.now (g.D.Device.content c.args.dev.now) tree.root tree.levels c.args.txn.now (entries c.args.list.now) c.args.steps.now
+    c.in-Ok.read.recs.items c.in-Ok.read.blocks.items c.in-Ok.ensures.read c.plan_records.new.recs.items c.in-Ok-plan_records.ensures.edits c.walked.new.steps c.make.new.steps c.in-Ok.ensures.each c.walked.ensures.reading.writes c.make.ensures.steps
+    c.args.site.now.bounds.length c.deref.result.now c.deref-2.result.now c.deref.ensures.value c.deref-2.ensures.value c.make.result c.make.ensures.refused c.make.ensures.unlaid

@@ -7,6 +7,7 @@ use Rattle.join_blocks.specs.Joins.{count_of, placed_in, with_all, LieBelow, Onl
 use Rattle.meta_txn.specs.Joined.{Joined}
 use Rattle.tree_edit.proofs.EditLemmas.{touched_are, touched_lie, same_touched, same_joined, is_edited, is_counted, stops_within, left_on, put_below, found_below}
 use Rattle.tree_edit.proofs.BlockLemmas.{lie_first, lie_rest}
+use Rattle.tree_edit.proofs.StopLemmas.{room_counts, join_counts}
 use Rattle.tree_edit.proofs.rewrite.rewrite.Goals as goal
 
 pub join_tree-requires-clause-touched : goal.join_tree-requires-clause-touched
@@ -89,3 +90,16 @@ returns-clause-below g c = λ below.
     let put = put_below size site.first made.placed.items old.blocks below (lie_first size site.first (placed_in made.placed.items) made.left.items lie) in
     let joined = same_joined (d.content c.args.dev.now) (d.content c.prepare.new.dev) site.first made.placed.items c.deref-2.result.now made.left.items c.deref-3.result.now old.blocks c.prepare.new.txn.blocks c.join_tree.new.txn.blocks c.prepare.ensures.left.same c.deref-2.ensures.value c.deref-3.ensures.value (ap (λ (t : Joined). t.blocks) c.prepare.ensures.txn) c.in-Ok-join_tree.ensures.joined in
     found_below size (d.content c.args.dev.now) site.first made.left.items (with_all site.first made.placed.items old.blocks) c.join_tree.new.txn.blocks put (lie_rest size site.first (placed_in made.placed.items) made.left.items lie) joined
+
+pub returns-in-Err-make_room-clause-ticks : goal.returns-in-Err-make_room-clause-ticks
+returns-in-Err-make_room-clause-ticks g c =
+    let tree = c.args.tree.now in
+    room_counts g.K.RecKind.form g.met.K.RecKind.lawful c.args.site.now c.args.how c.args.rec.now (g.D.Device.content c.args.dev.now) tree.root tree.levels c.args.txn.now (entries c.args.list.now) c.args.steps.now
+    tree.lsn c.in-Ok.made c.prepare.new.steps c.in-Ok.ensures.prepared
+
+pub returns-in-Err-join_tree-clause-ticks : goal.returns-in-Err-join_tree-clause-ticks
+returns-in-Err-join_tree-clause-ticks g c =
+    let tree = c.args.tree.now in
+    join_counts g.K.RecKind.form g.met.K.RecKind.lawful c.args.site.now c.args.how c.args.rec.now (g.D.Device.content c.args.dev.now) tree.root tree.levels c.args.txn.now (entries c.args.list.now) c.args.steps.now
+    tree.lsn c.in-Ok.made c.prepare.new.steps c.in-Ok.ensures.prepared c.join_tree.new.steps c.join_tree.ensures.reading.writes (count_of c.prepare.new.txn.blocks c.args.site.now.first c.deref-4.result.now)
+    c.deref-4.result.now c.deref-4.ensures.value c.in-Err-join_tree.fault c.in-Err-join_tree.ensures.refused c.in-Err-join_tree.ensures.stops

@@ -11,3 +11,9 @@ returns-clause-exact g c =
     let edit = c.args.edit.now in
     told (g.D.Device.content edit.dev.now) _
     (λ m e. c.walk_site.ensures.exact (group_blocks edit.site (written (m Image) edit.txn.now)) (ap (changed edit.site edit.txn.now) e))
+
+pub returns-clause-counted : goal.returns-clause-counted
+returns-clause-counted g c =
+    let edit = c.args.edit.now in
+    told (g.D.Device.content edit.dev.now) _
+    (λ m e. c.walk_site.ensures.counted (group_blocks edit.site (written (m Image) edit.txn.now)) (ap (changed edit.site edit.txn.now) e))
