@@ -1,5 +1,5 @@
 -- What an entry decides is a state that it allows: no block has to move.
-use Rattle.std.proofs.Common.{◌≡◌, ℕ, ◌+◌, ◌^◌, ◌<◌, ◌==◌, ◌&&◌, ◌||◌, Bool, true, false, not, nat_le, List, [], ◌∷◌, ◌++◌, drop, cond, sym, ap, ap₂, refl, ◌∙◌, arith, append-nil, length}
+use Rattle.std.proofs.Common.{◌≡◌, ℕ, ◌+◌, ◌^◌, ◌<◌, ◌==◌, ◌&&◌, ◌||◌, Bool, true, false, not, nat_le, List, [], ◌∷◌, ◌++◌, drop, cond, sym, subst, ap, ap₂, refl, ◌∙◌, arith, append-nil, length}
 use Rattle.std.specs.List.{list_any, list_all}
 use Rattle.std.proofs.Common.{eq-eqb}
 use Rattle.fs_model.specs.declared.fault.Counter.{Counter}
@@ -7,13 +7,13 @@ use Rattle.fs_model.specs.declared.fault.Counter.TheVariants.{Count, Freecount, 
 use Rattle.sblock.specs.declared.kind.Kind.{Kind}
 use Rattle.sblock.specs.declared.kind.Kind.TheVariants.{Bno, Cnt, Rmap, Refc, Ino, Fino}
 use Rattle.dinode_core.specs.declared.mapping.ForkFault.{ForkFault}
-use Rattle.std.specs.Prelude.{Result, Ok, Err}
+use Rattle.std.specs.Prelude.{Result, Ok, Err, if◌then◌else◌}
 use Rattle.fs_state.specs.Frame.{SameFork}
 use Rattle.fs_state.specs.Kinds.{RecOf}
 use Rattle.fs_state.specs.State.{State, Group, Index, Owned, Reading, Readable, Unreadable, ForkList, recs_of, blocks_of}
 use Rattle.fs_change.specs.Changes.{follow}
 use Rattle.fs_change.specs.Laws.{AreWords, DecidedStands}
-use Rattle.fs_change.specs.Loose.{Loosely, Inside, InodesStay, MovesBlocks, list_room, may_join, laid_out, owners_follow, owners_in, lost_to, met_by_moves, tree_blocks, block_counter}
+use Rattle.fs_change.specs.Loose.{Loosely, Inside, InodesStay, MovesBlocks, begins_with, count_used, list_room, may_join, laid_out, owners_follow, owners_in, lost_to, met_by_moves, tree_blocks, block_counter}
 use Rattle.fs_change.specs.Met.{is_fault, met_moving, give_each, take_each}
 use Rattle.fs_change.specs.Parts.{tree_only, change_tree, set_blocks, in_trees, in_blocks, with_recs, edit, is_edited, records_in}
 use Rattle.fs_derive.specs.Kinds.{tree_owner}
@@ -119,13 +119,22 @@ each_passes test (p ∷ ps) h = ap₂ (λ x y. x && y) (h p (same_is_there p ps)
 joins : (ks : List Kind) (p : Group) (o : Owned) → has_owned p.limbo o ≡ true → may_join ks p o ≡ true
 joins ks p o e = ap (λ b. b || list_any (λ k. (o.owner == tree_owner k) && (is_in o.block (tree_blocks p k) || is_in o.block p.free_list)) ks) e
 
+-- a list begins with itself, so that no block of it was taken
+begins_so : (list : List ℕ) → begins_with list list ≡ true
+begins_so [] = refl
+begins_so (b ∷ list) = ap₂ (λ x y. x && y) (eq-eqb b b refl) (begins_so list)
+
+none_used : (list : List ℕ) → count_used list list ≡ 0
+unfolding count_used
+none_used [] = refl
+none_used (b ∷ list) = ap (λ t. if t then 0 else 1 + count_used list (b ∷ list)) (begins_so (b ∷ list))
+
 nothing_moves : (kept : Bool) (left ks : List Kind) (p : Group) → AreWords p → MovesBlocks kept left ks p p
 nothing_moves kept left ks p h = record {
   blocks = tree_blocks p;
-  used = 0;
   freed = [];
   limbo = p.limbo;
-  is = laid_in_place kept left ks p h;
+  is = subst (λ n. p ≡ laid_out kept left ks (tree_blocks p) (drop n p.free_list ++ []) p.limbo p) (sym (none_used p.free_list)) (laid_in_place kept left ks p h);
   limbo_keeps = each_passes (has_owned p.limbo) p.limbo (λ o e. e);
   limbo_gains = each_passes (may_join ks p) p.limbo (joins ks p);
   limbo_due = ap (λ b. b || nat_le list_room (length p.free_list + 0)) (each_passes (has_owned p.limbo) p.limbo (λ o e. e));

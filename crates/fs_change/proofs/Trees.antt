@@ -28,7 +28,7 @@ use Rattle.fs_derive.specs.Kinds.{kinds_of}
 use Rattle.fs_derive.specs.Lists.{numbers}
 use Rattle.fs_change.specs.Changes.{mapped, unmapped, converted, shared, rmap_done, ref_done, freed, taken, given, refilled, trimmed, marked, judged, judge, reserved, released, reaped, changes_count, change_count, owner_of_run, joins_no_space, take_free, give_free, give_owner, take_owner, extent_of, data_of, do_mapping, new_count, inodes_follow, turn, list_chunk, chunk_extent, make_chunk, is_in_extent, own_new, leave, block_extent, leave_limbo, reap_in, by_count, known_spans, plain_run, free_chunk}
 use Rattle.fs_change.specs.Laws.{KeepsOtherTrees, changed_kinds, with_owners}
-use Rattle.fs_change.specs.Loose.{Inside, MovesBlocks, owners_follow, owners_in, lost_to}
+use Rattle.fs_change.specs.Loose.{Inside, MovesBlocks, count_used, owners_follow, owners_in, lost_to}
 use Rattle.fs_change.specs.Met.{give_each, take_each}
 use Rattle.fs_change.specs.Parts.{in_group, tree_only, change_tree, in_blocks, in_trees, with_recs, set_trust, set_trusts, edit, is_edited, sick_in, records_in}
 use Rattle.fs_change.specs.Records.{is_unwritten_at, set_count, span, by_start, take_span, give_span, give_mapping, take_mapping, put_chunk, turn_inode, follow_inode}
@@ -326,7 +326,7 @@ filtered j test (k ∷ ks) h = elim (test k) as (λ b. is_among j (cond b (k ∷
 moved_tree : (kept : Bool) (left ks : List Kind) (p q : Group) (j : Kind) → MovesBlocks kept left ks p q → is_among j ks ≡ false → Not j Rmap → q.tree j ≡ p.tree j
 moved_tree kept left ks p q j m h r =
     ap (λ (s : Group). s.tree j) m.is
-    ∙ followed left p (record (in_trees m.blocks ks p) { free_list = drop m.used p.free_list ++ m.freed; limbo = m.limbo }) j r
+    ∙ followed left p (record (in_trees m.blocks ks p) { free_list = drop (count_used p.free_list q.free_list) p.free_list ++ m.freed; limbo = m.limbo }) j r
     ∙ in_place j m.blocks ks p h
 
 inside_tree : (kept : Bool) (left ks : List Kind) (p q : Group) (j : Kind) → Inside kept left ks p q → is_among j ks ≡ false → Not j Rmap → q.tree j ≡ p.tree j

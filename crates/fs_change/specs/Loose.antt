@@ -1,6 +1,6 @@
 -- What an entry leaves open: how an edited tree is cut into blocks, and what a block that a tree had or gained, or that
 -- left the reserve, holds as cores.
-use Rattle.std.specs.Prelude.{◌≡◌, ℕ, ◌+◌, ◌/◌, ◌==◌, ◌&&◌, ◌||◌, nat_le, Bool, true, false, not, List, [], ◌∷◌, ◌++◌, map, flat_map, filter, length, take, drop, Option, Some, None, if◌then◌else◌}
+use Rattle.std.specs.Prelude.{◌≡◌, ℕ, ◌+◌, ◌/◌, ◌==◌, ◌&&◌, ◌||◌, nat_le, nat_lt, Bool, true, false, not, List, [], ◌∷◌, ◌++◌, map, flat_map, filter, length, take, drop, Option, Some, None, if◌then◌else◌}
 use Rattle.std.specs.List.{list_any, list_all}
 use Rattle.dinode_core.specs.declared.mapping.Fork.{Fork}
 use Rattle.fs_model.specs.declared.fault.Counter.{Counter}
@@ -62,6 +62,17 @@ pool_of p = p.free_list ++ flat_map (tree_blocks p) all_kinds ++ blocks_in p.lim
 abbrev pub may_join : List Kind → Group → Owned → Bool
 may_join ks p o = has_owned p.limbo o || list_any (λ k. (o.owner == tree_owner k) && (is_in o.block (tree_blocks p k) || is_in o.block p.free_list)) ks
 
+-- one list begins with the other
+abbrev pub begins_with : List ℕ → List ℕ → Bool
+begins_with [] new = true
+begins_with (b ∷ list) [] = false
+begins_with (b ∷ list) (c ∷ new) = (b == c) && begins_with list new
+
+-- How many blocks did edits take from the front of a list? The fewest whose rest the new list begins with.
+unfoldable pub count_used : List ℕ → List ℕ → ℕ
+count_used [] new = 0
+count_used (b ∷ list) new = if begins_with (b ∷ list) new then 0 else 1 + count_used list new
+
 -- the free list has room for so many blocks
 abbrev pub list_room : ℕ
 list_room = 119
@@ -71,13 +82,13 @@ abbrev pub is_limbo_due : Group → List ℕ → List Owned → Bool
 is_limbo_due p freed limbo = list_all (has_owned p.limbo) limbo || nat_le list_room (length p.free_list + length freed)
 
 -- Which blocks may an edit move? From the front of the list into edited trees, and from these to the list's end, or into
--- limbo, with the owner of their tree; none comes or goes. Reverse mappings that can't follow are left.
+-- limbo, with the owner of their tree; none comes or goes. What both lists tell says how many left the front, and so
+-- which were freed. Reverse mappings that can't follow are left.
 pub record MovesBlocks (kept : Bool) (left ks : List Kind) (p q : Group) : Type 0 where
   pub blocks : Kind → List ℕ
-  pub used : ℕ
   pub freed : List ℕ
   pub limbo : List Owned
-  pub is : q ≡ laid_out kept left ks blocks (drop used p.free_list ++ freed) limbo p
+  pub is : q ≡ laid_out kept left ks blocks (drop (count_used p.free_list q.free_list) p.free_list ++ freed) limbo p
   pub limbo_keeps : list_all (has_owned limbo) p.limbo ≡ true
   pub limbo_gains : list_all (may_join ks p) limbo ≡ true
   pub limbo_due : is_limbo_due p freed limbo ≡ true
@@ -89,10 +100,10 @@ abbrev pub Inside : Bool → List Kind → List Kind → Group → Group → Typ
 Inside kept left [] p q = q ≡ p
 Inside kept left (k ∷ ks) p q = MovesBlocks kept left (k ∷ ks) p q
 
--- the blocks that edits took from the front of the list, whether or not they gave them back
-abbrev pub used_blocks : (kept : Bool) (left ks : List Kind) (p q : Group) → Inside kept left ks p q → List ℕ
-used_blocks kept left [] p q i = []
-used_blocks kept left (k ∷ ks) p q i = take i.used p.free_list
+-- The blocks that edits took from the front of the list; where a block got another owner, and reverse mappings were edited
+-- once more, any of the list: those may have been taken whole, and come back in their order.
+abbrev pub used_blocks : Group → Group → List ℕ
+used_blocks p q = if nat_lt 0 (length (lost_to (owners_in p) (owners_in q))) then p.free_list else take (count_used p.free_list q.free_list) p.free_list
 
 -- ---- cores
 
@@ -119,4 +130,4 @@ pub record Loosely (g : ℕ) (left ks : List Kind) (a x b : State) : Type 0 wher
   pub chains : b.chains ≡ x.chains
   pub others : (h : ℕ) → (h ≡ g → ⊥) → b.group h ≡ x.group h
   pub inside : Inside a.geometry.inobtcount left ks (x.group g) (b.group g)
-  pub inodes : InodesStay g (used_blocks a.geometry.inobtcount left ks (x.group g) (b.group g) inside) a x b
+  pub inodes : InodesStay g (used_blocks (x.group g) (b.group g)) a x b

@@ -1,22 +1,23 @@
 -- How far an entry, or a mark by itself, may go: rows on both sides of each bound.
-use Rattle.std.specs.Prelude.{◌≡◌, ◌*◌, ℕ, true, false, [], ◌∷◌, None}
+use Rattle.std.specs.Prelude.{◌≡◌, ◌*◌, true, false, [], ◌∷◌, None}
 use Rattle.fs_model.specs.declared.entry.Entry.TheVariants as entries
 use Rattle.fs_model.specs.declared.fault.Cause.TheVariants.{Missing, Large, Short}
 use Rattle.fs_model.specs.declared.fault.Counter.TheVariants.{Iblocks, Fblocks, Freecount}
 use Rattle.fs_model.specs.declared.unit.Unit.TheVariants as units
-use Rattle.sblock.specs.declared.kind.Kind.TheVariants.{Rmap, Ino, Fino}
+use Rattle.sblock.specs.declared.kind.Kind.TheVariants.{Bno, Rmap, Ino, Fino}
 use Rattle.fs_state.specs.State.{State, Group}
 use Rattle.fs_derive.specs.Lists.{numbers}
 use Rattle.fs_change.specs.Changes.{taken}
 use Rattle.fs_change.specs.Choice.{chosen, chunk_run, extent}
-use Rattle.fs_change.specs.Loose.{is_limbo_due}
+use Rattle.fs_change.specs.Loose.{Loosely, MovesBlocks, count_used, is_limbo_due, used_blocks}
 use Rattle.fs_change.specs.Marks.{Explains, IsStuck, IsWanted, is_refused, do_turn, most_put}
 use Rattle.fs_change.specs.Met.{nothing}
+use Rattle.fs_change.specs.Parts.{set_core}
 use Rattle.fs_change.specs.Run.{Leads}
 use Rattle.fs_change.specs.Switch.{owned_by}
 use Rattle.test_states.specs.Images.{image_a, ag, inobt}
 use Rattle.test_changes.specs.Files.{piece}
-use Rattle.test_changes.specs.Lists.{long_list, before_step}
+use Rattle.test_changes.specs.Lists.{long_list, before_step, split_inodes}
 use Rattle.test_changes.specs.Refused.{NoneAfter}
 
 -- ---- a short list isn't trimmed, and the last blocks of a long one stay
@@ -34,6 +35,26 @@ LimboDue =
     (is_limbo_due (image_a.group 0) [] (owned_by inobt 3 ∷ []) ≡ false)
     × (is_limbo_due (image_a.group 0) [] [] ≡ true)
     × (is_limbo_due full_list [] (owned_by inobt 3 ∷ []) ≡ true)
+
+-- ---- which blocks left the front of a list is what both lists tell: of one that stays none, so that each core of it stays;
+-- any, where blocks got another owner
+
+abbrev pub ListTaken : Type 0
+ListTaken =
+    (count_used (7 ∷ 8 ∷ 9 ∷ []) (7 ∷ 8 ∷ 9 ∷ 3 ∷ []) ≡ 0)
+    × (count_used (7 ∷ 8 ∷ 9 ∷ []) (9 ∷ 3 ∷ 7 ∷ []) ≡ 2)
+    × (count_used (7 ∷ 8 ∷ 9 ∷ []) (3 ∷ []) ≡ 3)
+    × (used_blocks (image_a.group 0) (image_a.group 0) ≡ [])
+    × (used_blocks (image_a.group 0) (split_inodes true) ≡ numbers 7 12)
+    × (Loosely 0 [] (Bno ∷ []) image_a image_a (set_core 56 None image_a) → ⊥)
+
+-- ---- so a list of 60 blocks that stays sends none to limbo
+
+abbrev pub sixty : Group
+sixty = record (image_a.group 0) { free_list = numbers 40 60 }
+
+abbrev pub ListStays : Type 0
+ListStays = MovesBlocks true [] (Ino ∷ []) sixty (record sixty { limbo = owned_by inobt 3 ∷ [] }) → ⊥
 
 -- ---- an inode btree takes blocks of the list and gives its own back: no others, and each gets another owner
 

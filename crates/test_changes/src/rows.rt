@@ -1,4 +1,4 @@
-ghost use Rattle.test_changes.specs.Bounds.{ClosedGates, DoTurn, LimboDue, MarksBounded, NoFile, TrimsFront, Uncounted};
+ghost use Rattle.test_changes.specs.Bounds.{ClosedGates, DoTurn, LimboDue, ListStays, ListTaken, MarksBounded, NoFile, TrimsFront, Uncounted};
 ghost use Rattle.test_changes.specs.Crashes.{ClaimsKept, CutReserved, CutRun, CutSwitched, EitherRoot, GivenUpSpace, GivenUpWhole};
 ghost use Rattle.test_changes.specs.Scans.{BehindCursor, HeldInode};
 ghost use Rattle.test_changes.specs.Files.{ConvertedPiece, CutUnmapping, GrowingFile, MappedHalfway, MarkedOnce, OwnerFound, SharedPieceRow, ShrinkingFile};
@@ -199,6 +199,16 @@ pub fn trims_front()
 /// Limbo gains a block where the list has no room for it, and not while it has.
 pub fn limbo_due()
     ensures { LimboDue }
+{}
+
+/// Both lists tell which blocks left the front: of a list that stays none, and each of its cores stays.
+pub fn list_taken()
+    ensures { ListTaken }
+{}
+
+/// A list that stays, and has room, sends no block to limbo.
+pub fn list_stays()
+    ensures { ListStays }
 {}
 
 /// An inode btree takes blocks of the list and gives its own back, and each gets another owner.
