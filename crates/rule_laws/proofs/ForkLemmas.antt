@@ -11,7 +11,7 @@ use Rattle.fork_change.specs.Lists.{added, taken}
 use Rattle.fs_derive.specs.Lists.{only_if}
 use Rattle.fs_change.specs.Records as step
 use Rattle.fs_change.specs.Records.{add_mapping, take_piece}
-use Rattle.rule_laws.specs.Forks.{AreInOrder, AddsAlike, TakesAlike, OccupiedAlike, PieceAlike}
+use Rattle.rule_laws.specs.Forks.{AreInOrder, AreApart, AddsAlike, ConvertsAlike, TakesAlike, OccupiedAlike, PieceAlike}
 
 -- ---- tests
 
@@ -242,3 +242,96 @@ unfolding added add_mapping
 adds_alike l m ms order =
     add_by l m ms (rule.with_before l m ms) (sorted ms order)
     ∙ ap (λ (x : Mapping). step.put_by (λ (p : Mapping). p.offset) (whole_of l m ms x) (filter (keep l m ms x) ms)) (first_alike l m ms)
+
+-- ---- a piece taken out and added again
+
+to_less : (a b : ℕ) → a < b → nat_lt a b ≡ true
+to_less a b h = grind (arith, nat_tests)
+
+-- it comes before each of them
+order_on : (m : Mapping) (ms : List Mapping) → Behind (m.offset + 1) ms → AreInOrder ms → AreInOrder (m ∷ ms)
+order_on m [] behind order = (tt, tt)
+order_on m (p ∷ ps) behind order = let first = behind.0 in (to_less m.offset p.offset (omega (arith, first)), order)
+
+apart_behind : (m : Mapping) (ms : List Mapping) → AreApart (m ∷ ms) → Behind (m.offset + 1) ms × Behind (m.offset + m.count) ms
+apart_behind m [] h = (tt, tt)
+apart_behind m (p ∷ ps) h =
+    let both = and_parts (nat_lt m.offset p.offset) (nat_le (m.offset + m.count) p.offset) h.0 in
+    let later = (apart_behind p ps h.1).0 in
+    let first = from_lt m.offset p.offset both.0 in
+    let end = from_le (m.offset + m.count) p.offset both.1 in (
+      (omega (arith, first), behind_more (m.offset + 1) (p.offset + 1) ps (omega (arith, first)) later),
+      (end, behind_more (m.offset + m.count) (p.offset + 1) ps (omega (arith, end)) later),
+    )
+
+-- what is left of one mapping, in front of others
+module _ (offset n : ℕ) (m : Mapping) where
+  abbrev front : Mapping
+  front = record m { count = offset - m.offset }
+
+  abbrev back : Mapping
+  back = record m { offset = offset + n; block = m.block + (offset + n - m.offset); count = m.offset + m.count - (offset + n) }
+
+  abbrev is_front : Bool
+  is_front = nat_lt m.offset offset
+
+  abbrev is_back : Bool
+  is_back = nat_lt (offset + n) (m.offset + m.count)
+
+  front_on : (k : ℕ) (xs : List Mapping) → k ≤ m.offset → (t : Bool) → Behind k xs → Behind k (only_if t front ++ xs)
+  front_on k xs low true behind = (low, behind)
+  front_on k xs low false behind = behind
+
+  back_on : (k : ℕ) (xs : List Mapping) → k ≤ offset + n → (t : Bool) → Behind k xs → Behind k (only_if t back ++ xs)
+  back_on k xs low true behind = (low, behind)
+  back_on k xs low false behind = behind
+
+  in_parts : (s t : Bool) (xs : List Mapping) → (only_if s front ++ only_if t back) ++ xs ≡ only_if s front ++ (only_if t back ++ xs)
+  in_parts true true xs = refl
+  in_parts true false xs = refl
+  in_parts false true xs = refl
+  in_parts false false xs = refl
+
+  order_back : (xs : List Mapping) → Behind (m.offset + m.count) xs → AreInOrder xs → (t : Bool) → is_back ≡ t → AreInOrder (only_if t back ++ xs)
+  order_back xs behind order true h = let inside = from_lt (offset + n) (m.offset + m.count) h in order_on back xs (behind_more (offset + n + 1) (m.offset + m.count) xs (omega (arith, inside)) behind) order
+  order_back xs behind order false h = order
+
+  order_front : (xs : List Mapping) → Behind (m.offset + 1) xs → AreInOrder xs → (s t : Bool) → is_front ≡ s → AreInOrder (only_if t back ++ xs) → AreInOrder (only_if s front ++ (only_if t back ++ xs))
+  order_front xs behind order true t h later = let first = from_lt m.offset offset h in order_on front (only_if t back ++ xs) (back_on (m.offset + 1) xs (omega (arith, first)) t behind) later
+  order_front xs behind order false t h later = later
+
+  rest_order : (xs : List Mapping) → Behind (m.offset + 1) xs → Behind (m.offset + m.count) xs → AreInOrder xs → AreInOrder (step.mapping_rest offset n m ++ xs)
+  rest_order xs behind past order =
+      subst AreInOrder (sym (in_parts is_front is_back xs)) (order_front xs behind order is_front is_back refl (order_back xs past order is_back refl))
+
+  rest_behind : (k : ℕ) (xs : List Mapping) → k ≤ m.offset → m.offset ≤ offset → Behind k xs → Behind k (step.mapping_rest offset n m ++ xs)
+  rest_behind k xs low at behind =
+      subst (Behind k) (sym (in_parts is_front is_back xs)) (front_on k (only_if is_back back ++ xs) low is_front (back_on k xs (omega (arith, low, at)) is_back behind))
+
+left_behind : (offset n k : ℕ) (ms : List Mapping) → Behind k ms → Behind k (take_piece offset n ms)
+unfolding take_piece
+left_behind offset n k [] behind = tt
+left_behind offset n k (m ∷ ms) behind =
+    let later = left_behind offset n k ms behind.1 in
+    (elim (step.maps offset m) as (λ t. step.maps offset m ≡ t → Behind k ((if t then step.mapping_rest offset n m else m ∷ []) ++ take_piece offset n ms)) [
+      | true ↦ λ h. rest_behind offset n m k (take_piece offset n ms) behind.0 (from_le m.offset offset (and_parts (nat_le m.offset offset) (nat_lt offset (m.offset + m.count)) h).0) later
+      | false ↦ λ h. (behind.0, later)
+    ]) refl
+
+left_order : (offset n : ℕ) (ms : List Mapping) → AreApart ms → AreInOrder (take_piece offset n ms)
+unfolding take_piece
+left_order offset n [] apart = tt
+left_order offset n (m ∷ ms) apart =
+    let both = apart_behind m ms apart in
+    let one = left_behind offset n (m.offset + 1) ms both.0 in
+    let past = left_behind offset n (m.offset + m.count) ms both.1 in
+    let later = left_order offset n ms apart.1 in
+    elim (step.maps offset m) as (λ t. AreInOrder ((if t then step.mapping_rest offset n m else m ∷ []) ++ take_piece offset n ms)) [
+      | true ↦ rest_order offset n m (take_piece offset n ms) one past later
+      | false ↦ order_on m (take_piece offset n ms) one later
+    ]
+
+pub converts_alike : ConvertsAlike
+converts_alike l offset n m ms apart =
+    adds_alike l m (taken offset n ms) (subst AreInOrder (sym (takes_alike offset n ms)) (left_order offset n ms apart))
+    ∙ ap (add_mapping l m) (takes_alike offset n ms)

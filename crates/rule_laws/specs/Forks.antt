@@ -1,5 +1,5 @@
 -- A fork's list as a rule changes it, and as a step of a writer has it.
-use Rattle.std.specs.Prelude.{◌≡◌, ℕ, nat_lt, true, not, List, find, Some}
+use Rattle.std.specs.Prelude.{◌≡◌, ℕ, ◌+◌, nat_le, nat_lt, true, not, ◌&&◌, List, find, Some}
 use Rattle.std.specs.List.{list_any}
 use Rattle.dinode_core.specs.declared.mapping.Mapping.{Mapping}
 use Rattle.sblock.specs.Lists.{Rises}
@@ -13,6 +13,14 @@ AreInOrder ms = Rises (λ p q. nat_lt p.offset q.offset) ms
 -- a mapping added to a list in order, with its neighbours where they meet
 abbrev pub AddsAlike : Type 0
 AddsAlike = (agblklog : ℕ) (m : Mapping) (ms : List Mapping) → AreInOrder ms → added agblklog m ms ≡ add_mapping agblklog m ms
+
+-- and each begins where the one before it ends, or behind that
+abbrev pub AreApart : List Mapping → Type 0
+AreApart ms = Rises (λ p q. nat_lt p.offset q.offset && nat_le (p.offset + p.count) q.offset) ms
+
+-- a piece that is taken out and added again, as a conversion does it
+abbrev pub ConvertsAlike : Type 0
+ConvertsAlike = (agblklog offset n : ℕ) (m : Mapping) (ms : List Mapping) → AreApart ms → added agblklog m (taken offset n ms) ≡ add_mapping agblklog m (take_piece offset n ms)
 
 -- a piece taken out
 abbrev pub TakesAlike : Type 0

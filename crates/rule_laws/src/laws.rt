@@ -1,6 +1,6 @@
 ghost use Rattle.std.specs.Prelude.{ℕ, List};
 ghost use Rattle.span_recs.specs.declared.refcount.RefcRec.{RefcRec};
-ghost use Rattle.rule_laws.specs.Forks.{AddsAlike, OccupiedAlike, PieceAlike, TakesAlike};
+ghost use Rattle.rule_laws.specs.Forks.{AddsAlike, ConvertsAlike, OccupiedAlike, PieceAlike, TakesAlike};
 ghost use Rattle.rule_laws.specs.Groups.{ChoosesAlike, CountsAlike, QuietAlike};
 ghost use Rattle.rule_laws.specs.Limbo.{LeavesAlike, LongestAlike, OwnersAlike};
 
@@ -17,6 +17,12 @@ pub fn adds_alike()
 pub fn takes_alike()
     ensures taken { TakesAlike }
     ensures piece { PieceAlike }
+{}
+
+/// A law: a piece that the rule takes out and adds again, as a conversion does, makes the list that a step
+/// has (XFS Algorithms and Data Structures, "Data Extents").
+pub fn converts_alike()
+    ensures { ConvertsAlike }
 {}
 
 /// A law: the run that the rule chooses of groups is the one that a step takes of the usable ones, and it
