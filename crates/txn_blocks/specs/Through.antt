@@ -12,6 +12,7 @@ use Rattle.tree_blocks.specs.declared.tree.TreeAt.{TreeAt}
 use Rattle.tree_blocks.specs.declared.tree.WalkFault.{WalkFault}
 use Rattle.tree_find.specs.Laws.{WhereHolds}
 use Rattle.tree_find.specs.Meets.{Finds}
+use Rattle.tree_walk.specs.Meets.{CountsTree}
 use Rattle.tree_defs.specs.Sites.{group_blocks}
 use Rattle.tree_defs.specs.declared.site.Site.{Site}
 
@@ -23,6 +24,10 @@ changed site txn (Some c) = Some (group_blocks site (written (c Image) txn))
 -- what holds of a group's blocks as a transaction has changed them, where a device tells its content
 abbrev pub OfEdited : Site → Joined → Option Contents → ((ℕ → List ℕ) → Type 0) → Type 0
 OfEdited site txn content P = IfSome content (λ c. P (group_blocks site (written (c Image) txn)))
+
+-- of these blocks, the blocks of this tree that a walk reads were counted
+abbrev pub Counts : {A R K : Type 0} → Form R K → Site → Joined → Option Contents → TreeAt → ℕ → ℕ → Result A WalkFault → Type 0
+Counts form site txn content tree before after result = OfEdited site txn content (λ m. CountsTree form site m tree before after result)
 
 -- where such a tree is readable, the record with this key is answered, and none where there is none
 abbrev pub FindsIn : {R K : Type 0} → Form R K → Site → (ℕ → List ℕ) → TreeAt → K → Result (Option R) WalkFault → Type 0

@@ -3,9 +3,9 @@ ghost use Rattle.std.specs.Prelude.{◌≡◌, ◌+◌, ◌*◌, ◌^◌, ◌<�
 ghost use Rattle.blk_device.specs.Reading.{OnlyRead};
 ghost use Rattle.blk_device.specs.Causes.{HasCause};
 ghost use Rattle.tree_blocks.specs.Reading.{is_failed};
-ghost use Rattle.tree_walk.specs.Meets.{MeetsTreeAt, CountsTree};
+ghost use Rattle.tree_walk.specs.Meets.{MeetsTreeAt};
 ghost use Rattle.tree_walk.specs.Trails.{AreSound, LieInside};
-ghost use Rattle.txn_blocks.specs.Through.{OfEdited, FindsIn, Lasts};
+ghost use Rattle.txn_blocks.specs.Through.{OfEdited, Counts, FindsIn, Lasts};
 ghost use Rattle.blk_cache.specs.Cache.{AgreesTold};
 ghost use Rattle.blk_device.specs.declared.device.Region.TheVariants.{Image};
 
@@ -97,8 +97,8 @@ pub fn walk_edited<K: RecKind, D: Device, L: Ledger>(
 ) -> Result<TreeRead<K::Rec>, WalkFault>
     ensures exact { OfEdited edit.old.site edit.old.txn.now (D.content edit.old.dev.now)
         (λ m. MeetsTreeAt K.form edit.old.site m tree.now result) }
-    ensures counted { OfEdited edit.old.site edit.old.txn.now (D.content edit.old.dev.now)
-        (λ m. CountsTree K.form edit.old.site m tree.now edit.old.steps.now.reads edit.new.steps.now.reads result) }
+    ensures counted { Counts K.form edit.old.site edit.old.txn.now (D.content edit.old.dev.now)
+        tree.now edit.old.steps.now.reads edit.new.steps.now.reads result }
     ensures sound { IfOk result (λ read. AreSound K.form edit.old.site.bounds read.recs.items) }
     ensures lie { IfOk result (λ read. LieInside edit.old.site.bounds.length read.blocks.items) }
     ensures joined { edit.new.txn.now ≡ edit.old.txn.now }
