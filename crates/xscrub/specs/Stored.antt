@@ -1,9 +1,12 @@
 -- What a host keeps under a name, and what it is asked.
 use Rattle.std.specs.Prelude.{◌≡◌, ◌⊎◌, ⊤, ℕ, Bool, if◌then◌else◌, List, [], ◌∷◌, ◌++◌, Option, Some, None}
+use Rattle.std.specs.Borrow.{Bor}
+use Rattle.std.specs.Option.{option_map}
 use Rattle.std.specs.Str.{bytes_eq}
 use Rattle.byte_fields.specs.Zeros.{zeros}
 use Rattle.blk_device.specs.Contents.{Contents}
 use Rattle.blk_device.specs.Stored.{blank}
+use Rattle.blk_device.specs.declared.device.Device.{Ghosts}
 use Rattle.blk_device.specs.declared.device.Region.{Region}
 use Rattle.blk_device.specs.declared.device.Region.TheVariants.{Image, Redo}
 use Rattle.xscrub.specs.declared.host.Purpose.{Purpose}
@@ -41,6 +44,14 @@ abbrev pub redo_named : (List ℕ → Option Stored) → Option (List ℕ) → O
 redo_named redos None = Some no_redo
 redo_named redos (Some name) = redos name
 
+-- the name of a redo file that a call may be given
+abbrev pub name_of : Option (Bor (List ℕ)) → Option (List ℕ)
+name_of redo = option_map (λ s. s.now) redo
+
+-- the redo region that such a call asks for
+abbrev pub redo_asked : (List ℕ → Option Stored) → Option (Bor (List ℕ)) → Option Stored
+redo_asked redos redo = redo_named redos (name_of redo)
+
 -- an image with a redo region beside it
 abbrev pub opened : Stored → Stored → Contents
 opened file redo Image b = file.at b
@@ -63,6 +74,10 @@ abbrev pub IsLent : Purpose → Bool → (image redo : Option Stored) → Option
 IsLent (Make n) tells file redo content blocks = IsNew tells n content blocks
 IsLent other tells file redo content blocks = IsOpened file redo content blocks
 
+-- of the device itself
+abbrev pub Lent : {D : Type 0} → Ghosts D → Purpose → Bool → (image redo : Option Stored) → D → Type 0
+Lent g purpose tells file redo dev = IsLent purpose tells file redo (g.content dev) (g.blocks dev)
+
 -- so many blocks are enough for the purpose: a new image has as many as are wanted
 abbrev pub HasRoomFor : Purpose → ℕ → Type 0
 HasRoomFor (Make n) blocks = blocks ≡ n
@@ -72,6 +87,9 @@ HasRoomFor other blocks = ⊤
 abbrev pub stored_image : Option Contents → (Region → ℕ) → Option Stored
 stored_image None blocks = None
 stored_image (Some content) blocks = Some (record { size = blocks Image; at = content Image })
+
+abbrev pub image_of : {D : Type 0} → Ghosts D → D → Option Stored
+image_of g dev = stored_image (g.content dev) (g.blocks dev)
 
 -- the images with this one under its name
 abbrev pub stored_with : List ℕ → Option Stored → (List ℕ → Option Stored) → List ℕ → Option Stored

@@ -1,8 +1,7 @@
 ghost use Rattle.std.specs.Prelude.{◌≡◌, ◌≤◌, ◌==◌, ◌+◌, ℕ, Bool, List, [], ◌∷◌, Option, OnOk, OnErr, IfOk, IsErrOf, IsNone, false, if◌then◌else◌};
-ghost use Rattle.std.specs.Option.{option_map};
 ghost use Rattle.std.specs.Str.{bytes_eq};
 ghost use Rattle.blk_device.specs.Causes.{Rose, one_more};
-ghost use Rattle.xscrub.specs.Stored.{Stored, Request, Loan, Out, Back, Lends, IsAskedFor, IsLent, asks, redo_named, stored_image, stored_with};
+ghost use Rattle.xscrub.specs.Stored.{Stored, Request, Loan, Out, Back, Lends, IsAskedFor, Lent, asks, name_of, redo_asked, stored_image, stored_with};
 
 use blk_device::{Device, Region, Sink};
 use thiserror::Error;
@@ -67,8 +66,8 @@ pub trait Host: Sink {
         redo: Option<&str>,
         purpose: Purpose,
     ) -> Result<Self::Dev, OpenFault>
-        ensures told { IfOk result (λ dev. IsLent purpose (tells self.old) (stored self.old image.now)
-            (redo_named (redo_files self.old) (option_map (λ s. s.now) redo.entry)) (Self.Dev.content dev) (Self.Dev.blocks dev)) }
+        ensures told { IfOk result (Lent Self.Dev.Device purpose (tells self.old)
+            (stored self.old image.now) (redo_asked (redo_files self.old) redo.entry)) }
         ensures redo_blocks { IsNone redo.entry → IfOk result (λ dev. Self.Dev.blocks dev Region.Redo ≡ 162) }
         ensures fresh { IfOk result (λ dev. Self.Dev.faults dev ≡ 0) }
         ensures lent { IfOk result (λ dev. Lends (Out dev ∷ []) (loans self.old) (loans self.new)) }
@@ -83,7 +82,7 @@ pub trait Host: Sink {
         ensures later { host_faults self.old ≤ host_faults self.new }
         ensures memory { IsErrOf result OpenFault.Memory → host_faults self.new ≡ host_faults self.old }
         ensures asked { IsAskedFor (IsErrOf result OpenFault.Memory)
-            (asks image.now (option_map (λ s. s.now) redo.entry) purpose) (asked self.old) (asked self.new) }
+            (asks image.now (name_of redo.entry) purpose) (asked self.old) (asked self.new) }
         ensures devices { dev_faults self.new ≡ dev_faults self.old }
         ensures report { Self.taken self.new ≡ Self.taken self.old }
         ensures sink { Self.sink_faults self.new ≡ Self.sink_faults self.old };

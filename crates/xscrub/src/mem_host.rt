@@ -283,7 +283,7 @@ impl Host for MemHost {
     ghost use Rattle.std.specs.Prelude.{◌==◌, ◌∷◌, IsErrOf, OnErr, IfSome, false};
     ghost use Rattle.blk_device.specs.Causes.{Rose, one_more};
     ghost use Rattle.xscrub.specs.MemHost.{stored_by, redo_files_by, Awaits, asked_of, failing_by, loans_of};
-    ghost use Rattle.xscrub.specs.Stored.{stored_image, Out, Back, Lends, IsAskedFor, asks};
+    ghost use Rattle.xscrub.specs.Stored.{Lent, Out, Back, Lends, IsAskedFor, asks, image_of, name_of, redo_asked};
 
     ghost tells = { λ h. true };
 
@@ -311,9 +311,8 @@ impl Host for MemHost {
         redo: Option<&str>,
         purpose: Purpose,
     ) -> Result<MemDevice, OpenFault>
-        ensures told { IfOk result (λ dev. IsLent purpose true (stored_by self.old image.now)
-            (redo_named (redo_files_by self.old) (option_map (λ s. s.now) redo.entry))
-            (⟦<MemDevice as Device>⟧.content dev) (⟦<MemDevice as Device>⟧.blocks dev)) }
+        ensures told { IfOk result (Lent ⟦<MemDevice as Device>⟧ purpose true (stored_by self.old image.now)
+            (redo_asked (redo_files_by self.old) redo.entry)) }
         ensures redo_blocks { IsNone redo.entry → IfOk result (λ dev. ⟦<MemDevice as Device>⟧.blocks dev Region.Redo ≡ 162) }
         ensures fresh { IfOk result (λ dev. ⟦<MemDevice as Device>⟧.faults dev ≡ 0) }
         ensures lent { IfOk result (λ dev. Lends (Out dev ∷ []) (loans_of self.old) (loans_of self.new)) }
@@ -328,7 +327,7 @@ impl Host for MemHost {
         ensures later { self.old.host_faults ≤ self.new.host_faults }
         ensures memory { IsErrOf result OpenFault.Memory → self.new.host_faults ≡ self.old.host_faults }
         ensures asked { IsAskedFor (IsErrOf result OpenFault.Memory)
-            (asks image.now (option_map (λ s. s.now) redo.entry) purpose) (asked_of self.old) (asked_of self.new) }
+            (asks image.now (name_of redo.entry) purpose) (asked_of self.old) (asked_of self.new) }
         ensures devices { self.new.dev_faults ≡ self.old.dev_faults }
         ensures report { Some self.new.report.items ≡ Some self.old.report.items }
         ensures sink { self.new.sink_faults ≡ self.old.sink_faults }
@@ -356,7 +355,7 @@ impl Host for MemHost {
         requires { Awaits self.old image.now }
         ensures lent { Lends (Back dev ∷ []) (loans_of self.old) (loans_of self.new) }
         ensures image { (n : List ℕ) → stored_by self.new n ≡ stored_with image.now
-            (stored_image (⟦<MemDevice as Device>⟧.content dev) (⟦<MemDevice as Device>⟧.blocks dev)) (stored_by self.old) n }
+            (image_of ⟦<MemDevice as Device>⟧ dev) (stored_by self.old) n }
         ensures redo { (n : List ℕ) → redo_files_by self.new n ≡ redo_files_by self.old n }
         ensures host { self.new.host_faults ≡ self.old.host_faults }
         ensures devices { self.new.dev_faults ≡ (if ⟦<MemDevice as Device>⟧.faults dev == 0

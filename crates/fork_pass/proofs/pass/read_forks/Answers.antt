@@ -1,4 +1,4 @@
-use Rattle.std.proofs.Common.{◌≡◌, List, Option, length, drop, refl, sym, subst, arith}
+use Rattle.std.proofs.Common.{◌≡◌, List, Option, length, drop, refl, sym, subst, ◌∙◌, arith}
 use Rattle.blk_device.specs.declared.device.Region.TheVariants.{Image}
 use Rattle.fs_model.specs.declared.claim.Evidence.{Evidence}
 use Rattle.geom.specs.Places.{layout}
