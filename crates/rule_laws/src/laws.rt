@@ -1,8 +1,11 @@
-ghost use Rattle.std.specs.Prelude.{ℕ, List};
+ghost use Rattle.std.specs.Prelude.{◌≡◌, ◌-◌, ℕ, List, length, take};
+ghost use Rattle.fs_change.specs.Step.{to_trim};
 ghost use Rattle.span_recs.specs.declared.refcount.RefcRec.{RefcRec};
 ghost use Rattle.rule_laws.specs.Forks.{AddsAlike, ConvertsAlike, OccupiedAlike, PieceAlike, TakesAlike};
 ghost use Rattle.rule_laws.specs.Groups.{ChoosesAlike, CountsAlike, QuietAlike};
 ghost use Rattle.rule_laws.specs.Limbo.{LeavesAlike, LongestAlike, OwnersAlike};
+
+use free_space::WANTED_LISTED;
 
 /// A law: a mapping that the rule adds to a fork's list in order makes the list that a step has, and the
 /// rule finds an offset occupied where a step would not find all of the mapping's free
@@ -23,6 +26,12 @@ pub fn takes_alike()
 /// has (XFS Algorithms and Data Structures, "Data Extents").
 pub fn converts_alike()
     ensures { ConvertsAlike }
+{}
+
+/// A law: the entries that the rule gives back of a free list are those that a step may trim
+/// (XFS Algorithms and Data Structures, "AG Free List").
+pub fn trims_alike()
+    ensures { (list : List ℕ) → take (length list - WANTED_LISTED) list ≡ to_trim list }
 {}
 
 /// A law: the run that the rule chooses of groups is the one that a step takes of the usable ones, and it

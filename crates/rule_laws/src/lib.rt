@@ -5,5 +5,5 @@ mod laws;
 
 pub use laws::{
     adds_alike, chooses_alike, converts_alike, counts_alike, leaves_alike, quiet_alike,
-    switches_alike, takes_alike,
+    switches_alike, takes_alike, trims_alike,
 };

@@ -30,6 +30,13 @@ const FREE: Intent = Intent {
     ..LESS
 };
 
+// A block with as many owners as a count may have; one more is refused.
+const FULL: RefcRec = RefcRec {
+    start: 40,
+    count: 1,
+    refcount: 4_294_967_200,
+};
+
 // A block that two files share.
 const SHARED: RefcRec = RefcRec {
     start: 40,
@@ -100,5 +107,17 @@ fn a_freed_block_joins_its_neighbours(rt: HostRuntime) -> Result<(), Fail> {
     assert_eq!(rt; joined(None, &block, Some(behind)), span(40, 216));
     assert_eq!(rt; joined(Some(before), &block, None), span(32, 9));
     assert_eq!(rt; joined(None, &block, None), block);
+    Ok(())
+}
+
+#[test]
+fn a_count_at_the_cap_is_seen_whole(rt: HostRuntime) -> Result<(), Fail> {
+    assert_eq!(rt;
+        first_stretch(40, 1, Some(FULL), None),
+        Stretch {
+            count: 1,
+            owners: 4_294_967_200
+        }
+    );
     Ok(())
 }

@@ -49,6 +49,20 @@ fn the_first_record_that_is_long_enough_gives_its_front(rt: HostRuntime) -> Resu
     Ok(())
 }
 
+// Six blocks come from the long record, and then one from the short one.
+#[test]
+fn a_file_that_grows_twice_has_runs_of_two_records(rt: HostRuntime) -> Result<(), Fail> {
+    let rows = [
+        (6, [span(19, 5), span(32, 224)], span(32, 6)),
+        (1, [span(19, 5), span(38, 218)], span(19, 1)),
+    ];
+    for (wanted, free, run) in rows {
+        let found = first_fit(&free, wanted);
+        assert_eq!(rt; found.map(|rec| front(&rec, wanted)), Some(run));
+    }
+    Ok(())
+}
+
 #[test]
 fn one_mapping_is_wanted_at_most(rt: HostRuntime) -> Result<(), Fail> {
     let rows = [
@@ -149,5 +163,14 @@ fn a_longer_record_of_a_later_group_comes_before_a_short_one(rt: HostRuntime) ->
     };
     assert_eq!(rt; choose(6, &[short, sick]), Ok(front));
     assert_eq!(rt; choose(6, &[large]), Err(NoRun::TooLarge));
+    let end = GroupSpace {
+        group: 65_535,
+        ..long
+    };
+    let end_taken = Extent {
+        group: 65_535,
+        ..taken
+    };
+    assert_eq!(rt; choose(6, &[short, end]), Ok(end_taken));
     Ok(())
 }
