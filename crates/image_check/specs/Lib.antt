@@ -1,3 +1,6 @@
 pub mod Checked
 pub mod Chunks
+pub mod Image
 pub mod Mappings
+pub mod Reads
+pub mod Units

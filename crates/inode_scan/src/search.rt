@@ -3,6 +3,7 @@ ghost use Rattle.blk_device.specs.Causes.{HasCause};
 ghost use Rattle.tree_blocks.specs.Calls.{Reads};
 ghost use Rattle.tree_blocks.specs.Meets.{IsNoMemory};
 ghost use Rattle.tree_blocks.specs.Reading.{is_failed};
+ghost use Rattle.tree_blocks.specs.Told.{WhereTold};
 ghost use Rattle.tree_find.specs.Meets.{Meets};
 ghost use Rattle.inode_scan.specs.Search.{Rise, search_below, reads_below, search_in, reads_in};
 
@@ -68,8 +69,7 @@ pub fn search_site<B: Blocks>(
     ensures no_memory { IfErr result IsNoMemory }
     ensures reading { Reads B.Blocks blocks.old blocks.new }
     ensures cause { HasCause is_failed (B.faults blocks.old) (B.faults blocks.new) result }
-    ensures counted { (m : ℕ → List ℕ) → B.told blocks.old ≡ Some m
-        → Rise result (B.count blocks.old) (B.count blocks.new) (reads_in site.now m from end tree.now.root tree.now.levels) }
+    ensures counted { WhereTold (B.told blocks.old) (λ m. Rise result (B.count blocks.old) (B.count blocks.new) (reads_in site.now m from end tree.now.root tree.now.levels)) }
 {
     let root = tree.root;
     if root == 0 || root >= site.bounds.length {

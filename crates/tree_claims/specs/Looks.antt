@@ -1,9 +1,14 @@
 -- What looks at the blocks of one level add to the claimed blocks, and to those of the next level.
-use Rattle.std.specs.Prelude.{◌≡◌, ℕ, ◌+◌, ◌<◌, ◌⊎◌, ◌↔◌, Bool, true, ◌&&◌, ◌||◌, List, [], ◌∷◌}
+use Rattle.std.specs.Prelude.{◌≡◌, ℕ, ◌+◌, ◌<◌, ◌⊎◌, ◌↔◌, Bool, true, false, ◌&&◌, ◌||◌, List, [], ◌∷◌, Option, Some, Result, IfOk, OnOk}
+use Rattle.std.specs.Global.{Vec}
 use Rattle.run_sets.specs.declared.run.Run.{Run}
+use Rattle.sblock.specs.Area.{area_of, child_of}
+use Rattle.sblock.specs.Blocks.{numrecs}
+use Rattle.sblock.specs.declared.kind.Kind.{Kind}
 use Rattle.sblock.specs.Form.{Form}
 use Rattle.tree_defs.specs.Claims.{Leads, is_named}
 use Rattle.tree_defs.specs.declared.site.Site.{Site}
+use Rattle.tree_claims.specs.Lists.{lists}
 use Rattle.tree_blocks.specs.declared.tree.WalkFault.{WalkFault}
 use Rattle.tree_blocks.specs.declared.tree.WalkFault.TheVariants.{Bad, Failed, Memory}
 
@@ -31,3 +36,17 @@ Grows before now Added = (b : ℕ) → (now b ≡ true) ↔ ((before b ≡ true)
 pub record Looks {R K : Type 0} (form : Form R K) (site : Site) (m : ℕ → List ℕ) (level : ℕ) (root : Bool) (looked claimed claimed' next next' : ℕ → Bool) : Type 0 where
   pub claims : (b : ℕ) → claimed' b ≡ (claimed b || (looked b && is_named form.kind site b (m b)))
   pub leads : Grows next next' (λ b. (q : ℕ) × (looked q ≡ true) × Leads form site level root q (m q) b)
+
+-- The same of lists that grow, where the blocks are known and the look succeeds ..
+abbrev pub LooksOn : {A R K : Type 0} → Form R K → Site → Option (ℕ → List ℕ) → ℕ → Bool → (ℕ → Bool) → List ℕ → List ℕ → List ℕ → List ℕ → Result A WalkFault → Type 0
+LooksOn form site told level root looked claimed claimed' next next' result =
+    (m : ℕ → List ℕ) → told ≡ Some m → OnOk result (Looks form site m level root looked (lists claimed) (lists claimed') (lists next) (lists next'))
+
+-- .. and of a new list of those that are reached
+abbrev pub FindsNext : {R K : Type 0} → Form R K → Site → Option (ℕ → List ℕ) → ℕ → Bool → (ℕ → Bool) → List ℕ → List ℕ → Result (Vec ℕ) WalkFault → Type 0
+FindsNext form site told level root looked claimed claimed' result =
+    (m : ℕ → List ℕ) → told ≡ Some m → IfOk result (λ next. Looks form site m level root looked (lists claimed) (lists claimed') (λ b. false) (lists next.items))
+
+-- the children of a node, counted off
+abbrev pub IsChildOf : Kind → List ℕ → ℕ → Type 0
+IsChildOf kind bytes b = (i : ℕ) × (i < numrecs bytes) × (child_of kind (area_of bytes) i ≡ b)

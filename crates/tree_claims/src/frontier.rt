@@ -10,7 +10,7 @@ ghost use Rattle.tree_blocks.specs.Calls.{Reads};
 ghost use Rattle.blk_device.specs.Causes.{HasCause};
 ghost use Rattle.tree_blocks.specs.Reading.{is_failed};
 ghost use Rattle.tree_claims.specs.Lists.{lists};
-ghost use Rattle.tree_claims.specs.Looks.{blocks_in, Grows, IsOutside, LieBelow, Looks};
+ghost use Rattle.tree_claims.specs.Looks.{blocks_in, FindsNext, Grows, IsChildOf, IsOutside, LieBelow, LooksOn};
 
 use crate::listed::put_block;
 use byte_fields::{Block, get_u32, is_uuid_at};
@@ -35,7 +35,7 @@ fn does_name<K: RecKind>(block: &Block, site: &Site, p: u32) -> bool
 // Puts the children of a node behind a list.
 fn put_children(kind: Kind, block: &Block, list: &mut Vec<u32>) -> Result<(), WalkFault>
     requires room { numrecs block.now.bytes ≤ node_most_of kind }
-    ensures exact { OnOk result (Grows (lists list.old.items) (lists list.new.items) (λ b. (i : ℕ) × (i < numrecs block.now.bytes) × (child_of kind (area_of block.now.bytes) i ≡ b))) }
+    ensures exact { OnOk result (Grows (lists list.old.items) (lists list.new.items) (IsChildOf kind block.now.bytes)) }
     ensures memory { IfErr result IsMemory }
 {
     let area = data_area(block);
@@ -99,7 +99,7 @@ fn look_at<K: RecKind, B: Blocks>(
 ) -> Result<(), WalkFault>
     requires inside { p < site.now.bounds.length }
     requires here { B.place blocks.old ≡ site.now }
-    ensures exact { (m : ℕ → List ℕ) → B.told blocks.old ≡ Some m → OnOk result (Looks K.form site.now m level root (λ b. b == p) (lists claimed.old.items) (lists claimed.new.items) (lists next.old.items) (lists next.new.items)) }
+    ensures exact { LooksOn K.form site.now (B.told blocks.old) level root (λ b. b == p) claimed.old.items claimed.new.items next.old.items next.new.items result }
     ensures claims_lie { LieBelow site.now.bounds.length (lists claimed.old.items) → OnOk result (LieBelow site.now.bounds.length (lists claimed.new.items)) }
     ensures next_lies { LieBelow site.now.bounds.length (lists next.old.items) → OnOk result (LieBelow site.now.bounds.length (lists next.new.items)) }
     ensures refused { IfErr result IsOutside }
@@ -125,7 +125,7 @@ fn look_along<K: RecKind, B: Blocks>(
     requires inside { run.now.start + run.now.count ≤ site.now.bounds.length }
     requires short { site.now.bounds.length ≤ most }
     requires here { B.place blocks.old ≡ site.now }
-    ensures exact { (m : ℕ → List ℕ) → B.told blocks.old ≡ Some m → OnOk result (Looks K.form site.now m level root (λ b. is_within b run.now) (lists claimed.old.items) (lists claimed.new.items) (lists next.old.items) (lists next.new.items)) }
+    ensures exact { LooksOn K.form site.now (B.told blocks.old) level root (λ b. is_within b run.now) claimed.old.items claimed.new.items next.old.items next.new.items result }
     ensures claims_lie { LieBelow site.now.bounds.length (lists claimed.old.items) → OnOk result (LieBelow site.now.bounds.length (lists claimed.new.items)) }
     ensures next_lies { LieBelow site.now.bounds.length (lists next.old.items) → OnOk result (LieBelow site.now.bounds.length (lists next.new.items)) }
     ensures refused { IfErr result IsOutside }
@@ -156,7 +156,7 @@ pub fn look_level<K: RecKind, B: Blocks>(
     requires inside { LieBelow site.now.bounds.length (has reached.now) }
     requires short { site.now.bounds.length ≤ most }
     requires here { B.place blocks.old ≡ site.now }
-    ensures exact { (m : ℕ → List ℕ) → B.told blocks.old ≡ Some m → IfOk result (λ next. Looks K.form site.now m level root (has reached.now) (lists claimed.old.items) (lists claimed.new.items) (λ b. false) (lists next.items)) }
+    ensures exact { FindsNext K.form site.now (B.told blocks.old) level root (has reached.now) claimed.old.items claimed.new.items result }
     ensures claims_lie { LieBelow site.now.bounds.length (lists claimed.old.items) → OnOk result (LieBelow site.now.bounds.length (lists claimed.new.items)) }
     ensures next_lies { IfOk result (λ next. LieBelow site.now.bounds.length (lists next.items)) }
     ensures refused { IfErr result IsOutside }

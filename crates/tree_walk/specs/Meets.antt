@@ -1,9 +1,9 @@
 -- The answer of a walk beside what the tree reads as.
-use Rattle.std.specs.Prelude.{◌≡◌, ◌≤◌, ℕ, ◌+◌, List, Option, Result, Ok, Err}
+use Rattle.std.specs.Prelude.{◌≡◌, ◌≤◌, ℕ, ◌+◌, List, Bool, Option, Some, Result, Ok, Err}
 use Rattle.sblock.specs.declared.block.BlockFault.{BlockFault}
 use Rattle.sblock.specs.Form.{Form}
-use Rattle.tree_defs.specs.Tree.{Trail, Read, read_tree}
-use Rattle.tree_defs.specs.Walked.{walked}
+use Rattle.tree_defs.specs.Tree.{Trail, Read, read_node, read_tree}
+use Rattle.tree_defs.specs.Walked.{walked, walked_node}
 use Rattle.tree_defs.specs.declared.site.Site.{Site}
 use Rattle.tree_blocks.specs.declared.tree.TreeAt.{TreeAt}
 use Rattle.sblock.specs.declared.spans.Span.{Span}
@@ -39,3 +39,13 @@ HasRead before n after (Err fault) = CountedBy before n after fault
 -- the blocks of this tree that a walk reads were counted
 abbrev pub CountsTree : {A R K : Type 0} → Form R K → Site → (ℕ → List ℕ) → TreeAt → ℕ → ℕ → Result A WalkFault → Type 0
 CountsTree form site m tree before after result = HasRead before (walked form site m tree.root tree.levels) after result
+
+-- where the blocks are known, the subtree of a block is read, beside the trail so far ..
+abbrev pub MeetsBlock : {R K : Type 0} → Form R K → Site → Option (ℕ → List ℕ) → ℕ → Bool → ℕ → Trail R → Result (Option (Span K)) WalkFault → Trail R → Type 0
+MeetsBlock form site told level root p before result after =
+    (m : ℕ → List ℕ) → told ≡ Some m → MeetsNode (read_node form site m level root p before) result after
+
+-- .. and its reads are counted
+abbrev pub CountsBlock : {A R K : Type 0} → Form R K → Site → Option (ℕ → List ℕ) → ℕ → Bool → ℕ → Trail R → ℕ → ℕ → Result A WalkFault → Type 0
+CountsBlock form site told level root p trail before after result =
+    (m : ℕ → List ℕ) → told ≡ Some m → HasRead before (walked_node form site m level root p trail) after result

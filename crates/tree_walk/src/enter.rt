@@ -1,6 +1,6 @@
 ghost use Rattle.std.specs.Prelude.{◌≡◌, List, ℕ, ◌+◌, ◌*◌, ◌^◌, ◌<◌, ◌==◌, IfOk, IfErr, Some, None};
 ghost use Rattle.tree_defs.specs.Tree.{order_fault, fault_here, noted};
-ghost use Rattle.tree_blocks.specs.Meets.{RefusesBlock};
+ghost use Rattle.tree_blocks.specs.Meets.{RefusesTold};
 ghost use Rattle.tree_blocks.specs.Calls.{Reads};
 ghost use Rattle.blk_device.specs.Causes.{HasCause};
 ghost use Rattle.tree_blocks.specs.Reading.{is_failed};
@@ -64,7 +64,7 @@ pub fn enter<K: RecKind, B: Blocks>(
     ensures passes { IfOk result (λ block. fault_here K.form site.now (trail_of seen.old) level root p block.bytes ≡ None) }
     ensures trail { IfOk result (λ block. trail_of seen.new ≡ noted (trail_of seen.old) level p block.bytes) }
     ensures told { IfOk result (λ block. (m : ℕ → List ℕ) → B.told blocks.old ≡ Some m → block.bytes ≡ m p) }
-    ensures refused { IfErr result (λ fault. (m : ℕ → List ℕ) → B.told blocks.old ≡ Some m → RefusesBlock p (fault_here K.form site.now (trail_of seen.old) level root p (m p)) fault) }
+    ensures refused { IfErr result (RefusesTold (B.told blocks.old) p (fault_here K.form site.now (trail_of seen.old) level root p)) }
     ensures reading { Reads B.Blocks blocks.old blocks.new }
     ensures cause { HasCause is_failed (B.faults blocks.old) (B.faults blocks.new) result }
     ensures one { B.count blocks.new ≡ B.count blocks.old + 1 }

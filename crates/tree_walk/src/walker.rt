@@ -8,7 +8,7 @@ ghost use Rattle.tree_defs.specs.Tree.{entry_at, agrees, fresh, closed, read_nod
 ghost use Rattle.tree_blocks.specs.Told.{OfTree, WhereTold};
 ghost use Rattle.tree_blocks.specs.Meets.{Refuses};
 ghost use Rattle.tree_defs.specs.Walked.{walked_node, walked};
-ghost use Rattle.tree_walk.specs.Meets.{MeetsNode, MeetsTree, MeetsTreeAt, HasRead, CountedBy, CountsTree};
+ghost use Rattle.tree_walk.specs.Meets.{MeetsBlock, MeetsTree, MeetsTreeAt, CountedBy, CountsBlock, CountsTree};
 ghost use Rattle.tree_blocks.specs.Calls.{Reads};
 ghost use Rattle.blk_device.specs.Reading.{OnlyRead};
 ghost use Rattle.blk_device.specs.Causes.{HasCause};
@@ -60,10 +60,10 @@ fn walk_node<K: RecKind, B: Blocks>(
     requires low { level < 9 }
     requires inside { p < site.now.bounds.length }
     requires here { B.place blocks.old ≡ site.now }
-    ensures exact { (m : ℕ → List ℕ) → B.told blocks.old ≡ Some m → MeetsNode (read_node K.form site.now m level root p (trail_of seen.old)) result (trail_of seen.new) }
+    ensures exact { MeetsBlock K.form site.now (B.told blocks.old) level root p (trail_of seen.old) result (trail_of seen.new) }
     ensures sound { AreSound K.form site.now.bounds seen.old.recs.items → OnOk result (AreSound K.form site.now.bounds seen.new.recs.items) }
     ensures lie { LieInside site.now.bounds.length seen.old.blocks.items → OnOk result (LieInside site.now.bounds.length seen.new.blocks.items) }
-    ensures counted { (m : ℕ → List ℕ) → B.told blocks.old ≡ Some m → HasRead (B.count blocks.old) (walked_node K.form site.now m level root p (trail_of seen.old)) (B.count blocks.new) result }
+    ensures counted { CountsBlock K.form site.now (B.told blocks.old) level root p (trail_of seen.old) (B.count blocks.old) (B.count blocks.new) result }
     ensures reading { Reads B.Blocks blocks.old blocks.new }
     ensures cause { HasCause is_failed (B.faults blocks.old) (B.faults blocks.new) result }
     ensures each { OnOk result (B.count blocks.new + length seen.old.blocks.items ≡ B.count blocks.old + length seen.new.blocks.items) }
@@ -136,7 +136,7 @@ fn walk_levels<K: RecKind, B: Blocks>(
     ensures exact { (m : ℕ → List ℕ) → B.told blocks.old ≡ Some m → MeetsTree (closed levels (read_node K.form site.now m (levels - 1) true root fresh)) result }
     ensures sound { IfOk result (λ read. AreSound K.form site.now.bounds read.recs.items) }
     ensures lie { IfOk result (λ read. LieInside site.now.bounds.length read.blocks.items) }
-    ensures counted { (m : ℕ → List ℕ) → B.told blocks.old ≡ Some m → HasRead (B.count blocks.old) (walked_node K.form site.now m (levels - 1) true root fresh) (B.count blocks.new) result }
+    ensures counted { CountsBlock K.form site.now (B.told blocks.old) (levels - 1) true root fresh (B.count blocks.old) (B.count blocks.new) result }
     ensures reading { Reads B.Blocks blocks.old blocks.new }
     ensures cause { HasCause is_failed (B.faults blocks.old) (B.faults blocks.new) result }
     ensures each { IfOk result (λ read. B.count blocks.new ≡ B.count blocks.old + length read.blocks.items) }

@@ -41,3 +41,8 @@ module _ {R : Type 0} (before : R → R → Bool) where
 unfoldable pub shown_from : {R K : Type 0} → Form R K → Shown R → List R → List R → ℕ → ℕ → List (Option Fault)
 shown_from form shown index derived i j =
     merged (comes_before form) (missing_of form shown index) (extra_of form shown derived) (drop i derived) (drop j index)
+
+-- this is shown between two pairs of cursors
+abbrev pub IsShown : {R K : Type 0} → Form R K → Shown R → List R → List R → ℕ → ℕ → Option Fault → ℕ → ℕ → Type 0
+IsShown form shown index derived i j fault i' j' =
+    shown_from form shown index derived i j ≡ fault ∷ shown_from form shown index derived i' j'

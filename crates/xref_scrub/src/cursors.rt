@@ -2,7 +2,7 @@ ghost use Rattle.std.specs.Prelude.{◌≡◌, ℕ, ◌+◌, ◌-◌, ◌<◌, �
 ghost use Rattle.std.specs.List.{list_any};
 ghost use Rattle.sblock.specs.Blocks.{IsRising};
 ghost use Rattle.sblock.specs.Lists.{IsAhead, Each};
-ghost use Rattle.xref_scrub.specs.Cursors.{IsNotBehind, IsParted, is_first_next, shown_from};
+ghost use Rattle.xref_scrub.specs.Cursors.{IsNotBehind, IsParted, IsShown, is_first_next};
 ghost use Rattle.xref_scrub.specs.Differences.{comes_before, missing_of, extra_of};
 
 use crate::indexed::Indexed;
@@ -120,7 +120,7 @@ pub fn pass<K: Indexed>(index: &[K::Rec], derived: &[K::Rec], at: &mut Cursors) 
     requires some { at.old.derived + at.old.index < length derived.now + length index.now }
     ensures parted { IsParted (comes_before K.form) derived.now index.now at.new.derived at.new.index }
     ensures step { at.new.derived + at.new.index ≡ at.old.derived + at.old.index + 1 }
-    ensures shown { shown_from K.form K.shown index.now derived.now at.old.derived at.old.index ≡ result ∷ shown_from K.form K.shown index.now derived.now at.new.derived at.new.index }
+    ensures shown { IsShown K.form K.shown index.now derived.now at.old.derived at.old.index result at.new.derived at.new.index }
 {
     if is_derived_next::<K>(index, derived, *at) {
         let fault = missing_at::<K>(index, at.index, &derived[at.derived]);
