@@ -2,7 +2,7 @@ ghost use Rattle.std.specs.Prelude.{◌≡◌, ℕ, ◌+◌, ◌-◌, ◌<◌, �
 ghost use Rattle.std.specs.List.{list_any};
 ghost use Rattle.sblock.specs.Blocks.{IsRising};
 ghost use Rattle.sblock.specs.Lists.{IsAhead, Each};
-ghost use Rattle.xref_scrub.specs.Cursors.{IsNotBehind, IsParted, IsShown, is_first_next};
+ghost use Rattle.xref_scrub.specs.Cursors.{IsNotBehind, IsParted, IsShown, is_first_next, shown_from};
 ghost use Rattle.xref_scrub.specs.Differences.{comes_before, missing_of, extra_of};
 
 use crate::indexed::Indexed;
