@@ -237,7 +237,7 @@ module _ (at : Layout) (image : Image) (core : Core3) (fork : Fork) where
 
   pub few_met : is_tree core fork ≡ true → reads_of (walk_tree at image core fork) ≤ most_met at image core fork
   unfolding met_of
-  few_met tree = rw tree (met_reads (walk_tree at image core fork) (root_level (area_of core fork)))
+  few_met tree = rw (tree) (met_reads (walk_tree at image core fork) (root_level (area_of core fork)))
 
   pub none_found : inline_fault at core fork ≡ None → is_tree core fork ≡ false → None ≡ walk_fault at image core fork
   unfolding walk_fault met_of inline_fault

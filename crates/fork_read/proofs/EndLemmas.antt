@@ -83,7 +83,7 @@ module _ (at : Layout) (image : Image) (core : Core3) (from : ℕ) where
         here = subst (λ zs. IsBorder at image core from xs t n zs u) e h
 
         by_test : (b : Bool) → may_stop from u.mappings x rest ≡ b → HasGone at image core from xs t (if b then Left x else Long x) rest u
-        by_test true m = record { count = n; border = here }
+        by_test true m = record { count = n; border = here; late = late }
         by_test false m = record { count = n; border = here; late = late; stays = m }
 
     pub low_end : AllLow all → IsLow rest (end_before from u.mappings x rest)

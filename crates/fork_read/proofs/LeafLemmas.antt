@@ -27,7 +27,7 @@ given_both p (x ∷ xs) ys =
     let rest = given_both p xs ys in
     elim (cases_Bool (p x)) [ inl kept ↦ rw kept (omega (arith, rest)) | inr out ↦ rw out rest ]
 
-few_in : (n : ℕ) (bytes : List ℕ) → length (mappings_in n bytes) ≤ n
+pub few_in : (n : ℕ) (bytes : List ℕ) → length (mappings_in n bytes) ≤ n
 unfolding mappings_in
 few_in zero bytes = omega arith
 few_in (suc n) bytes = let rest = few_in n (drop 16 bytes) in omega (arith, rest)

@@ -159,7 +159,7 @@ module _ (at : Layout) (image : Image) (core : Core3) (from : ℕ) where
   upto_tasks level n [] h = tt
   upto_tasks level n (e ∷ es) h = (h, upto_tasks level n es h)
 
-  upto_below : (level skipped n : ℕ) (bytes : List ℕ) (xs : List Task) → n ≤ level → UpTo level xs → UpTo level (below_of skipped n bytes ++ xs)
+  pub upto_below : (level skipped n : ℕ) (bytes : List ℕ) (xs : List Task) → n ≤ level → UpTo level xs → UpTo level (below_of skipped n bytes ++ xs)
   upto_below level skipped zero bytes xs h up = up
   upto_below level skipped (suc n) bytes xs h up = both (tasks_of n (pruned skipped (node_entries bytes))) (upto_tasks level n (pruned skipped (node_entries bytes)) (omega (arith, h)))
     where
