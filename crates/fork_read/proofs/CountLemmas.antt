@@ -9,24 +9,22 @@ use Rattle.geom.specs.Layout.{Layout, blkno_of, split_of}
 use Rattle.dinode_core.specs.declared.inode.Core3.{Core3}
 use Rattle.dinode_core.specs.declared.mapping.Mapping.{Mapping}
 use Rattle.dinode_core.specs.declared.mapping.Fork.{Fork}
-use Rattle.dinode_core.specs.declared.mapping.ForkFault.{ForkFault}
-use Rattle.dinode_core.specs.declared.mapping.ForkFault.TheVariants as faults
-use Rattle.dinode_core.specs.Inline.{first_bad, form_fault, or_else, root_level}
+use Rattle.dinode_core.specs.Inline.{first_bad, form_fault, root_level}
 use Rattle.dinode_core.specs.Shape.{area_of}
 use Rattle.dinode_core.specs.ForkTree.{Image, Trail, TreeBlock, Last, Entry, ◌>>=◌, first_key, is_fork_block, is_right, is_tree, leaf_mappings, met_in, met_of, node_entries, numrecs, start, walk_each, walk_in, walk_tree, with_mappings}
 use Rattle.fork_read.specs.declared.fault.ForkPiece.{ForkPiece}
 use Rattle.fork_read.specs.declared.tasks.Task.{Task}
 use Rattle.fork_read.specs.declared.walk.Stop.{Stop as Way}
 use Rattle.fork_read.specs.declared.walk.Stop.TheVariants.{Bad, Whole, Left, Long, Fallen}
-use Rattle.fork_read.specs.Answers.{IsPiece, given_of, judged, may_stop, next_of}
+use Rattle.fork_read.specs.Answers.{IsPiece, given_of, judged, next_of}
 use Rattle.fork_read.specs.Counted.{AreFew, HasSpent, IsSpent, way_down}
 use Rattle.fork_read.specs.First.{most_met}
-use Rattle.fork_read.specs.Pieces.{Ends, IsForkPiece, IsTreePiece}
-use Rattle.fork_read.specs.Walk.{IsRead, Leaves, entry_of, first_tasks, is_resumed, passed_from, pruned, read_at, skipped_to, taken_in, tasks_of, walk_from, walk_tasks}
+use Rattle.fork_read.specs.Pieces.{Ends, IsTreePiece}
+use Rattle.fork_read.specs.Walk.{Leaves, entry_of, first_tasks, is_resumed, passed_from, pruned, read_at, skipped_to, taken_in, tasks_of, walk_from, walk_tasks}
 use Rattle.fork_read.specs.Whole.{Follow, all_blocks, all_mappings}
 use Rattle.fork_read.proofs.EachLemmas.{one_taken}
-use Rattle.fork_read.proofs.JoinLemmas.{Come, Edge, View, view}
-use Rattle.fork_read.proofs.LawLemmas.{EndOf, any_edge, first_end, follow_on, form_first, from_there, past, piece_on, whole_walk}
+use Rattle.fork_read.proofs.JoinLemmas.{Come, View, view}
+use Rattle.fork_read.proofs.LawLemmas.{EndOf, any_edge, first_end, follow_on, from_there, past, piece_on, whole_walk}
 use Rattle.fork_read.proofs.LeafLemmas.{few_in}
 use Rattle.fork_read.proofs.RootLemmas.{root_facts}
 use Rattle.fork_read.proofs.RunLemmas.{UpTo, middle, one_way, upto_below}

@@ -1,6 +1,6 @@
 -- Pieces one after another are the whole fork, or end in its first fault.
-use Rattle.std.proofs.Common.{◌≡◌, ℕ, zero, suc, ◌+◌, ◌-◌, ◌<◌, ◌≤◌, Bool, true, false, List, [], ◌∷◌, ◌++◌, length, map, filter, Option, Some, None, Result, Ok, Err, refl, ap, sym, subst, ◌∙◌, inl, inr, append-nil, arith}
-use Rattle.std.specs.Prelude.{⊤, ◌⊎◌, ◌&&◌, nat_le}
+use Rattle.std.proofs.Common.{◌≡◌, ℕ, zero, suc, ◌+◌, ◌-◌, ◌<◌, ◌≤◌, Bool, true, false, List, [], ◌∷◌, ◌++◌, length, map, Option, Some, None, Result, Ok, Err, refl, ap, sym, subst, ◌∙◌, inl, inr, append-nil, arith}
+use Rattle.std.specs.Prelude.{◌⊎◌, ◌&&◌, nat_le}
 use Rattle.std.proofs.lemmas.Bool.{cases_Bool, false≢true}
 use Rattle.std.proofs.lemmas.Bool.Decides.{nat_tests}
 use Rattle.std.proofs.lemmas.List.{append_assoc}
@@ -19,13 +19,13 @@ use Rattle.fork_read.specs.declared.walk.Stop.{Stop as Way}
 use Rattle.fork_read.specs.declared.walk.Stop.TheVariants.{Bad, Whole, Left, Long, Fallen}
 use Rattle.fork_read.specs.Answers.{IsPiece, given_of, judged, may_stop, next_of}
 use Rattle.fork_read.specs.Parts.{Each}
-use Rattle.fork_read.specs.Pieces.{Ends, IsForkFault, IsForkPiece, IsTreeFault, IsTreePiece}
+use Rattle.fork_read.specs.Pieces.{Ends, IsForkFault, IsTreeFault, IsTreePiece}
 use Rattle.fork_read.specs.Stuck.{EndsLeaf, IsBehind, IsBorder, IsStuck}
 use Rattle.fork_read.specs.Walk.{Leaves, first_tasks, walk_all, walk_tasks}
 use Rattle.fork_read.specs.Whole.{Follow, IsCut, IsUnseen, IsWhole, LastBad, all_blocks, all_mappings}
 use Rattle.fork_read.proofs.BadLemmas.{last_of, may_end_here}
 use Rattle.fork_read.proofs.FirstLemmas.{or_none, shown_first}
-use Rattle.fork_read.proofs.JoinLemmas.{Come, Edge, Stop, View, again, bad_there, edge, edge_first, goes_there, leaf_adds, none_before, stops, view, view_first}
+use Rattle.fork_read.proofs.JoinLemmas.{Come, Edge, View, bad_there, edge, edge_first, goes_there, leaf_adds, none_before, stops, view, view_first}
 use Rattle.fork_read.proofs.PieceLemmas.{form_none}
 use Rattle.fork_read.proofs.RestLemmas.{FromKey, met_by, rest_adds, tasks_add}
 use Rattle.fork_read.proofs.RiseLemmas.{Clears, all_before, bad_stays, cancel, good_front, inner_or_last, none_bad, none_kept}

@@ -1,5 +1,5 @@
 -- What the steps of a walk tell, where the device tells its content.
-use Rattle.std.specs.Prelude.{◌≡◌, ℕ, ◌-◌, ◌*◌, ◌+◌, Bool, List, ◌∷◌, Option, Some, Result, IfOk}
+use Rattle.std.specs.Prelude.{◌≡◌, ℕ, Bool, List, ◌∷◌, Option, Some, Result, IfOk}
 use Rattle.blk_device.specs.Contents.{Contents}
 use Rattle.blk_device.specs.declared.device.Region.TheVariants.{Image}
 use Rattle.byte_fields.specs.declared.block.Block.{Block}

@@ -1,4 +1,4 @@
-use Rattle.std.proofs.Common.{◌+◌, ◌≤◌, drop, get_or, Option, refl, subst, ◌∙◌, arith}
+use Rattle.std.proofs.Common.{◌+◌, drop, get_or, Option, refl, subst, ◌∙◌, arith}
 use Rattle.blk_device.specs.ReadingLaws.{nothing_read, read_on}
 use Rattle.blk_device.specs.declared.device.Region.TheVariants.{Image}
 use Rattle.fs_model.specs.declared.claim.Evidence.{Evidence}

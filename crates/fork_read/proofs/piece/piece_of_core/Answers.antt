@@ -1,6 +1,6 @@
 use Rattle.geom.specs.Places.{layout}
 use Rattle.fork_read.proofs.PieceLemmas.{form_none}
-use Rattle.std.proofs.Common.{◌+◌, ◌≤◌, [], None, refl, arith}
+use Rattle.std.proofs.Common.{[], None, refl, arith}
 use Rattle.fork_read.proofs.RangeLemmas.{inline_ranged}
 use Rattle.fork_read.proofs.SizeLemmas.{inline_sized}
 use Rattle.fork_read.proofs.SpendLemmas.{nothing_spent}

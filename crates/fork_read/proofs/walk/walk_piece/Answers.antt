@@ -1,4 +1,4 @@
-use Rattle.std.proofs.Common.{◌≡◌, ◌∷◌, ◌∙◌, sym, subst}
+use Rattle.std.proofs.Common.{◌∷◌, ◌∙◌, sym, subst}
 use Rattle.std.proofs.lemmas.Result.{IfOk-weaker}
 use Rattle.blk_device.specs.ReadingLaws.{read_on}
 use Rattle.blk_device.specs.declared.device.Region.TheVariants.{Image}
