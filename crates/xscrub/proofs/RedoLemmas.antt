@@ -11,11 +11,12 @@ use Rattle.blk_device.specs.Taken.{IsFront}
 use Rattle.blk_device.specs.declared.device.Region.{Region}
 use Rattle.blk_device.specs.declared.device.Region.TheVariants.{Image, Redo}
 use Rattle.fs_model.specs.declared.entry.Entry.{Entry}
+use Rattle.image_check.specs.Image.{IsKept}
 use Rattle.redo_area.specs.Area.{is_open}
 use Rattle.redo_area.specs.declared.TheConstants.{REDO_BLOCKS}
 use Rattle.space_check.specs.Events.{Event}
 use Rattle.xscrub.specs.Image.{behind_gate, behind_redo, device_events, device_outcome, image_events, image_outcome, redo_refusal}
-use Rattle.xscrub.specs.Judged.{HasDeviceFront, HasFrontOf, IsDeviceJudged, IsJudged, IsKept, Kept, KeptOfDevice, TellsOfDevice, TellsOfImage, journal_at, journal_in, judgement_outcome}
+use Rattle.xscrub.specs.Judged.{HasDeviceFront, HasFrontOf, IsDeviceJudged, IsJudged, Kept, KeptOfDevice, TellsOfDevice, TellsOfImage, journal_at, journal_in, judgement_outcome}
 use Rattle.xscrub.specs.MemFiles.{redo_of, with_redo}
 use Rattle.xscrub.specs.Outcome.{Outcome, is_image_line, is_refusal}
 use Rattle.xscrub.specs.Stored.{Stored, opened}

@@ -1,6 +1,6 @@
-//! The top call over any host: checks an XFS version 5 image, which is the free space and the
-//! reference counts of each group against its reverse mapping btree, and reports what was found; or
-//! makes a new image.
+//! The top call over any host: checks an XFS version 5 image, and reports what was found; or makes a
+//! new image. Checked are the inodes of each group, its reverse mappings against all that has blocks of
+//! the group, its free space, its reference counts, and the counters of each.
 #![tactic(auto)]
 
 mod advice;
