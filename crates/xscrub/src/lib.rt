@@ -17,7 +17,7 @@ mod redo;
 mod telling;
 mod top;
 
-pub use crate::advice::{NamedFile, explain, tell_failure, tell_unlooked};
+pub use crate::advice::{NamedFile, explain, tell_failure, tell_status};
 pub use crate::asked::DeviceAsked;
 pub use crate::command::{Command, command_of};
 pub use crate::ending::{Finding, Status, Told};
