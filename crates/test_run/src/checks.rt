@@ -1,12 +1,13 @@
 use crate::fresh::{small_image, small_with, two_groups_with};
 use crate::runs::{ALL_GOOD, SOUND, expect_end, run_words};
 use crate::trees::{at, bno_leaf, run};
+use blk_device::MemDevice;
 use byte_fields::Block;
 use fs_model::{AnyRec, Entry, Fault, Unit, Verdict};
 use sblock::{BlockFault, Kind};
 use std::alloc::{AllocError, Global};
 use std::test::Fail;
-use xscrub::{MemHost, Purpose, RunEnd};
+use xscrub::{MemHost, Purpose, RunEnd, judge};
 
 const USAGE: &str =
     "usage: xscrub JOB TARGET [--redo FILE] [--script FILE] [--rebuild] [--turns N]\n";
@@ -154,6 +155,31 @@ fn each_read_of_the_device_may_fail(rt: HostRuntime) -> Result<(), Fail> {
     )?;
     expect_end(&rt, &end, &host, 1, report.as_str())?;
     assert_eq!(rt; host.dev_faults, 0);
+    Ok(())
+}
+
+#[test]
+fn how_often_each_block_is_read(rt: HostRuntime) -> Result<(), Fail> {
+    let alloc = rt.alloc();
+    let image = two_groups_with(alloc, &[])?;
+    let mut dev = MemDevice::with_image(alloc, image.size, 1, image.blocks, Vec::new(alloc))?;
+    assert!(rt; judge(alloc, &mut dev).is_ok());
+    // The superblock is in block 0, beside the heads of group 0.
+    assert_eq!(rt; dev.reads_at(0), 2);
+    assert_eq!(rt; dev.reads_at(64), 1);
+    for group in [0, 64u64] {
+        // Each btree is read for the inodes and for the reverse mappings; the inode btree besides for
+        // the chunks, and those of the group's space for their own units.
+        for block in [1, 2, 3, 5, 6] {
+            let at = group.wrapping_add(block);
+            assert_eq!(rt; dev.reads_at(at), 3, "block {at}");
+        }
+        assert_eq!(rt; dev.reads_at(group.wrapping_add(4)), 2);
+    }
+    // A chunk is read for its cores, and for the forks of its inodes.
+    for block in 24..32 {
+        assert_eq!(rt; dev.reads_at(block), 2, "block {block}");
+    }
     Ok(())
 }
 

@@ -14,7 +14,7 @@ pub(crate) struct Stretch {
     pub count: u64,
 }
 
-pub(crate) fn stretch(offset: u64, block: u64, count: u64) -> Stretch {
+pub(crate) fn written(offset: u64, block: u64, count: u64) -> Stretch {
     Stretch {
         offset,
         block,
@@ -98,7 +98,7 @@ pub(crate) fn with_file(leaf: Block) -> Block {
 // Writes the mapping of one block, where a leaf of a fork's btree has room for it.
 fn put_piece(block: &mut Block, i: usize, piece: &RmapRec) {
     if i < 251 {
-        let (first, second) = packed(&stretch(piece.word, u64::from(piece.start), 1));
+        let (first, second) = packed(&written(piece.word, u64::from(piece.start), 1));
         put_u64(&mut block.bytes, 72 + 16 * i, first);
         put_u64(&mut block.bytes, 80 + 16 * i, second);
     }

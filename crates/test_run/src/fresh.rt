@@ -1,6 +1,6 @@
 //! Images for tests. Heads, space btrees and reverse mappings are built here from outside; the inode
 //! btrees and the chunk are those of a new image.
-use crate::files::{chunk_with, file_core, stretch, with_file};
+use crate::files::{chunk_with, file_core, with_file, written};
 use crate::heads::{Group, altered, heads_of, mended_heads};
 use crate::trees::{
     Place, at, bno_leaf, cnt_leaf, mapped, owned, refc_leaf, rmap_leaf, run, shared,
@@ -199,7 +199,7 @@ fn file_owned(alloc: Global) -> Result<Vec<RmapRec>, AllocError> {
 fn file_chunk(alloc: Global) -> Result<Block, AllocError> {
     let mut stretches = Vec::new(alloc);
     for (start, count, offset) in FILE_RUNS.iter() {
-        stretches.push(stretch(*offset, u64::from(*start), u64::from(*count)))?;
+        stretches.push(written(*offset, u64::from(*start), u64::from(*count)))?;
     }
     Ok(chunk_with(&file_core(stretches.as_slice())))
 }

@@ -1,5 +1,5 @@
 //! Records and counters that differ from what the reverse mappings give.
-use crate::files::{chunk_with, file_core, stretch, with_file};
+use crate::files::{chunk_with, file_core, with_file, written};
 use crate::fresh::{
     file_free, file_heads, file_shared, file_with, image_of, small_group, small_heads, small_owned,
     small_with, two_groups_with,
@@ -216,7 +216,7 @@ fn a_group_without_free_blocks_is_good(rt: HostRuntime) -> Result<(), Fail> {
         longest: 0,
         ..small_group()
     };
-    let file = file_core(&[stretch(0, 19, 5), stretch(5, 32, 224)]);
+    let file = file_core(&[written(0, 19, 5), written(5, 32, 224)]);
     let [a, b, c, d, e, list, chunk] = small_owned();
     let (low, high) = (mapped(19, 5, 195, 0), mapped(32, 224, 195, 5));
     let blocks = [

@@ -1,5 +1,5 @@
 //! Inodes and reverse mappings that are faulty, and units that are given up.
-use crate::files::{Stretch, chunk_with, file_core, stretch, with_file};
+use crate::files::{Stretch, chunk_with, file_core, with_file, written};
 use crate::fresh::{
     file_heads, first_of_two, second_of_two, small_group, small_heads, small_owned, small_with,
     two_groups_with,
@@ -84,13 +84,13 @@ fn file_image(alloc: Global, stretches: &[Stretch]) -> Result<MemImage, AllocErr
 fn what_an_inode_maps_is_derived(rt: HostRuntime) -> Result<(), Fail> {
     // Two mappings that go on one another are one run; written data may be shared.
     let rows: [(&[Stretch], &str); 3] = [
-        (&[stretch(7, 40, 1)], "missing 40 1 195 7 -\n0 rmap faulty 1"),
+        (&[written(7, 40, 1)], "missing 40 1 195 7 -\n0 rmap faulty 1"),
         (
-            &[stretch(0, 40, 2), stretch(2, 42, 3)],
+            &[written(0, 40, 2), written(2, 42, 3)],
             "missing 40 5 195 0 -\n0 rmap faulty 1",
         ),
         (
-            &[stretch(0, 40, 2), stretch(9, 41, 1)],
+            &[written(0, 40, 2), written(9, 41, 1)],
             "missing 40 2 195 0 -\n0 rmap missing 41 1 195 9 -\n0 rmap faulty 2",
         ),
     ];
@@ -180,13 +180,13 @@ fn inodes_are_given_up_for_each_evidence(rt: HostRuntime) -> Result<(), Fail> {
 #[test]
 fn reverse_mappings_are_given_up_for_a_fork(rt: HostRuntime) -> Result<(), Fail> {
     let rows: [(&[Stretch], &str); 6] = [
-        (&[stretch(0, 0, 1)], "overlap 0 heads data 195"),
-        (&[stretch(0, 18, 2)], "overlap 18 list data 195"),
-        (&[stretch(0, 40, 1), stretch(1, 31, 1)], "overlap 31 chunk data 195"),
+        (&[written(0, 0, 1)], "overlap 0 heads data 195"),
+        (&[written(0, 18, 2)], "overlap 18 list data 195"),
+        (&[written(0, 40, 1), written(1, 31, 1)], "overlap 31 chunk data 195"),
         // A mapping that passes the group's end, one that begins before the last, and one in its offsets.
-        (&[stretch(0, 255, 2)], "badfork 195 range"),
-        (&[stretch(9, 40, 1), stretch(8, 41, 1)], "badfork 195 order"),
-        (&[stretch(8, 40, 2), stretch(9, 42, 1)], "badfork 195 overlap"),
+        (&[written(0, 255, 2)], "badfork 195 range"),
+        (&[written(9, 40, 1), written(8, 41, 1)], "badfork 195 order"),
+        (&[written(8, 40, 2), written(9, 42, 1)], "badfork 195 overlap"),
     ];
     for (stretches, evidence) in &rows {
         let image = file_image(rt.alloc(), *stretches)?;
@@ -222,7 +222,7 @@ fn a_unit_keeps_others_from_being_judged(rt: HostRuntime) -> Result<(), Fail> {
         (0, file_heads(&first_of_two())),
         (3, with_file(fresh_block(1, 256, 3))),
         (4, with_file(fresh_block(1, 256, 4))),
-        (24, chunk_with(&file_core(&[stretch(0, 63, 2)]))),
+        (24, chunk_with(&file_core(&[written(0, 63, 2)]))),
     ];
     let image = two_groups_with(rt.alloc(), &blocks)?;
     let report = format!(in rt.alloc();
@@ -239,7 +239,7 @@ fn a_file_may_have_blocks_of_another_group(rt: HostRuntime) -> Result<(), Fail> 
         (0, file_heads(&first_of_two())),
         (3, with_file(fresh_block(1, 256, 3))),
         (4, with_file(fresh_block(1, 256, 4))),
-        (24, chunk_with(&file_core(&[stretch(4, 94, 2)]))),
+        (24, chunk_with(&file_core(&[written(4, 94, 2)]))),
     ];
     let image = two_groups_with(rt.alloc(), &blocks)?;
     let report = "0 inode good\n1 inode good\n0 rmap good\n1 rmap missing 30 2 195 4 -\n\

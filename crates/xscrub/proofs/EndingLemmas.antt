@@ -122,7 +122,7 @@ both_ways true = inl refl
 both_ways false = inr refl
 
 -- the status of a journal, by both of its tests
-status_by : Bool → Bool → Status
+abbrev status_by : Bool → Bool → Status
 status_by calm given_up = cond calm statuses.Clean (cond given_up statuses.GaveUp statuses.Faulty)
 
 judged_ends : (journal : List Entry) (h h' d d' k k' : ℕ) → h' ≡ h → d' ≡ d → k' ≡ k → HasOutcomeCause (judged_outcome journal) h h' d d' k k'

@@ -218,11 +218,10 @@ fn call_behind(call: u64, others: u64) -> u64
 fn calls_behind(alloc: Global, calls: &[u64], others: u64) -> Result<Vec<u64>, AllocError>
     ensures { IfOk result (λ behind. behind.items ≡ map (λ call. raised call others) calls.now) }
 {
-    let mut behind = Vec::new(alloc);
-    for call in calls {
-        behind.push(call_behind(*call, others))?;
-    }
-    Ok(behind)
+    calls
+        .iter()
+        .map(|call| call_behind(*call, others))
+        .collect(alloc)
 }
 
 // A device over a copy of the image and of a redo file. Its first calls put the redo file there; of those
