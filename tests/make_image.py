@@ -44,6 +44,8 @@ An EDIT, in the order of the command line, is one of
     --add GROUP:TREE:NUMBER:..          puts in a record, keys and checksums mended
     --drop GROUP:TREE:N                 takes out record N, keys and checksums mended
     --change GROUP:TREE:N:NAME:VALUE    changes one number of record N, keys and checksums mended
+    --fork                              prints the block where the pieces of group 0 begin, behind the
+                                        btree of their file
     --tree GROUP:TREE                   prints a line `LEVEL BLOCK` for each block, leaves first
     --records GROUP:TREE                prints a line for each record
     --map INODE:OFFSET:BLOCK:COUNT      gives an inode of group 0 one more mapping behind those that
@@ -64,7 +66,7 @@ sys.dont_write_bytecode = True
 
 from xfs_forks import mapped_by, write_mappings
 from xfs_formats import AGI, HEADER, HEADS, Field, crc32c
-from xfs_fresh import Plan, fresh
+from xfs_fresh import FORK_TREE, Plan, fresh
 from xfs_image import Image, part_of, tree_of
 
 # The edits. Each takes the image and the words between its colons.
@@ -149,6 +151,14 @@ def add_mapping(image, inode, offset, block, count, unwritten="0"):
     write_mappings(image, inode, mappings, 0, 0)
 
 
+def end_of_fork(image):
+    """The block behind the btree of a file of group 0."""
+    for start, count, _, word in tree_of(image, 0, "rmap").records:
+        if word == FORK_TREE:
+            return start + count
+    return None
+
+
 def print_tree(image, group, name):
     for level, row in enumerate(tree_of(image, number(group), name).root.rows()):
         for node in row:
@@ -193,6 +203,7 @@ def command_line():
     words.add_argument("--half", action="store_true")
     words.add_argument("--bare", action="store_true")
     words.add_argument("--cut", type=int, metavar="BLOCKS")
+    words.add_argument("--fork", action="store_true")
     for name, (_, metavar) in EDITS.items():
         edit = lambda text, name=name: (name, text.split(":"))
         words.add_argument(f"--{name}", dest="edits", action="append", type=edit, metavar=metavar, default=[])
@@ -209,6 +220,8 @@ def make(words):
     image = Image.opened(given.out) if given.on else fresh(given.out, plan)
     for name, values in given.edits:
         EDITS[name][0](image, *values)
+    if given.fork:
+        print(end_of_fork(image))
     image.save(given.cut)
 
 

@@ -6,7 +6,8 @@
 
 Prints the lines that a check of the image is to print. The superblock and the heads of all groups are
 to be sound: they aren't tested here. With --lines each line of standard input is the name of an image;
-what is printed of it is followed by a line `done`, or by one that says what is wrong.
+before what is printed of it stands a line `= G KIND BLOCK FAULT` for each btree that can't be read, and
+behind it a line `done`, or one that says what is wrong.
 
 It shares no code with the checker, and little with what makes the images: the places of fields.
 """
@@ -682,15 +683,24 @@ def report(path):
     return Check(System(path)).run()
 
 
+def unread(check):
+    """Each btree that can't be read, with its first bad block."""
+    for group in check.groups:
+        for name, tree in group.trees.items():
+            if tree.bad:
+                yield f"= {group.number} {name} {tree.bad[0]} {tree.bad[1]}"
+
+
 def main():
     if sys.argv[1:] != ["--lines"]:
         print("\n".join(report(sys.argv[1])))
         return
     for line in sys.stdin:
         try:
-            for shown in report(line.strip()):
+            check = Check(System(line.strip()))
+            for shown in [*unread(check), *check.run(), "done"]:
                 print(shown)
-            print("done", flush=True)
+            sys.stdout.flush()
         except Exception as fault:
             print(f"{type(fault).__name__}: {fault}", flush=True)
 
