@@ -1,6 +1,8 @@
+pub mod AddedLemmas
 pub mod CheckLemmas
 pub mod HeadLemmas
 pub mod JudgedLemmas
+pub mod KeptLemmas
 pub mod OrderLemmas
 pub mod PartLemmas
 pub mod PhaseLemmas

@@ -24,10 +24,10 @@ number_parts a zero m = let z : 0 + m ≡ m = omega arith in let e : a ≡ a + 0
 number_parts a (suc n) m = let s : suc n + m ≡ suc (n + m) = omega arith in let e : (a + 1) + n ≡ a + suc n = omega arith in ap (numbers a) s ∙ ap (λ (ns : List ℕ). a ∷ ns) (number_parts (a + 1) n m ∙ ap (λ x. numbers (a + 1) n ++ numbers x m) e)
 
 -- what n groups give, and then the next one, and then m more
-next_part : {A : Type 0} (f : ℕ → List A) (a n m : ℕ) → flat_map f (numbers a (n + suc m)) ≡ flat_map f (numbers a n) ++ (f (a + n) ++ flat_map f (numbers ((a + n) + 1) m))
+pub next_part : {A : Type 0} (f : ℕ → List A) (a n m : ℕ) → flat_map f (numbers a (n + suc m)) ≡ flat_map f (numbers a n) ++ (f (a + n) ++ flat_map f (numbers ((a + n) + 1) m))
 next_part f a n m = ap (flat_map f) (number_parts a n (suc m)) ∙ flat_both f (numbers a n) (numbers (a + n) (suc m))
 
-last_part : {A : Type 0} (f : ℕ → List A) (a n : ℕ) → flat_map f (numbers a (n + 1)) ≡ flat_map f (numbers a n) ++ f (a + n)
+pub last_part : {A : Type 0} (f : ℕ → List A) (a n : ℕ) → flat_map f (numbers a (n + 1)) ≡ flat_map f (numbers a n) ++ f (a + n)
 last_part f a n = next_part f a n zero ∙ ap (λ xs. flat_map f (numbers a n) ++ xs) (append-nil (f (a + n)))
 
 module _ (a : State) (phase : Phase) (lacks : ℕ → Option Place) where

@@ -2,6 +2,7 @@
 use Rattle.std.proofs.Common.{◌≡◌, ℕ, Bool, true, false, List, get_or, Option, Some, None, refl, ap, sym, ◌∙◌}
 use Rattle.ag_headers.specs.declared.agf.Agf.{Agf}
 use Rattle.fs_derive.specs.Session.{Place}
+use Rattle.fs_model.specs.declared.unit.Unit.TheVariants as units
 use Rattle.fs_state.specs.Kinds.{Image, heads_of}
 use Rattle.fs_state.specs.Read.{Read}
 use Rattle.fs_state.specs.State.{Reading, Readable, Unreadable}
@@ -45,3 +46,14 @@ lacks_none false g e = absurd (some_none _ e) where
 pub passed_if_none : (passed : List Bool) (g : ℕ) → lacks_mappings passed g ≡ None → get_or passed g false ≡ true
 unfolding lacks_mappings
 passed_if_none passed g e = lacks_none (get_or passed g false) g e
+
+-- what is lacked are the reverse mappings of the group itself
+lacked_by : (b : Bool) (g : ℕ) (needed : Place) → mapping_lacked b g ≡ Some needed → needed ≡ (g, units.Rmap)
+lacked_by true g needed e = absurd (none_some needed e) where
+  none_some : (p : Place) → ◌≡◌ {A = Option Place} None (Some p) → ⊥
+  none_some p k = cc
+lacked_by false g needed e = cc
+
+pub lacked_is : (passed : List Bool) (g : ℕ) (needed : Place) → lacks_mappings passed g ≡ Some needed → needed ≡ (g, units.Rmap)
+unfolding lacks_mappings
+lacked_is passed g needed e = lacked_by (get_or passed g false) g needed e

@@ -1,5 +1,7 @@
 pub mod Checks
 pub mod Entries
 pub mod Heads
+pub mod Kept
+pub mod Parts
 pub mod Phases
 pub mod Session

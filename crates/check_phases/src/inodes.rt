@@ -4,6 +4,7 @@ ghost use Rattle.blk_device.specs.Contents.{Contents};
 ghost use Rattle.blk_device.specs.Reading.{OnlyRead};
 ghost use Rattle.blk_device.specs.declared.device.Region.TheVariants.{Image};
 ghost use Rattle.check_phases.specs.Checks.{ChecksInode, IsHeadsOf};
+ghost use Rattle.check_phases.specs.Parts.{AddsPart, IsInodePart};
 ghost use Rattle.fs_model.specs.declared.unit.Unit.TheVariants as units;
 ghost use Rattle.geom.specs.Layout.{group_len_of};
 ghost use Rattle.geom.specs.Places.{layout};
@@ -80,6 +81,7 @@ pub fn check_inodes<D: Device, L: Ledger>(
     requires list { LieInside (group_len_of (layout geo.now) g) heads.now.list.items }
     requires heads { (c : Contents) → D.content dev.old ≡ Some c → IsHeadsOf (layout geo.now) (c Image) g heads.now }
     ensures exact { (c : Contents) → D.content dev.old ≡ Some c → ChecksInode (layout geo.now) (c Image) g tally.old tally.new result }
+    ensures added { AddsPart (IsInodePart g) tally.old tally.new result }
     ensures reading { OnlyRead D.Device dev.old dev.new steps.old steps.new }
     ensures cause { HasCause is_failed (D.faults dev.old) (D.faults dev.new) result }
 {

@@ -4,6 +4,7 @@ ghost use Rattle.blk_device.specs.Contents.{Contents};
 ghost use Rattle.blk_device.specs.Reading.{OnlyRead};
 ghost use Rattle.blk_device.specs.declared.device.Region.TheVariants.{Image};
 ghost use Rattle.check_phases.specs.Checks.{AreReadable, ChecksSpace, ChecksSpaceOf, ChecksUnit, HasMappings};
+ghost use Rattle.check_phases.specs.Parts.{AddsPart, AreSkipped, IsJudgedPart, IsSpacePart};
 ghost use Rattle.fs_model.specs.declared.unit.Unit.TheVariants as units;
 ghost use Rattle.fs_state.specs.Kinds.{heads_of};
 ghost use Rattle.fs_state.specs.State.{State};
@@ -48,6 +49,7 @@ fn check_free<D: Device, L: Ledger>(
     requires room { geo.now.dblocks ≤ D.blocks dev.old Image }
     requires begun { length tally.old.journal.entries.items < most_entries }
     ensures exact { (c : Contents) → D.content dev.old ≡ Some c → IsMapped (layout geo.now) (c Image) g agf.now mapped.now → ChecksUnit (opened_state (layout geo.now) (c Image)) None g units.Free tally.old tally.new result }
+    ensures added { AddsPart (IsJudgedPart g units.Free) tally.old tally.new result }
     ensures reading { OnlyRead D.Device dev.old dev.new steps.old steps.new }
     ensures cause { HasCause is_failed (D.faults dev.old) (D.faults dev.new) result }
 {
@@ -70,6 +72,7 @@ fn check_counts<D: Device, L: Ledger>(
     requires sound { AreSound rmap_form (bounds_of (layout geo.now) g) mapped.now.recs.items }
     requires room { geo.now.dblocks ≤ D.blocks dev.old Image }
     ensures exact { (c : Contents) → D.content dev.old ≡ Some c → IsMapped (layout geo.now) (c Image) g agf.now mapped.now → ChecksUnit (opened_state (layout geo.now) (c Image)) None g units.Refc tally.old tally.new result }
+    ensures added { AddsPart (IsJudgedPart g units.Refc) tally.old tally.new result }
     ensures reading { OnlyRead D.Device dev.old dev.new steps.old steps.new }
     ensures cause { HasCause is_failed (D.faults dev.old) (D.faults dev.new) result }
 {
@@ -94,6 +97,7 @@ fn check_both<D: Device, L: Ledger>(
     requires room { geo.now.dblocks ≤ D.blocks dev.old Image }
     requires begun { length tally.old.journal.entries.items < most_entries }
     ensures exact { (c : Contents) → D.content dev.old ≡ Some c → IsMapped (layout geo.now) (c Image) g agf.now mapped.now → ChecksSpace (opened_state (layout geo.now) (c Image)) None g tally.old tally.new result }
+    ensures added { AddsPart (IsSpacePart g) tally.old tally.new result }
     ensures reading { OnlyRead D.Device dev.old dev.new steps.old steps.new }
     ensures cause { HasCause is_failed (D.faults dev.old) (D.faults dev.new) result }
 {
@@ -105,6 +109,7 @@ fn check_both<D: Device, L: Ledger>(
 // in between.
 fn give_up_both(alloc: Global, g: u32, block: u32, tally: &mut Tally) -> Result<(), Halt>
     requires begun { length tally.old.journal.entries.items < most_entries }
+    ensures added { AddsPart (IsSpacePart g) tally.old tally.new result }
     ensures own { IfErr result IsOwn }
 {
     let judged = Judged::GaveUp(Evidence::BadTree {
@@ -131,6 +136,7 @@ fn check_mapped<D: Device, L: Ledger>(
     requires head { (c : Contents) → D.content dev.old ≡ Some c → agf.now ≡ (heads_of (layout geo.now) (c Image) g).agf }
     requires readable { (c : Contents) → D.content dev.old ≡ Some c → HasMappings (opened_state (layout geo.now) (c Image)) g }
     ensures exact { (c : Contents) → D.content dev.old ≡ Some c → ChecksSpace (opened_state (layout geo.now) (c Image)) None g tally.old tally.new result }
+    ensures added { AddsPart (IsSpacePart g) tally.old tally.new result }
     ensures reading { OnlyRead D.Device dev.old dev.new steps.old steps.new }
     ensures cause { HasCause is_failed (D.faults dev.old) (D.faults dev.new) result }
 {
@@ -146,6 +152,7 @@ fn check_mapped<D: Device, L: Ledger>(
 // Skips both, since a unit that they need didn't pass.
 fn skip_both(g: u32, needed: (u32, Unit), tally: &mut Tally) -> Result<(), Halt>
     ensures exact { (a : State) → ChecksSpace a (Some needed) g tally.old tally.new result }
+    ensures added { AddsPart (AreSkipped needed g) tally.old tally.new result }
     ensures own { IfErr result IsOwn }
 {
     tally.begin()?;
@@ -172,6 +179,7 @@ pub fn check_space<D: Device, L: Ledger>(
     requires head { (c : Contents) → D.content dev.old ≡ Some c → agf.now ≡ (heads_of (layout geo.now) (c Image) g).agf }
     requires readable { (c : Contents) → D.content dev.old ≡ Some c → AreReadable (opened_state (layout geo.now) (c Image)) passed.now }
     ensures exact { (c : Contents) → D.content dev.old ≡ Some c → ChecksSpaceOf (layout geo.now) (c Image) passed.now g tally.old tally.new result }
+    ensures added { AddsPart (IsSpacePart g) tally.old tally.new result }
     ensures reading { OnlyRead D.Device dev.old dev.new steps.old steps.new }
     ensures cause { HasCause is_failed (D.faults dev.old) (D.faults dev.new) result }
 {

@@ -1,7 +1,8 @@
 -- A fork that is read piece by piece.
-use Rattle.std.proofs.Common.{◌≡◌, ℕ, zero, suc, ◌+◌, ◌<◌, ◌≤◌, Bool, true, false, List, [], ◌∷◌, ◌++◌, length, get_or, drop, Option, Some, None, Result, Ok, refl, ap, sym, subst, ◌∙◌, arith, append_assoc}
+use Rattle.std.proofs.Common.{◌≡◌, ℕ, zero, suc, ◌+◌, ◌-◌, ◌*◌, ◌<◌, ◌≤◌, Bool, true, false, List, [], ◌∷◌, ◌++◌, length, get_or, drop, Option, Some, None, Result, Ok, refl, ap, sym, subst, ◌∙◌, arith, append_assoc}
 use Rattle.std.specs.Prelude.{IfOk, flat_map, not, ◌&&◌, ◌==◌, if◌then◌else◌}
 use Rattle.std.specs.Option.{option_or}
+use Rattle.std.proofs.Math.Nat.{mul-le-mul_left, mul-suc}
 use Rattle.std.proofs.Math.Seq.{drop-cons}
 use Rattle.std.proofs.lemmas.Grind.{flat_map-append}
 use Rattle.std.proofs.lemmas.List.{append-nil}
@@ -11,8 +12,8 @@ use Rattle.byte_fields.specs.Fields.{field}
 use Rattle.dinode_core.specs.Core.{core_fault, core_of, core_tests}
 use Rattle.dinode_core.specs.ForkTree.{Image, fork_fault, has_number, is_tree, met_of, walk_fault}
 use Rattle.dinode_core.specs.Frame.{fork_in, list_of, list_or}
-use Rattle.dinode_core.specs.Inline.{or_else}
-use Rattle.dinode_core.specs.Shape.{count_of}
+use Rattle.dinode_core.specs.Inline.{or_else, root_level}
+use Rattle.dinode_core.specs.Shape.{area_of, count_of}
 use Rattle.dinode_core.specs.declared.inode.Core3.{Core3}
 use Rattle.dinode_core.specs.declared.mapping.Fork.{Fork}
 use Rattle.dinode_core.specs.declared.mapping.Fork.TheVariants as forks
@@ -22,6 +23,8 @@ use Rattle.dinode_core.specs.declared.mapping.Mapping.{Mapping}
 use Rattle.blk_device.specs.Causes.{HasCause, MovesOnly}
 use Rattle.dinode_core.specs.declared.inode.CoreFault.{CoreFault}
 use Rattle.fork_read.specs.Answers.{is_failed as is_failed_read}
+use Rattle.fork_read.specs.Counted.{AreFew, IsOwn, IsSpent, PiecesAreFew, way_down}
+use Rattle.fork_read.specs.First.{most_met}
 use Rattle.fork_read.specs.Pieces.{IsForkFault, IsForkPiece}
 use Rattle.fork_read.specs.declared.fault.ReadFault.{ReadFault}
 use Rattle.fork_read.specs.declared.fault.ReadFault.TheVariants.{Fork as IsFork, Core as IsCoreFault, Failed as ReadFailed, Memory as NoMemory}
@@ -38,6 +41,7 @@ use Rattle.fs_state.specs.State.{ForkList}
 use Rattle.geom.specs.Layout.{Layout, split_of}
 use Rattle.unit_plan.specs.declared.claims.ClaimSet.{ClaimSet}
 use Rattle.unit_plan.specs.declared.piece.Piece.{Piece}
+use Rattle.fork_pass.specs.Counted.{again_most, fork_most, inode_most, pieces_most, slot_most, turns_most}
 use Rattle.fork_pass.specs.Pieces.{block_pieces, blocks_in, mapped_in, mapping_piece, mapping_pieces, piece_where, pieces_for}
 use Rattle.fork_pass.specs.Read.{Come, IsForkRead, IsGood, IsInodeRead, IsPut, IsRefusal, IsRestRead, IsSlotRead, IsWorst, fault_for, is_number_wrong, lists_of, rest_pieces, slot_fork, worst_of}
 use Rattle.fork_pass.specs.Sets.{Adds}
@@ -91,18 +95,84 @@ length_both [] ys = omega arith
 length_both (x ∷ xs) ys = let r = length_both xs ys in omega (arith, r)
 
 module _ (at : Layout) (image : Image) (core : Core3) (fork : Fork) where
-  pub come_first : (sets : List ClaimSet) (met : Met) → met.next ≡ Some 0 → met.count ≡ 0 → met.blocks.items ≡ [] → Come at image core fork sets sets met
-  come_first sets met next count blocks = record {
+  abbrev levels : ℕ
+  levels = root_level (area_of core fork)
+
+  no_way : (from : ℕ) → ◌≡◌ {A = Option ℕ} (Some 0) (Some from) → way_down core fork from ≡ 0
+  no_way from e =
+      let none : 0 ≡ from = cc in
+      subst (λ (n : ℕ). way_down core fork n ≡ 0) none refl
+
+  way_low : (from : ℕ) → way_down core fork from ≤ levels
+  way_low from = by_test (from == 0)
+    where
+      by_test : (b : Bool) → (if b then 0 else root_level (area_of core fork)) ≤ root_level (area_of core fork)
+      by_test true = omega arith
+      by_test false = omega arith
+
+  -- a piece more reads its own blocks, and the way down, where it isn't the first
+  few_more : (pieces : List ForkPiece) (piece : ForkPiece) (from before reads now : ℕ) → Follow at image core fork (Some 0) pieces (Some from) → reads ≤ before + length (all_blocks pieces) + levels * (length pieces - 1) → IsOwn core fork from reads now piece → now ≤ before + length (all_blocks (pieces ++ piece ∷ [])) + levels * (length (pieces ++ piece ∷ []) - 1)
+  few_more [] piece from before reads now h few own =
+      let none = no_way from h in
+      let blocks = ap length (blocks_more [] piece) in
+      let n : now ≤ before + length piece.tree_blocks.items = omega (arith, few, own, none) in
+      omega (arith, n, blocks)
+  few_more (p ∷ ps) piece from before reads now h few own =
+      let low = way_low from in
+      let blocks = ap length (blocks_more (p ∷ ps) piece) ∙ length_both (all_blocks (p ∷ ps)) piece.tree_blocks.items in
+      let count : length ((p ∷ ps) ++ piece ∷ []) - 1 ≡ suc (length ps) = let all = length_both ps (piece ∷ []) in omega (arith, all) in
+      let before_it : length (p ∷ ps) - 1 ≡ length ps = omega arith in
+      let more = ap (λ (n : ℕ). levels * n) count ∙ mul-suc levels (length ps) in
+      let same = ap (λ (n : ℕ). levels * n) before_it in
+      omega (arith, few, own, low, blocks, more, same)
+
+  -- the pieces that came, and one more that was begun
+  few_begun : (pieces : List ForkPiece) (from before reads now : ℕ) → Follow at image core fork (Some 0) pieces (Some from) → reads ≤ before + length (all_blocks pieces) + levels * (length pieces - 1) → AreFew at image core fork pieces from reads now → now ≤ before + pieces_most at image core fork
+  few_begun [] from before reads now h few are =
+      let none = no_way from h in
+      let most = are.most in
+      omega (arith, few, most, none)
+  few_begun (p ∷ ps) from before reads now h few are =
+      let low = way_low from in
+      let most = are.most in
+      let two = are.two in
+      let blocks = are.blocks in
+      let before_it : length (p ∷ ps) - 1 ≡ length ps = omega arith in
+      let same = ap (λ (n : ℕ). levels * n) before_it in
+      let turns : suc (length ps) ≤ turns_most at image core fork = omega (arith, two, blocks) in
+      let all = mul-le-mul_left levels turns in
+      let more = mul-suc levels (length ps) in
+      omega (arith, few, most, low, same, all, more)
+
+  pub pieces_begun : (first old : List ClaimSet) (met : Met) (from before reads now : ℕ) → PiecesAreFew at core fork → met.next ≡ Some from → Come at image core fork first old met before reads → IsSpent at image core fork from reads now → now ≤ before + pieces_most at image core fork
+  pieces_begun first old met from before reads now law there come spent =
+      let follow = subst (λ (o : Option ℕ). Follow at image core fork (Some 0) come.pieces o) there come.follow in
+      few_begun come.pieces from before reads now follow come.few (law image come.pieces from reads now follow spent)
+
+  -- a fork with a fault is walked once more
+  pub worst_counted : (before mid now : ℕ) → HasFault (walk_fault at image core fork) → mid ≤ before + pieces_most at image core fork → now ≤ mid + most_met at image core fork → now ≤ before + fork_most at image core fork
+  unfolding fork_most
+  worst_counted before mid now has h k =
+      let again = ap (λ (o : Option ForkFault). again_most o (most_met at image core fork)) has.1 in
+      omega (arith, h, k, again)
+
+  pub pieces_counted : (before now : ℕ) → now ≤ before + pieces_most at image core fork → now ≤ before + fork_most at image core fork
+  unfolding fork_most
+  pieces_counted before now h = omega (arith, h)
+
+  pub come_first : (sets : List ClaimSet) (met : Met) (reads : ℕ) → met.next ≡ Some 0 → met.count ≡ 0 → met.blocks.items ≡ [] → Come at image core fork sets sets met reads reads
+  come_first sets met reads next count blocks = record {
     pieces = [];
     follow = sym next;
     put = adds_none sets;
     blocks = blocks;
     count = count;
+    few = omega arith;
   }
 
   -- a piece more
-  pub come_more : (first old new : List ClaimSet) (met after : Met) (from : ℕ) (piece : ForkPiece) → met.next ≡ Some from → Come at image core fork first old met → IsForkPiece at image core fork from piece → Adds old new (mapping_pieces at fork core.ino piece.mappings.items) → after.next ≡ piece.next → after.count ≡ met.count + length piece.mappings.items → after.blocks.items ≡ met.blocks.items ++ piece.tree_blocks.items → Come at image core fork first new after
-  come_more first old new met after from piece there come is adds next count blocks = record {
+  pub come_more : (first old new : List ClaimSet) (met after : Met) (from before reads now : ℕ) (piece : ForkPiece) → met.next ≡ Some from → Come at image core fork first old met before reads → IsOwn core fork from reads now piece → IsForkPiece at image core fork from piece → Adds old new (mapping_pieces at fork core.ino piece.mappings.items) → after.next ≡ piece.next → after.count ≡ met.count + length piece.mappings.items → after.blocks.items ≡ met.blocks.items ++ piece.tree_blocks.items → Come at image core fork first new after before now
+  come_more first old new met after from before reads now piece there come own is adds next count blocks = record {
     pieces = come.pieces ++ piece ∷ [];
     follow = subst (λ (o : Option ℕ). Follow at image core fork (Some 0) (come.pieces ++ piece ∷ []) o) (sym next) (follow_more at image core fork (Some 0) come.pieces piece from (subst (λ (o : Option ℕ). Follow at image core fork (Some 0) come.pieces o) there come.follow) is);
     put = adds_same first new (λ g. mapping_pieces at fork core.ino (all_mappings come.pieces) g ++ mapping_pieces at fork core.ino piece.mappings.items g) (mapping_pieces at fork core.ino (all_mappings (come.pieces ++ piece ∷ [])))
@@ -110,11 +180,12 @@ module _ (at : Layout) (image : Image) (core : Core3) (fork : Fork) where
         (adds_then first old new (mapping_pieces at fork core.ino (all_mappings come.pieces)) (mapping_pieces at fork core.ino piece.mappings.items) come.put adds);
     blocks = blocks ∙ ap (λ (bs : List ℕ). bs ++ piece.tree_blocks.items) come.blocks ∙ sym (blocks_more come.pieces piece);
     count = count ∙ ap (λ (n : ℕ). n + length piece.mappings.items) come.count ∙ sym (ap (λ (ms : List Mapping). length ms) (mappings_more come.pieces piece) ∙ length_both (all_mappings come.pieces) piece.mappings.items);
+    few = few_more come.pieces piece from before reads now (subst (λ (o : Option ℕ). Follow at image core fork (Some 0) come.pieces o) there come.follow) come.few own;
   }
 
   -- where nothing is left, the whole fork was put
-  pub all_put : (old now : List ClaimSet) (met : Met) → met.next ≡ None → Come at image core fork old now met → ((pieces : List ForkPiece) → Follow at image core fork (Some 0) pieces None → IsWhole at image core fork (all_mappings pieces) (all_blocks pieces)) → IsPut at image core fork old now met
-  all_put old now met none come law =
+  pub all_put : (old now : List ClaimSet) (met : Met) (before reads : ℕ) → met.next ≡ None → Come at image core fork old now met before reads → ((pieces : List ForkPiece) → Follow at image core fork (Some 0) pieces None → IsWhole at image core fork (all_mappings pieces) (all_blocks pieces)) → IsPut at image core fork old now met
+  all_put old now met before reads none come law =
       let whole = law come.pieces (subst (λ (o : Option ℕ). Follow at image core fork (Some 0) come.pieces o) none come.follow) in
       record {
         good = whole.good;
@@ -162,8 +233,8 @@ module _ (at : Layout) (image : Image) (core : Core3) (fork : Fork) where
       }
 
   -- a refused piece is one of a fork with a first fault
-  pub taken_bad : (first old : List ClaimSet) (met : Met) (from : ℕ) (fault : ForkFault) → FirstFaultTells at core fork → met.next ≡ Some from → Come at image core fork first old met → IsForkFault at image core fork from fault → HasFault (walk_fault at image core fork)
-  taken_bad first old met from fault law there come refused =
+  pub taken_bad : (first old : List ClaimSet) (met : Met) (from before reads : ℕ) (fault : ForkFault) → FirstFaultTells at core fork → met.next ≡ Some from → Come at image core fork first old met before reads → IsForkFault at image core fork from fault → HasFault (walk_fault at image core fork)
+  taken_bad first old met from before reads fault law there come refused =
       (law image come.pieces).1 from fault (subst (λ (o : Option ℕ). Follow at image core fork (Some 0) come.pieces o) there come.follow) refused
 
 -- ---- why no piece came
@@ -315,3 +386,12 @@ core_slot at image ino bytes core old new found whole is n mode used read =
       first = here.first ∙ sym (λ i. fault_for ino (λ f. same f i));
       put = λ none. adds_same old new (pieces_for at ino (λ f. read_fork (fork_in at image (core_of bytes) f))) (pieces_for at ino (λ f. read_fork (slot_fork at image bytes f))) (λ g. sym (λ i. pieces_for at ino (λ f. read_fork (same f i)) g)) (here.put none);
     }
+
+-- ---- what is read of a slot
+
+pub core_counted : (at : Layout) (image : Image) (bytes : List ℕ) (core : Core3) (n before now : ℕ) → field 2 bytes 2 ≡ n → (n ≡ 0 → ⊥) → core ≡ core_of bytes → now ≤ before + inode_most at image core → now ≤ before + slot_most at image bytes
+unfolding core_of slot_most
+core_counted at image bytes core n before now mode used is h =
+    let some = used_test n used in
+    let here : (field 2 bytes 2 == 0) ≡ false = ap (λ (k : ℕ). k == 0) mode ∙ some in
+    rw here (subst (λ (c : Core3). now ≤ before + inode_most at image c) is h)

@@ -1,3 +1,4 @@
+pub mod CountLemmas
 pub mod ForkLemmas
 pub mod PassLemmas
 pub mod PieceLemmas

@@ -1,9 +1,10 @@
 -- What is read of one fork, of one inode, and of one core's slot.
-use Rattle.std.specs.Prelude.{◌≡◌, ℕ, ◌-◌, ◌^◌, ◌==◌, List, ◌++◌, map, length, Option, Some, None, Result, Ok, Err, Bool, not, ◌&&◌, if◌then◌else◌}
+use Rattle.std.specs.Prelude.{◌≡◌, ℕ, ◌+◌, ◌-◌, ◌*◌, ◌≤◌, ◌^◌, ◌==◌, List, ◌++◌, map, length, Option, Some, None, Result, Ok, Err, Bool, not, ◌&&◌, if◌then◌else◌}
 use Rattle.std.specs.Option.{option_or}
 use Rattle.dinode_core.specs.Core.{core_of}
 use Rattle.dinode_core.specs.ForkTree.{Image, fork_fault, is_tree, met_of, walk_fault}
-use Rattle.dinode_core.specs.Shape.{count_of}
+use Rattle.dinode_core.specs.Inline.{root_level}
+use Rattle.dinode_core.specs.Shape.{area_of, count_of}
 use Rattle.dinode_core.specs.Frame.{fork_in, list_of}
 use Rattle.dinode_core.specs.declared.inode.Core3.{Core3}
 use Rattle.dinode_core.specs.declared.mapping.Fork.{Fork}
@@ -30,18 +31,20 @@ use Rattle.fork_pass.specs.declared.fork.ForkRead.{ForkRead}
 use Rattle.fork_pass.specs.declared.fork.ForkRead.TheVariants.{Blocks, Bad}
 use Rattle.fork_pass.specs.declared.fork.Met.{Met}
 
--- what was met is that of pieces one after another from the front on, whose mappings were put
-pub record Come (at : Layout) (image : Image) (core : Core3) (fork : Fork) (old now : List ClaimSet) (met : Met) : Type 0 where
+-- what was met is that of pieces one after another from the front on, whose mappings were put; their blocks were read
+-- once, and the way down again for each but the first
+pub record Come (at : Layout) (image : Image) (core : Core3) (fork : Fork) (old now : List ClaimSet) (met : Met) (before reads : ℕ) : Type 0 where
   pub pieces : List ForkPiece
   pub follow : Follow at image core fork (Some 0) pieces met.next
   pub put : Adds old now (mapping_pieces at fork core.ino (all_mappings pieces))
   pub blocks : met.blocks.items ≡ all_blocks pieces
   pub count : met.count ≡ length (all_mappings pieces)
+  pub few : reads ≤ before + length (all_blocks pieces) + root_level (area_of core fork) * (length pieces - 1)
 
 -- one piece more came, or one is refused
-abbrev pub HasTaken : Layout → Image → Core3 → Fork → List ClaimSet → List ClaimSet → Met → Option ForkFault → Type 0
-HasTaken at image core fork old now met None = Come at image core fork old now met
-HasTaken at image core fork old now met (Some fault) = HasFault (walk_fault at image core fork)
+abbrev pub HasTaken : Layout → Image → Core3 → Fork → List ClaimSet → List ClaimSet → Met → ℕ → ℕ → Option ForkFault → Type 0
+HasTaken at image core fork old now met before reads None = Come at image core fork old now met before reads
+HasTaken at image core fork old now met before reads (Some fault) = HasFault (walk_fault at image core fork)
 
 -- the whole fork was read, which has no fault but maybe the number of its mappings, and its mappings were put
 pub record IsPut (at : Layout) (image : Image) (core : Core3) (fork : Fork) (old now : List ClaimSet) (met : Met) : Type 0 where

@@ -5,17 +5,20 @@ ghost use Rattle.blk_device.specs.Reading.{OnlyRead};
 ghost use Rattle.blk_device.specs.declared.device.Region.TheVariants.{Image};
 ghost use Rattle.dinode_core.specs.ForkTree.{walk_fault};
 ghost use Rattle.fork_read.specs.Answers.{IsOutside, is_failed as is_failed_read};
-ghost use Rattle.fork_pass.specs.Read.{Come, HasRead, HasTaken, IsForkRead, IsRefusal, IsWorst, is_number_wrong as is_wrong};
+ghost use Rattle.fork_read.specs.First.{most_met};
+ghost use Rattle.fork_pass.specs.Counted.{fork_most, pieces_most};
+ghost use Rattle.fork_pass.specs.Read.{HasRead, IsForkRead, IsRefusal, IsWorst, is_number_wrong as is_wrong};
+ghost use Rattle.fork_pass.specs.Told.{CountsMost, CountsPiece, TakesPiece};
 ghost use Rattle.geom.specs.Places.{layout};
 ghost use Rattle.inode_pass.specs.Stops.{is_failed};
-ghost use Rattle.unit_plan.specs.declared.claims.ClaimSet.{ClaimSet as SetOf};
 
 use crate::pieces::put_mappings;
 use blk_device::Device;
 use byte_fields::Steps;
 use dinode_core::{Core3, Fork, ForkFault, is_in_btree, mapping_count};
 use fork_read::{
-    ForkPiece, ReadFault, first_fault_of_core, first_fault_tells, piece_of_core, pieces_join,
+    ForkPiece, ReadFault, first_fault_of_core, first_fault_tells, piece_of_core, pieces_are_few,
+    pieces_join,
 };
 use geom::Geometry;
 use inode_pass::PassStop;
@@ -84,7 +87,8 @@ fn take_piece<D: Device, L: Ledger>(
     requires room { geo.now.dblocks ≤ D.blocks dev.old Image }
     requires groups { length sets.old ≡ geo.now.agcount }
     requires few { met.old.count ≤ 512 * from }
-    ensures come { IfOk result (λ found. (c : Contents) → D.content dev.old ≡ Some c → (first : List SetOf) → met.old.next ≡ Some from → Come (layout geo.now) (c Image) core.now fork first sets.old met.old → HasTaken (layout geo.now) (c Image) core.now fork first sets.new met.new found) }
+    ensures come { TakesPiece (layout geo.now) (D.content dev.old) core.now fork from sets.old met.old steps.old.reads result sets.new met.new steps.new.reads }
+    ensures each { CountsPiece (layout geo.now) (D.content dev.old) core.now fork from sets.old met.old steps.old.reads steps.new.reads }
     ensures behind { IfOk result (λ found. found ≡ None → (n : ℕ) → met.new.next ≡ Some n → from < n) }
     ensures few { IfOk result (λ found. found ≡ None → (n : ℕ) → met.new.next ≡ Some n → met.new.count ≤ 512 * n) }
     ensures groups { length sets.new ≡ length sets.old }
@@ -92,6 +96,7 @@ fn take_piece<D: Device, L: Ledger>(
     ensures cause { HasCause is_failed (D.faults dev.old) (D.faults dev.new) result }
 {
     first_fault_tells(core, fork, geo);
+    pieces_are_few(core, fork, geo);
     let piece = match piece_of_core(alloc, dev, geo, core, fork, from, steps) {
         Ok(piece) => piece,
         Err(fault) => return refused(fault),
@@ -119,6 +124,7 @@ fn read_pieces<D: Device, L: Ledger>(
     requires empty { met.old.blocks.items ≡ [] }
     ensures read { IfOk result (λ found. (c : Contents) → D.content dev.old ≡ Some c → HasRead (layout geo.now) (c Image) core.now fork sets.old sets.new met.new found) }
     ensures groups { length sets.new ≡ length sets.old }
+    ensures each { CountsMost (D.content dev.old) (λ c. pieces_most (layout geo.now) (c Image) core.now fork) steps.old.reads steps.new.reads }
     ensures reading { OnlyRead D.Device dev.old dev.new steps.old steps.new }
     ensures cause { HasCause is_failed (D.faults dev.old) (D.faults dev.new) result }
 {
@@ -156,6 +162,7 @@ fn worst<D: Device, L: Ledger>(
 ) -> Result<ForkRead, PassStop>
     requires room { geo.now.dblocks ≤ D.blocks dev.old Image }
     ensures first { IfOk result (λ read. (c : Contents) → D.content dev.old ≡ Some c → IsWorst refusal (walk_fault (layout geo.now) (c Image) core.now fork) read) }
+    ensures each { CountsMost (D.content dev.old) (λ c. most_met (layout geo.now) (c Image) core.now fork) steps.old.reads steps.new.reads }
     ensures reading { OnlyRead D.Device dev.old dev.new steps.old steps.new }
     ensures cause { HasCause is_failed (D.faults dev.old) (D.faults dev.new) result }
 {
@@ -173,8 +180,9 @@ fn is_number_wrong(core: &Core3, fork: Fork, count: u128) -> bool
 }
 
 /// Reads a fork of this core piece by piece, and puts its mappings into the sets of their groups; or
-/// says the fork's first fault, the number of a btree's mappings at last. A device that failed and
-/// want of memory are the refusals (XFS Algorithms and Data Structures, "Data Fork").
+/// says the fork's first fault, the number of a btree's mappings at last. Each block is read once, the
+/// way down to a piece again, and all once more where there is a fault. A device that failed and want
+/// of memory are the refusals (XFS Algorithms and Data Structures, "Data Fork").
 pub fn see_fork<D: Device, L: Ledger>(
     alloc: Global,
     dev: &mut D,
@@ -188,6 +196,7 @@ pub fn see_fork<D: Device, L: Ledger>(
     requires groups { length sets.old ≡ geo.now.agcount }
     ensures exact { IfOk result (λ read. (c : Contents) → D.content dev.old ≡ Some c → IsForkRead (layout geo.now) (c Image) core.now fork sets.old sets.new read) }
     ensures groups { length sets.new ≡ length sets.old }
+    ensures each { CountsMost (D.content dev.old) (λ c. fork_most (layout geo.now) (c Image) core.now fork) steps.old.reads steps.new.reads }
     ensures reading { OnlyRead D.Device dev.old dev.new steps.old steps.new }
     ensures cause { HasCause is_failed (D.faults dev.old) (D.faults dev.new) result }
 {

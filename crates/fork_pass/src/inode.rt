@@ -1,12 +1,13 @@
-ghost use Rattle.std.specs.Prelude.{◌≡◌, ◌*◌, ◌<◌, ◌≤◌, length, Some, None, IfOk, MatchResult};
+ghost use Rattle.std.specs.Prelude.{◌≡◌, ◌+◌, ◌*◌, ◌<◌, ◌≤◌, length, Some, IfOk};
 ghost use Rattle.blk_device.specs.Causes.{HasCause};
 ghost use Rattle.blk_device.specs.Contents.{Contents};
 ghost use Rattle.blk_device.specs.Reading.{OnlyRead};
 ghost use Rattle.blk_device.specs.declared.device.Region.TheVariants.{Image};
 ghost use Rattle.byte_fields.specs.Fields.{field};
-ghost use Rattle.dinode_core.specs.Core.{core_fault, core_of};
-ghost use Rattle.dinode_core.specs.Frame.{fork_in};
-ghost use Rattle.fork_pass.specs.Read.{IsInodeRead, IsRestRead, IsSlotRead, slot_fork};
+ghost use Rattle.fork_read.specs.Pieces.{DecodesCore};
+ghost use Rattle.fork_pass.specs.Counted.{fork_most, inode_most, slot_most};
+ghost use Rattle.fork_pass.specs.Read.{IsInodeRead, IsRestRead};
+ghost use Rattle.fork_pass.specs.Told.{CountsMost, SeesAllocated, SeesSlot};
 ghost use Rattle.fs_state.specs.Inodes.{slot_in};
 ghost use Rattle.geom.specs.Places.{layout};
 ghost use Rattle.inode_pass.specs.Stops.{is_failed};
@@ -36,9 +37,7 @@ fn mode_in(block: &Block, slot: u32) -> u16
 // The core of the inode in a slot of its block, or why it doesn't verify.
 fn core_at(block: &Block, geo: &Geometry, ino: u64, slot: u32) -> Result<Core3, CoreFault>
     requires { slot < 8 }
-    ensures { let bytes = slot_in block.now.bytes slot in MatchResult result
-        (λ core. (core_fault bytes ino geo.now.uuid ≡ None) × (core ≡ core_of bytes))
-        (λ fault. core_fault bytes ino geo.now.uuid ≡ Some fault) }
+    ensures { DecodesCore (slot_in block.now.bytes slot) ino geo.now.uuid result }
 {
     let (_, rest) = block.bytes.split_at(512 * slot as usize);
     let (own, _) = rest.split_at(512);
@@ -60,6 +59,7 @@ fn see_rest<D: Device, L: Ledger>(
     requires groups { length sets.old ≡ geo.now.agcount }
     ensures exact { IfOk result (λ found. (c : Contents) → D.content dev.old ≡ Some c → IsRestRead (layout geo.now) (c Image) core.now blocks.now sets.old sets.new found) }
     ensures groups { length sets.new ≡ length sets.old }
+    ensures each { CountsMost (D.content dev.old) (λ c. fork_most (layout geo.now) (c Image) core.now Fork.Attr) steps.old.reads steps.new.reads }
     ensures reading { OnlyRead D.Device dev.old dev.new steps.old steps.new }
     ensures cause { HasCause is_failed (D.faults dev.old) (D.faults dev.new) result }
 {
@@ -87,6 +87,7 @@ fn see_inode<D: Device, L: Ledger>(
     requires groups { length sets.old ≡ geo.now.agcount }
     ensures exact { IfOk result (λ found. (c : Contents) → D.content dev.old ≡ Some c → IsInodeRead (layout geo.now) (c Image) core.now sets.old sets.new found) }
     ensures groups { length sets.new ≡ length sets.old }
+    ensures each { CountsMost (D.content dev.old) (λ c. inode_most (layout geo.now) (c Image) core.now) steps.old.reads steps.new.reads }
     ensures reading { OnlyRead D.Device dev.old dev.new steps.old steps.new }
     ensures cause { HasCause is_failed (D.faults dev.old) (D.faults dev.new) result }
 {
@@ -111,8 +112,9 @@ fn see_allocated<D: Device, L: Ledger>(
 ) -> Result<Option<Evidence>, PassStop>
     requires room { geo.now.dblocks ≤ D.blocks dev.old Image }
     requires groups { length sets.old ≡ geo.now.agcount }
-    ensures exact { IfOk result (λ found. (c : Contents) → D.content dev.old ≡ Some c → core.now.ino ≡ ino → IsSlotRead (layout geo.now) ino (fork_in (layout geo.now) (c Image) core.now) sets.old sets.new found) }
+    ensures exact { SeesAllocated (layout geo.now) (D.content dev.old) core.now ino sets.old result sets.new }
     ensures groups { length sets.new ≡ length sets.old }
+    ensures each { CountsMost (D.content dev.old) (λ c. inode_most (layout geo.now) (c Image) core.now) steps.old.reads steps.new.reads }
     ensures reading { OnlyRead D.Device dev.old dev.new steps.old steps.new }
     ensures cause { HasCause is_failed (D.faults dev.old) (D.faults dev.new) result }
 {
@@ -139,8 +141,9 @@ pub fn see_slot<D: Device, L: Ledger>(
     requires slot { slot < 8 }
     requires room { geo.now.dblocks ≤ D.blocks dev.old Image }
     requires groups { length sets.old ≡ geo.now.agcount }
-    ensures exact { IfOk result (λ found. (c : Contents) → D.content dev.old ≡ Some c → core_fault (slot_in block.now.bytes slot) ino geo.now.uuid ≡ None → IsSlotRead (layout geo.now) ino (slot_fork (layout geo.now) (c Image) (slot_in block.now.bytes slot)) sets.old sets.new found) }
+    ensures exact { SeesSlot (layout geo.now) (D.content dev.old) (slot_in block.now.bytes slot) ino sets.old result sets.new }
     ensures groups { length sets.new ≡ length sets.old }
+    ensures each { CountsMost (D.content dev.old) (λ c. slot_most (layout geo.now) (c Image) (slot_in block.now.bytes slot)) steps.old.reads steps.new.reads }
     ensures reading { OnlyRead D.Device dev.old dev.new steps.old steps.new }
     ensures cause { HasCause is_failed (D.faults dev.old) (D.faults dev.new) result }
 {

@@ -3,10 +3,11 @@ ghost use Rattle.blk_device.specs.Causes.{HasCause};
 ghost use Rattle.blk_device.specs.Contents.{Contents};
 ghost use Rattle.blk_device.specs.Reading.{OnlyRead};
 ghost use Rattle.blk_device.specs.declared.device.Region.TheVariants.{Image};
-ghost use Rattle.fork_pass.specs.Passed.{AreChunks, ArePassed, HasSets, IsPass, LieInGroups, inodes_from};
+ghost use Rattle.fork_pass.specs.Counted.{forks_most};
+ghost use Rattle.fork_pass.specs.Passed.{HasSets, IsPass, LieInGroups, units_at};
+ghost use Rattle.fork_pass.specs.Told.{CountsMost, PassesGroups};
 ghost use Rattle.geom.specs.Places.{layout};
 ghost use Rattle.inode_pass.specs.Stops.{is_failed};
-ghost use Rattle.inode_pass.specs.Units.{opened_state};
 
 use crate::sets::fresh_sets;
 use crate::unit::pass_group;
@@ -40,8 +41,9 @@ fn pass_groups<D: Device, L: Ledger>(
     requires inside { LieInGroups (layout geo.now) chunks.now }
     requires room { geo.now.dblocks ≤ D.blocks dev.old Image }
     requires groups { length sets.old ≡ geo.now.agcount }
-    ensures exact { IfOk result (λ found. (c : Contents) → D.content dev.old ≡ Some c → AreChunks (opened_state (layout geo.now) (c Image)) chunks.now → ArePassed (opened_state (layout geo.now) (c Image)) (inodes_from (layout geo.now) chunks.now 0 geo.now.agcount) sets.old sets.new found) }
+    ensures exact { PassesGroups (layout geo.now) (D.content dev.old) chunks.now sets.old result sets.new }
     ensures groups { length sets.new ≡ length sets.old }
+    ensures each { CountsMost (D.content dev.old) (λ c. forks_most (layout geo.now) (c Image) (units_at chunks.now)) steps.old.reads steps.new.reads }
     ensures reading { OnlyRead D.Device dev.old dev.new steps.old steps.new }
     ensures cause { HasCause is_failed (D.faults dev.old) (D.faults dev.new) result }
 {
@@ -58,8 +60,9 @@ fn pass_groups<D: Device, L: Ledger>(
 /// Reads every fork of every allocated inode of all groups, once. `chunks` are, for each group, the
 /// numbers of the units that are its chunks, rising. What the forks claim is put into a set a group,
 /// in 40 bytes a piece: a mapping, or a block of a fork's btree. The first fork that can't be read
-/// ends it, the data fork's fault before the other's. Each block of cores is read once. A device that
-/// failed and want of memory are the refusals (XFS Online Fsck Design, "Inode Scans").
+/// ends it, the data fork's fault before the other's. Each block of cores is read once, and each of a
+/// fork's btree as `see_fork` reads it. A device that failed and want of memory are the refusals
+/// (XFS Online Fsck Design, "Inode Scans").
 pub fn read_forks<D: Device, L: Ledger>(
     alloc: Global,
     dev: &mut D,
@@ -72,6 +75,7 @@ pub fn read_forks<D: Device, L: Ledger>(
     requires room { geo.now.dblocks ≤ D.blocks dev.old Image }
     ensures exact { IfOk result (λ seen. (c : Contents) → D.content dev.old ≡ Some c → IsPass (layout geo.now) chunks.now (c Image) seen) }
     ensures groups { IfOk result (HasSets geo.now.agcount) }
+    ensures each { CountsMost (D.content dev.old) (λ c. forks_most (layout geo.now) (c Image) (units_at chunks.now)) steps.old.reads steps.new.reads }
     ensures reading { OnlyRead D.Device dev.old dev.new steps.old steps.new }
     ensures cause { HasCause is_failed (D.faults dev.old) (D.faults dev.new) result }
 {

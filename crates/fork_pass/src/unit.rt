@@ -1,15 +1,13 @@
-ghost use Rattle.std.specs.Prelude.{◌≡◌, ◌+◌, ◌*◌, ◌/◌, ◌<◌, ◌≤◌, All, length, true, Some, IfOk};
+ghost use Rattle.std.specs.Prelude.{◌≡◌, ◌+◌, ◌*◌, ◌/◌, ◌<◌, ◌≤◌, All, length};
 ghost use Rattle.blk_device.specs.Causes.{HasCause};
-ghost use Rattle.blk_device.specs.Contents.{Contents};
 ghost use Rattle.blk_device.specs.Reading.{OnlyRead};
 ghost use Rattle.blk_device.specs.declared.device.Region.TheVariants.{Image};
-ghost use Rattle.fork_pass.specs.Passed.{ArePassed, block_inodes, group_inodes, unit_inodes};
-ghost use Rattle.fs_derive.specs.Chunks.{chunks as chunks_of};
-ghost use Rattle.fs_state.specs.Apart.{is_chunk};
+ghost use Rattle.fork_pass.specs.Counted.{block_most, unit_most, units_most};
+ghost use Rattle.fork_pass.specs.Passed.{block_inodes, unit_inodes};
+ghost use Rattle.fork_pass.specs.Told.{CountsMost, PassesChunk, PassesUnits};
 ghost use Rattle.geom.specs.Layout.{group_len_of, inode_at};
 ghost use Rattle.geom.specs.Places.{HasBlock, layout};
 ghost use Rattle.inode_pass.specs.Stops.{is_failed};
-ghost use Rattle.inode_pass.specs.Units.{opened_state};
 
 use crate::inode::see_slot;
 use blk_device::Device;
@@ -53,8 +51,9 @@ fn pass_block<D: Device, L: Ledger>(
     requires block { b < group_len_of (layout geo.now) g }
     requires room { geo.now.dblocks ≤ D.blocks dev.old Image }
     requires groups { length sets.old ≡ geo.now.agcount }
-    ensures exact { IfOk result (λ found. (c : Contents) → D.content dev.old ≡ Some c → is_chunk (opened_state (layout geo.now) (c Image)) g (b / 8) ≡ true → ArePassed (opened_state (layout geo.now) (c Image)) (block_inodes (layout geo.now) g b) sets.old sets.new found) }
+    ensures exact { PassesChunk (layout geo.now) (D.content dev.old) g (b / 8) (block_inodes (layout geo.now) g b) sets.old result sets.new }
     ensures groups { length sets.new ≡ length sets.old }
+    ensures each { CountsMost (D.content dev.old) (λ c. block_most (layout geo.now) (c Image) g b) steps.old.reads steps.new.reads }
     ensures reading { OnlyRead D.Device dev.old dev.new steps.old steps.new }
     ensures cause { HasCause is_failed (D.faults dev.old) (D.faults dev.new) result }
 {
@@ -84,8 +83,9 @@ fn pass_unit<D: Device, L: Ledger>(
     requires inside { 8 * unit + 7 < group_len_of (layout geo.now) g }
     requires room { geo.now.dblocks ≤ D.blocks dev.old Image }
     requires groups { length sets.old ≡ geo.now.agcount }
-    ensures exact { IfOk result (λ found. (c : Contents) → D.content dev.old ≡ Some c → is_chunk (opened_state (layout geo.now) (c Image)) g unit ≡ true → ArePassed (opened_state (layout geo.now) (c Image)) (unit_inodes (layout geo.now) g unit) sets.old sets.new found) }
+    ensures exact { PassesChunk (layout geo.now) (D.content dev.old) g unit (unit_inodes (layout geo.now) g unit) sets.old result sets.new }
     ensures groups { length sets.new ≡ length sets.old }
+    ensures each { CountsMost (D.content dev.old) (λ c. unit_most (layout geo.now) (c Image) g unit) steps.old.reads steps.new.reads }
     ensures reading { OnlyRead D.Device dev.old dev.new steps.old steps.new }
     ensures cause { HasCause is_failed (D.faults dev.old) (D.faults dev.new) result }
 {
@@ -99,7 +99,8 @@ fn pass_unit<D: Device, L: Ledger>(
 }
 
 /// Passes the inodes of these units of group `g`, which are its chunks, in their order: what their
-/// forks claim is put into the sets of the groups, up to the first fork that can't be read
+/// forks claim is put into the sets of the groups, up to the first fork that can't be read. Eight
+/// blocks a unit are read, and the blocks of the forks' btrees
 /// (XFS Online Fsck Design, "Inode Scans").
 pub fn pass_group<D: Device, L: Ledger>(
     alloc: Global,
@@ -114,8 +115,9 @@ pub fn pass_group<D: Device, L: Ledger>(
     requires inside { All (λ u. 8 * u + 7 < group_len_of (layout geo.now) g) units.now }
     requires room { geo.now.dblocks ≤ D.blocks dev.old Image }
     requires groups { length sets.old ≡ geo.now.agcount }
-    ensures exact { IfOk result (λ found. (c : Contents) → D.content dev.old ≡ Some c → units.now ≡ chunks_of (opened_state (layout geo.now) (c Image)) g → ArePassed (opened_state (layout geo.now) (c Image)) (group_inodes (layout geo.now) g units.now) sets.old sets.new found) }
+    ensures exact { PassesUnits (layout geo.now) (D.content dev.old) g units.now sets.old result sets.new }
     ensures groups { length sets.new ≡ length sets.old }
+    ensures each { CountsMost (D.content dev.old) (λ c. units_most (layout geo.now) (c Image) g units.now) steps.old.reads steps.new.reads }
     ensures reading { OnlyRead D.Device dev.old dev.new steps.old steps.new }
     ensures cause { HasCause is_failed (D.faults dev.old) (D.faults dev.new) result }
 {

@@ -1,8 +1,7 @@
 -- Where no piece can begin, the fork has a fault.
-use Rattle.std.proofs.Common.{◌≡◌, ℕ, zero, suc, ◌+◌, ◌-◌, ◌<◌, ◌≤◌, Bool, true, false, List, [], ◌∷◌, ◌++◌, filter, length, Option, Some, None, Result, Ok, Err, refl, ap, sym, subst, ◌∙◌, inl, inr, append-nil, arith}
-use Rattle.std.specs.Prelude.{⊤, ◌⊎◌, ◌&&◌, nat_le, nat_lt}
+use Rattle.std.proofs.Common.{◌≡◌, ℕ, suc, ◌+◌, ◌-◌, ◌<◌, ◌≤◌, true, List, [], ◌∷◌, ◌++◌, length, Some, None, Result, Ok, Err, refl, ap, sym, subst, ◌∙◌, inl, inr, arith}
+use Rattle.std.specs.Prelude.{nat_le, nat_lt}
 use Rattle.std.specs.List.{slice_get, list_all}
-use Rattle.std.proofs.lemmas.Bool.{cases_Bool, false≢true}
 use Rattle.std.proofs.lemmas.Bool.Decides.{nat_tests}
 use Rattle.std.proofs.lemmas.List.{append_assoc}
 use Rattle.byte_fields.proofs.TestLemmas.{all_pass}
@@ -10,12 +9,12 @@ use Rattle.geom.specs.Layout.{Layout}
 use Rattle.dinode_core.specs.declared.inode.Core3.{Core3}
 use Rattle.dinode_core.specs.declared.mapping.Mapping.{Mapping}
 use Rattle.dinode_core.specs.declared.mapping.Fork.{Fork}
-use Rattle.dinode_core.specs.Inline.{clears, first_bad, mapping_fault, mapping_tests, rises}
+use Rattle.dinode_core.specs.Inline.{clears, first_bad, mapping_fault, mapping_tests}
 use Rattle.dinode_core.specs.ForkTree.{Image, Trail, ◌>>=◌}
 use Rattle.fork_read.specs.declared.tasks.Task.{Task}
 use Rattle.fork_read.specs.Answers.{last_clears, may_stop}
 use Rattle.fork_read.specs.Parts.{Each}
-use Rattle.fork_read.specs.Walk.{IsRead, entry_of, walk_from, walk_tasks}
+use Rattle.fork_read.specs.Walk.{entry_of, walk_from, walk_tasks}
 use Rattle.fork_read.proofs.NextLemmas.{Begins}
 use Rattle.fork_read.proofs.RestLemmas.{FromKey, block_adds, met_by, rest_adds, tasks_add}
 use Rattle.fork_read.proofs.RiseLemmas.{good_rest, good_two}

@@ -1,6 +1,5 @@
 -- A whole btree, one subtree after the other, and how many blocks are read of it.
-use Rattle.std.proofs.Common.{◌≡◌, ℕ, zero, suc, ◌+◌, ◌-◌, ◌*◌, ◌<◌, ◌≤◌, Bool, true, false, List, [], ◌∷◌, ◌++◌, length, map, Option, Some, None, Result, Ok, Err, refl, ap, sym, subst, ◌∙◌, arith}
-use Rattle.std.specs.Prelude.{◌==◌, if◌then◌else◌}
+use Rattle.std.proofs.Common.{◌≡◌, ℕ, zero, suc, ◌+◌, ◌-◌, ◌*◌, ◌<◌, ◌≤◌, Bool, true, false, List, [], ◌∷◌, ◌++◌, length, Option, Some, None, Result, Ok, Err, refl, ap, sym, subst, ◌∙◌, arith}
 use Rattle.byte_fields.specs.Fields.{field}
 use Rattle.geom.specs.Layout.{Layout, split_of}
 use Rattle.dinode_core.specs.declared.inode.Core3.{Core3}
@@ -237,7 +236,7 @@ module _ (at : Layout) (image : Image) (core : Core3) (fork : Fork) where
 
   pub few_met : is_tree core fork ≡ true → reads_of (walk_tree at image core fork) ≤ most_met at image core fork
   unfolding met_of
-  few_met tree = rw tree (met_reads (walk_tree at image core fork) (root_level (area_of core fork)))
+  few_met tree = rw (tree) (met_reads (walk_tree at image core fork) (root_level (area_of core fork)))
 
   pub none_found : inline_fault at core fork ≡ None → is_tree core fork ≡ false → None ≡ walk_fault at image core fork
   unfolding walk_fault met_of inline_fault

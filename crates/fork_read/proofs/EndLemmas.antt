@@ -1,5 +1,5 @@
 -- Where a piece ends, and that a leaf's end comes before its blocks run out.
-use Rattle.std.proofs.Common.{◌≡◌, ℕ, zero, suc, ◌+◌, ◌<◌, ◌≤◌, Bool, true, false, List, [], ◌∷◌, Option, Some, None, Result, length, refl, ap, sym, subst, ◌∙◌, inl, inr, arith}
+use Rattle.std.proofs.Common.{◌≡◌, ℕ, ◌+◌, ◌<◌, ◌≤◌, Bool, true, false, List, [], ◌∷◌, Some, None, Result, length, refl, ap, sym, subst, ◌∙◌, inl, inr, arith}
 use Rattle.std.specs.Prelude.{◌&&◌, ◌||◌, ◌==◌, ◌⊎◌, nat_le, nat_lt, if◌then◌else◌}
 use Rattle.std.proofs.lemmas.Bool.Decides.{nat_tests}
 use Rattle.geom.specs.Layout.{Layout, split_of}
@@ -83,7 +83,7 @@ module _ (at : Layout) (image : Image) (core : Core3) (from : ℕ) where
         here = subst (λ zs. IsBorder at image core from xs t n zs u) e h
 
         by_test : (b : Bool) → may_stop from u.mappings x rest ≡ b → HasGone at image core from xs t (if b then Left x else Long x) rest u
-        by_test true m = record { count = n; border = here }
+        by_test true m = record { count = n; border = here; late = late }
         by_test false m = record { count = n; border = here; late = late; stays = m }
 
     pub low_end : AllLow all → IsLow rest (end_before from u.mappings x rest)

@@ -1,6 +1,6 @@
 -- Pieces of a fork, one after another, are its walk from the front.
-use Rattle.std.proofs.Common.{◌≡◌, ℕ, zero, suc, ◌+◌, ◌-◌, ◌<◌, ◌≤◌, Bool, true, false, List, [], ◌∷◌, ◌++◌, map, filter, length, Option, Some, None, Result, Ok, Err, refl, ap, sym, subst, ◌∙◌, inl, inr, append-nil, arith}
-use Rattle.std.specs.Prelude.{⊤, ◌⊎◌, ◌&&◌, nat_le}
+use Rattle.std.proofs.Common.{◌≡◌, ℕ, zero, suc, ◌+◌, ◌-◌, ◌<◌, ◌≤◌, true, List, [], ◌∷◌, ◌++◌, map, filter, length, Option, Some, None, refl, ap, sym, subst, ◌∙◌, inl, inr, append-nil, arith}
+use Rattle.std.specs.Prelude.{◌⊎◌, nat_le}
 use Rattle.std.specs.List.{slice_get, list_all}
 use Rattle.std.proofs.lemmas.Bool.{and_parts, cases_Bool}
 use Rattle.std.proofs.lemmas.Bool.Decides.{nat_tests}
@@ -16,12 +16,12 @@ use Rattle.fork_read.specs.declared.tasks.Task.{Task}
 use Rattle.fork_read.specs.Answers.{last_clears, may_stop}
 use Rattle.fork_read.specs.Parts.{Each}
 use Rattle.fork_read.specs.Stuck.{IsBorder}
-use Rattle.fork_read.specs.Walk.{IsNext, IsRead, Leaves, entry_of, first_tasks, pruned, read_at, tasks_of}
+use Rattle.fork_read.specs.Walk.{IsRead, Leaves, entry_of, first_tasks, read_at, tasks_of}
 use Rattle.fork_read.proofs.EndLemmas.{border_next}
 use Rattle.fork_read.proofs.NextLemmas.{Begins, Came, Waits, next_begins}
-use Rattle.fork_read.proofs.ResumeLemmas.{Resumed, resume}
+use Rattle.fork_read.proofs.ResumeLemmas.{resume}
 use Rattle.fork_read.proofs.RiseLemmas.{Clears, all_before, all_behind, bad_behind, cancel, clears_of, each_kept, filter_both, good_back, none_kept}
-use Rattle.fork_read.proofs.RunLemmas.{Along, AlongAll, Known, Same, UpTo, along, along_all, first_read, grows, middle, nothing_more, one_way, read_alike}
+use Rattle.fork_read.proofs.RunLemmas.{Known, Same, UpTo, along, along_all, first_read, grows, middle, nothing_more, one_way, read_alike}
 use Rattle.fork_read.proofs.StandLemmas.{Deep, Holds, Stands, deep_on, each_back, each_front, each_weaker, leaf_begins, stands_on, took}
 use Rattle.fork_read.proofs.WalkLemmas.{border_leaves, leaves_join}
 use Rattle.fork_read.proofs.WholeLemmas.{all_kept, pruned_same}

@@ -1,6 +1,6 @@
 -- Pieces one after another are the whole fork, or end in its first fault.
-use Rattle.std.proofs.Common.{◌≡◌, ℕ, zero, suc, ◌+◌, ◌-◌, ◌<◌, ◌≤◌, Bool, true, false, List, [], ◌∷◌, ◌++◌, length, map, filter, Option, Some, None, Result, Ok, Err, refl, ap, sym, subst, ◌∙◌, inl, inr, append-nil, arith}
-use Rattle.std.specs.Prelude.{⊤, ◌⊎◌, ◌&&◌, nat_le}
+use Rattle.std.proofs.Common.{◌≡◌, ℕ, zero, suc, ◌+◌, ◌-◌, ◌<◌, ◌≤◌, Bool, true, false, List, [], ◌∷◌, ◌++◌, length, map, Option, Some, None, Result, Ok, Err, refl, ap, sym, subst, ◌∙◌, inl, inr, append-nil, arith}
+use Rattle.std.specs.Prelude.{◌⊎◌, ◌&&◌, nat_le}
 use Rattle.std.proofs.lemmas.Bool.{cases_Bool, false≢true}
 use Rattle.std.proofs.lemmas.Bool.Decides.{nat_tests}
 use Rattle.std.proofs.lemmas.List.{append_assoc}
@@ -19,13 +19,13 @@ use Rattle.fork_read.specs.declared.walk.Stop.{Stop as Way}
 use Rattle.fork_read.specs.declared.walk.Stop.TheVariants.{Bad, Whole, Left, Long, Fallen}
 use Rattle.fork_read.specs.Answers.{IsPiece, given_of, judged, may_stop, next_of}
 use Rattle.fork_read.specs.Parts.{Each}
-use Rattle.fork_read.specs.Pieces.{Ends, IsForkFault, IsForkPiece, IsTreeFault, IsTreePiece}
+use Rattle.fork_read.specs.Pieces.{Ends, IsForkFault, IsTreeFault, IsTreePiece}
 use Rattle.fork_read.specs.Stuck.{EndsLeaf, IsBehind, IsBorder, IsStuck}
 use Rattle.fork_read.specs.Walk.{Leaves, first_tasks, walk_all, walk_tasks}
 use Rattle.fork_read.specs.Whole.{Follow, IsCut, IsUnseen, IsWhole, LastBad, all_blocks, all_mappings}
 use Rattle.fork_read.proofs.BadLemmas.{last_of, may_end_here}
 use Rattle.fork_read.proofs.FirstLemmas.{or_none, shown_first}
-use Rattle.fork_read.proofs.JoinLemmas.{Come, Edge, Stop, View, again, bad_there, edge, edge_first, goes_there, leaf_adds, none_before, stops, view, view_first}
+use Rattle.fork_read.proofs.JoinLemmas.{Come, Edge, View, bad_there, edge, edge_first, goes_there, leaf_adds, none_before, stops, view, view_first}
 use Rattle.fork_read.proofs.PieceLemmas.{form_none}
 use Rattle.fork_read.proofs.RestLemmas.{FromKey, met_by, rest_adds, tasks_add}
 use Rattle.fork_read.proofs.RiseLemmas.{Clears, all_before, bad_stays, cancel, good_front, inner_or_last, none_bad, none_kept}
@@ -48,19 +48,19 @@ module _ (at : Layout) (image : Image) (core : Core3) (fork : Fork) where
   abbrev top : ℕ
   top = root_level (area_of core fork) - 1
 
-  abbrev from_there : ℕ → List Mapping → List ℕ → Type 0
+  abbrev pub from_there : ℕ → List Mapping → List ℕ → Type 0
   from_there from ms bs = Come at image core fork from ms bs ⊎ ((from ≡ 0) × (ms ≡ []) × (bs ≡ []))
 
   -- what is known once pieces have these mappings and blocks
-  abbrev EndOf : Option ℕ → List Mapping → List ℕ → Type 0
+  abbrev pub EndOf : Option ℕ → List Mapping → List ℕ → Type 0
   EndOf None ms bs = IsWhole at image core fork ms bs
   EndOf (Some from) ms bs = from_there from ms bs
 
-  whole_walk : (r : Result Trail Trail) (ys : List Task) (t : Trail) (n : ℕ) → Leaves at image core 0 (first_tasks core fork 0) start n ys t → walk_tasks at image core 0 ys t ≡ r → walk_tree at image core fork ≡ r
+  pub whole_walk : (r : Result Trail Trail) (ys : List Task) (t : Trail) (n : ℕ) → Leaves at image core 0 (first_tasks core fork 0) start n ys t → walk_tasks at image core 0 ys t ≡ r → walk_tree at image core fork ≡ r
   unfolding walk_all
   whole_walk r ys t n h e = sym (tree_same at image core fork) ∙ walked at image core 0 (first_tasks core fork 0) ys start t n h ∙ e
 
-  any_view : (from : ℕ) (ms : List Mapping) (bs : List ℕ) (ys : List Task) (v : Trail) (n : ℕ) → (c : from_there from ms bs) → ((c : Come at image core fork from ms bs) → suc top ≤ n) → Leaves at image core from (first_tasks core fork from) start n ys v → View at image core fork from ms bs ys v
+  pub any_view : (from : ℕ) (ms : List Mapping) (bs : List ℕ) (ys : List Task) (v : Trail) (n : ℕ) → (c : from_there from ms bs) → ((c : Come at image core fork from ms bs) → suc top ≤ n) → Leaves at image core from (first_tasks core fork from) start n ys v → View at image core fork from ms bs ys v
   any_view from ms bs ys v n (inl c) far h = view at image core fork from ms bs c ys v n (far c) h
   any_view from ms bs ys v n (inr e) far h =
       let first = view_first at image core fork ys v n (subst (λ k. Leaves at image core k (first_tasks core fork k) start n ys v) e.0 h) in
@@ -70,7 +70,7 @@ module _ (at : Layout) (image : Image) (core : Core3) (fork : Fork) where
       as_view e w = subst (λ k. View at image core fork k ms bs ys v) (sym e.0) (subst (λ xs. View at image core fork 0 xs bs ys v) (sym e.1) (subst (λ xs. View at image core fork 0 [] xs ys v) (sym e.2) w))
 
   -- a piece that ends has come behind the place where it began
-  past : (from : ℕ) (ms : List Mapping) (bs : List ℕ) (c : Come at image core fork from ms bs) (task : Task) (rest : List Task) (v : Trail) (n : ℕ) → Leaves at image core from (first_tasks core fork from) start n (task ∷ rest) v → may_stop from v.mappings task rest ≡ true → suc top < n
+  pub past : (from : ℕ) (ms : List Mapping) (bs : List ℕ) (c : Come at image core fork from ms bs) (task : Task) (rest : List Task) (v : Trail) (n : ℕ) → Leaves at image core from (first_tasks core fork from) start n (task ∷ rest) v → may_stop from v.mappings task rest ≡ true → suc top < n
   past from ms bs c task rest v n h may =
       elim (cases_Bool (nat_le n (suc top))) [
         | inl early ↦
@@ -82,7 +82,7 @@ module _ (at : Layout) (image : Image) (core : Core3) (fork : Fork) where
         | inr late ↦ grind (arith, nat_tests, late)
       ]
 
-  any_edge : (from : ℕ) (ms : List Mapping) (bs : List ℕ) (task : Task) (rest : List Task) (v : Trail) → from_there from ms bs → (b : EndsLeaf at image core from (first_tasks core fork from) start (task ∷ rest) v) → ((c : Come at image core fork from ms bs) → suc top < b.count) → Edge at image core fork from ms bs (task ∷ rest) v
+  pub any_edge : (from : ℕ) (ms : List Mapping) (bs : List ℕ) (task : Task) (rest : List Task) (v : Trail) → from_there from ms bs → (b : EndsLeaf at image core from (first_tasks core fork from) start (task ∷ rest) v) → ((c : Come at image core fork from ms bs) → suc top < b.count) → Edge at image core fork from ms bs (task ∷ rest) v
   any_edge from ms bs task rest v (inl c) b far = edge at image core fork from ms bs c (task ∷ rest) v b.count (far c) b.border
   any_edge from ms bs task rest v (inr e) b far =
       let first = edge_first at image core fork (task ∷ rest) v b.count (subst (λ k. IsBorder at image core k (first_tasks core fork k) start b.count (task ∷ rest) v) e.0 b.border) in
@@ -149,7 +149,7 @@ module _ (at : Layout) (image : Image) (core : Core3) (fork : Fork) where
         (tree_walk, fault_at w.trail o tree_walk ((λ i. or_else (w.bad i) (block_fault (ends_here w.front w.own w.trail v w.same.last i))) ∙ h))
 
     -- a piece leads on
-    piece_on : (from : ℕ) (ms : List Mapping) (bs : List ℕ) (piece : ForkPiece) → from_there from ms bs → IsTreePiece at image core fork from piece → EndOf piece.next (ms ++ piece.mappings.items) (bs ++ piece.tree_blocks.items)
+    pub piece_on : (from : ℕ) (ms : List Mapping) (bs : List ℕ) (piece : ForkPiece) → from_there from ms bs → IsTreePiece at image core fork from piece → EndOf piece.next (ms ++ piece.mappings.items) (bs ++ piece.tree_blocks.items)
     piece_on from ms bs piece c p = by_way p.stop p.walked p.good p.given
       where
         by_way : (stop : Way) → Ends at image core fork from stop p.trail → judged at fork (root_level (area_of core fork)) stop p.trail ≡ None → IsPiece from p.trail.mappings (map (λ (b : TreeBlock). b.block) p.trail.blocks) (next_of stop) piece → EndOf piece.next (ms ++ piece.mappings.items) (bs ++ piece.tree_blocks.items)
@@ -167,7 +167,7 @@ module _ (at : Layout) (image : Image) (core : Core3) (fork : Fork) where
         by_way (Long task) e good given = absurd (some_none faults.Order (else_parts (first_bad at fork p.trail.mappings) (Some faults.Order) good).1)
         by_way Fallen e good given = absurd (some_none faults.Order (else_parts (first_bad at fork p.trail.mappings) (Some faults.Order) good).1)
 
-    follow_on : (pieces : List ForkPiece) (next left : Option ℕ) (ms : List Mapping) (bs : List ℕ) → EndOf next ms bs → Follow at image core fork next pieces left → EndOf left (ms ++ all_mappings pieces) (bs ++ all_blocks pieces)
+    pub follow_on : (pieces : List ForkPiece) (next left : Option ℕ) (ms : List Mapping) (bs : List ℕ) → EndOf next ms bs → Follow at image core fork next pieces left → EndOf left (ms ++ all_mappings pieces) (bs ++ all_blocks pieces)
     follow_on [] next left ms bs e h =
         subst (λ xs. EndOf left (ms ++ []) xs) (sym (append-nil bs)) (subst (λ xs. EndOf left xs bs) (sym (append-nil ms)) (subst (λ o. EndOf o ms bs) h e))
     follow_on (piece ∷ pieces) None left ms bs e h = absurd h
@@ -231,7 +231,7 @@ module _ (at : Layout) (image : Image) (core : Core3) (fork : Fork) where
     stuck_clash from ms bs [] v c s u walk good = absurd (false≢true (sym s.stays))
     stuck_clash from ms bs (x ∷ xs) v c s u walk good =
         let h = border_leaves at image core from (first_tasks core fork from) (x ∷ xs) start v s.count s.border in
-        let d = any_edge from ms bs x xs v c (record { count = s.count; border = s.border }) (λ k. stuck_past from ms bs k (x ∷ xs) v s.count h s.late) in
+        let d = any_edge from ms bs x xs v c (record { count = s.count; border = s.border; late = s.late }) (λ k. stuck_past from ms bs k (x ∷ xs) v s.count h s.late) in
         let w = d.view in
         let r = walk_tasks at image core 0 (x ∷ xs) w.trail in
         let same : r ≡ Ok u = sym (whole_walk r (x ∷ xs) w.trail w.count w.leaves refl) ∙ walk in
@@ -349,7 +349,7 @@ module _ (at : Layout) (image : Image) (core : Core3) (fork : Fork) where
         blocks_are = rw off given.tree_blocks;
       }
 
-  first_end : from_there 0 [] []
+  pub first_end : from_there 0 [] []
   first_end = inr (refl, refl, refl)
 
   off_whole : (pieces : List ForkPiece) → is_tree core fork ≡ false → Follow at image core fork (Some 0) pieces None → IsWhole at image core fork (all_mappings pieces) (all_blocks pieces)
@@ -361,7 +361,7 @@ module _ (at : Layout) (image : Image) (core : Core3) (fork : Fork) where
       let none = (h.0.1 off).next in
       absurd (subst (λ o. Follow at image core fork o (other ∷ pieces) None) none h.1)
 
-  form_first : (pieces : List ForkPiece) (left : Option ℕ) → Follow at image core fork (Some 0) pieces left → (left ≡ Some 0) ⊎ (form_fault core fork ≡ None)
+  pub form_first : (pieces : List ForkPiece) (left : Option ℕ) → Follow at image core fork (Some 0) pieces left → (left ≡ Some 0) ⊎ (form_fault core fork ≡ None)
   form_first [] left h = inl (sym h)
   form_first (piece ∷ pieces) left h = inr (form_none at core fork h.0.0)
 

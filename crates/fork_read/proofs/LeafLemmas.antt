@@ -1,5 +1,5 @@
 -- The mappings of a leaf, one after the other.
-use Rattle.std.proofs.Common.{◌≡◌, ℕ, zero, suc, ◌+◌, ◌-◌, ◌<◌, ◌≤◌, Bool, true, false, List, [], ◌∷◌, ◌++◌, drop, filter, length, inl, inr, sym, ap, ◌∙◌, zero-add, arith}
+use Rattle.std.proofs.Common.{◌≡◌, ℕ, zero, suc, ◌+◌, ◌-◌, ◌<◌, ◌≤◌, Bool, List, [], ◌∷◌, ◌++◌, drop, filter, length, inl, inr, sym, ap, ◌∙◌, zero-add, arith}
 use Rattle.std.specs.Prelude.{nat_le}
 use Rattle.std.proofs.lemmas.Bool.{cases_Bool}
 use Rattle.std.proofs.lemmas.List.{append-nil, append_assoc}
@@ -27,7 +27,7 @@ given_both p (x ∷ xs) ys =
     let rest = given_both p xs ys in
     elim (cases_Bool (p x)) [ inl kept ↦ rw kept (omega (arith, rest)) | inr out ↦ rw out rest ]
 
-few_in : (n : ℕ) (bytes : List ℕ) → length (mappings_in n bytes) ≤ n
+pub few_in : (n : ℕ) (bytes : List ℕ) → length (mappings_in n bytes) ≤ n
 unfolding mappings_in
 few_in zero bytes = omega arith
 few_in (suc n) bytes = let rest = few_in n (drop 16 bytes) in omega (arith, rest)

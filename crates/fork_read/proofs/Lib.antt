@@ -1,4 +1,5 @@
 pub mod BadLemmas
+pub mod CountLemmas
 pub mod EachLemmas
 pub mod EndLemmas
 pub mod FirstLemmas
@@ -17,6 +18,7 @@ pub mod RootLemmas
 pub mod RunLemmas
 pub mod SeenLemmas
 pub mod SizeLemmas
+pub mod SpendLemmas
 pub mod StandLemmas
 pub mod TaskLemmas
 pub mod WalkLemmas

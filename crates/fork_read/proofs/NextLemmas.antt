@@ -1,13 +1,13 @@
 -- What comes next of a whole btree's walk begins at the key of the first subtree that is left.
-use Rattle.std.proofs.Common.{◌≡◌, ℕ, zero, suc, ◌+◌, ◌-◌, ◌<◌, ◌≤◌, Bool, true, false, List, [], ◌∷◌, ◌++◌, Option, Some, None, Result, Ok, Err, refl, ap, sym, subst, ◌∙◌, inl, inr, append-nil, arith}
+use Rattle.std.proofs.Common.{◌≡◌, ℕ, zero, suc, List, [], ◌∷◌, ◌++◌, refl, ap, sym, subst, ◌∙◌, inl, inr, append-nil}
 use Rattle.std.specs.Prelude.{◌⊎◌}
 use Rattle.std.proofs.lemmas.List.{append_assoc}
-use Rattle.geom.specs.Layout.{Layout, split_of}
+use Rattle.geom.specs.Layout.{Layout}
 use Rattle.dinode_core.specs.declared.inode.Core3.{Core3}
 use Rattle.dinode_core.specs.declared.mapping.Mapping.{Mapping}
-use Rattle.dinode_core.specs.ForkTree.{Image, Trail, Last, Entry, ◌>>=◌, leaf_mappings, node_entries, walk_each, walk_in, with_mappings}
+use Rattle.dinode_core.specs.ForkTree.{Image, Trail, leaf_mappings, node_entries}
 use Rattle.fork_read.specs.declared.tasks.Task.{Task}
-use Rattle.fork_read.specs.Walk.{IsRead, Leaves, entry_of, is_sound_from, passed_from, pruned, read_at, skipped_to, tasks_of, walk_from, walk_tasks}
+use Rattle.fork_read.specs.Walk.{IsRead, Leaves, entry_of, tasks_of}
 use Rattle.fork_read.proofs.StandLemmas.{leaf_begins, node_begins, own_mappings, took}
 use Rattle.fork_read.proofs.WholeLemmas.{entries_same}
 

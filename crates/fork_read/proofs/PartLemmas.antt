@@ -5,10 +5,9 @@ use Rattle.std.proofs.lemmas.Bool.{cases_Bool}
 use Rattle.geom.specs.Layout.{Layout, device_block_of, split_of}
 use Rattle.dinode_core.specs.declared.inode.Core3.{Core3}
 use Rattle.dinode_core.specs.declared.mapping.Fork.{Fork}
-use Rattle.dinode_core.specs.declared.mapping.ForkFault.{ForkFault}
 use Rattle.dinode_core.specs.declared.mapping.ForkFault.TheVariants as faults
 use Rattle.dinode_core.specs.declared.mapping.Mapping.{Mapping}
-use Rattle.dinode_core.specs.Inline.{first_bad, form_fault, inline_fault, inline_mappings, or_else, root_level}
+use Rattle.dinode_core.specs.Inline.{first_bad, form_fault, inline_mappings, or_else, root_level}
 use Rattle.dinode_core.specs.Shape.{area_of}
 use Rattle.dinode_core.specs.ForkTree.{Image, Trail, TreeBlock, Last, Entry, ◌>>=◌, is_sound, sound_at, block_at, passed, with_mappings, leaf_mappings, node_entries, walk_each, walk_in, walk_block, walk_tree, root_entries, start, ends, Met, met_of, is_tree, walk_fault}
 use Rattle.fork_read.specs.declared.fault.ForkPiece.{ForkPiece}
@@ -18,7 +17,7 @@ use Rattle.fork_read.specs.declared.walk.Stop.TheVariants.{Bad, Whole, Left, Lon
 use Rattle.fork_read.specs.Answers.{IsStopped}
 use Rattle.fork_read.specs.Parts.{Each, Has, IsPart}
 use Rattle.fork_read.specs.Pieces.{IsForkPiece}
-use Rattle.fork_read.specs.Walk.{is_passed, is_resumed, skipped_to, is_sound_from, pruned, read_at, passed_from, walk_from, entry_of, first_tasks, tasks_of, walk_tasks, walk_all}
+use Rattle.fork_read.specs.Walk.{is_passed, is_resumed, skipped_to, is_sound_from, pruned, read_at, passed_from, walk_from, entry_of, tasks_of, walk_tasks, walk_all}
 use Rattle.fork_read.proofs.WalkLemmas.{each_then}
 use Rattle.fork_read.proofs.WholeLemmas.{else_parts, some_none, walk_same}
 

@@ -1,5 +1,5 @@
 -- Each mapping of a piece is in range, and what is known once a piece is refused.
-use Rattle.std.proofs.Common.{◌≡◌, ℕ, Bool, true, false, List, [], ◌∷◌, map, filter, Option, Some, None, Result, Ok, Err, refl, ap, sym, subst, ◌∙◌, inl, inr}
+use Rattle.std.proofs.Common.{◌≡◌, ℕ, true, List, [], ◌∷◌, filter, Option, Some, None, Result, Ok, Err, refl, ap, sym, subst, ◌∙◌, inl, inr}
 use Rattle.std.specs.Prelude.{All, IfOk, nat_le}
 use Rattle.std.specs.List.{AllByRecursion}
 use Rattle.std.proofs.lemmas.Bool.{cases_Bool}
@@ -11,13 +11,13 @@ use Rattle.dinode_core.specs.declared.mapping.Fork.{Fork}
 use Rattle.dinode_core.specs.declared.mapping.ForkFault.{ForkFault}
 use Rattle.dinode_core.specs.declared.mapping.Mapping.{Mapping}
 use Rattle.dinode_core.specs.ForkTree.{Image, Trail, walk_fault}
-use Rattle.dinode_core.specs.Inline.{first_bad, form_fault, in_range, inline_fault, inline_mappings, mapping_fault, mapping_tests, or_else}
+use Rattle.dinode_core.specs.Inline.{first_bad, form_fault, in_range, inline_fault, inline_mappings, mapping_fault, mapping_tests}
 use Rattle.fork_read.specs.declared.fault.ForkPiece.{ForkPiece}
 use Rattle.fork_read.specs.declared.fault.ReadFault.{ReadFault}
 use Rattle.fork_read.specs.declared.walk.Stop.{Stop}
 use Rattle.fork_read.specs.Answers.{IsPiece, judged, stop_fault}
 use Rattle.fork_read.specs.Pieces.{AreInRange, IsForkFault}
-use Rattle.fork_read.specs.Whole.{Follow, HasFault, IsCut}
+use Rattle.fork_read.specs.Whole.{Follow, HasFault}
 use Rattle.fork_read.proofs.LawLemmas.{refused_first}
 use Rattle.fork_read.proofs.WholeLemmas.{else_parts}
 

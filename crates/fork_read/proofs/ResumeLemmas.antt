@@ -1,17 +1,17 @@
 -- From where a piece ended, the next one comes to the same subtrees by the way down.
-use Rattle.std.proofs.Common.{◌≡◌, ℕ, zero, suc, ◌+◌, ◌-◌, ◌<◌, ◌≤◌, Bool, true, false, List, [], ◌∷◌, ◌++◌, map, length, Option, Some, None, refl, ap, sym, subst, ◌∙◌, inl, inr, append-nil, arith}
+use Rattle.std.proofs.Common.{◌≡◌, ℕ, zero, suc, ◌+◌, ◌<◌, ◌≤◌, true, false, List, [], ◌∷◌, ◌++◌, Option, Some, None, refl, ap, sym, subst, ◌∙◌, inl, inr, arith}
 use Rattle.std.specs.Prelude.{◌⊎◌, ◌==◌, ◌&&◌, ◌||◌, nat_le, nat_lt, if◌then◌else◌}
 use Rattle.std.proofs.lemmas.Bool.{cases_Bool}
 use Rattle.std.proofs.lemmas.Bool.Decides.{nat_tests}
 use Rattle.std.proofs.lemmas.List.{append_assoc}
 use Rattle.byte_fields.specs.Fields.{field}
-use Rattle.geom.specs.Layout.{Layout, device_block_of, split_of}
+use Rattle.geom.specs.Layout.{Layout, split_of}
 use Rattle.dinode_core.specs.declared.inode.Core3.{Core3}
 use Rattle.dinode_core.specs.declared.mapping.Mapping.{Mapping}
-use Rattle.dinode_core.specs.ForkTree.{Image, Trail, TreeBlock, Last, Entry, is_beside, is_right, leaf_mappings, node_entries}
+use Rattle.dinode_core.specs.ForkTree.{Image, Trail, Last, Entry, is_beside, is_right, leaf_mappings, node_entries}
 use Rattle.fork_read.specs.declared.tasks.Task.{Task}
 use Rattle.fork_read.specs.Parts.{Each}
-use Rattle.fork_read.specs.Walk.{IsRead, Leaves, below_of, entry_of, is_passed, is_resumed, is_sound_from, passed_from, pruned, read_at, skipped_to, taken_in, tasks_of}
+use Rattle.fork_read.specs.Walk.{IsRead, Leaves, is_passed, is_resumed, is_sound_from, passed_from, pruned, read_at, skipped_to, taken_in, tasks_of}
 use Rattle.fork_read.proofs.StandLemmas.{Deep, Holds, Reading, deep_first, each_back, each_front, each_weaker, leaf_begins, node_begins}
 use Rattle.fork_read.proofs.WalkLemmas.{leaves_first, leaves_join, leaves_more, sound}
 

@@ -1,5 +1,5 @@
 -- Mappings without a fault rise, and two lists of them that overlap are one.
-use Rattle.std.proofs.Common.{◌≡◌, ℕ, zero, suc, ◌+◌, ◌-◌, ◌<◌, ◌≤◌, Bool, true, false, List, [], ◌∷◌, ◌++◌, filter, length, Option, Some, None, refl, ap, sym, subst, ◌∙◌, inl, inr, arith}
+use Rattle.std.proofs.Common.{◌≡◌, ℕ, suc, ◌+◌, ◌-◌, ◌<◌, ◌≤◌, Bool, true, false, List, [], ◌∷◌, ◌++◌, filter, length, Option, Some, None, refl, ap, sym, subst, ◌∙◌, inl, inr, arith}
 use Rattle.std.specs.Prelude.{◌⊎◌, ◌&&◌, nat_le, nat_lt}
 use Rattle.std.specs.List.{slice_get}
 use Rattle.std.proofs.lemmas.Bool.{and_parts, cases_Bool, false≢true}
@@ -9,10 +9,9 @@ use Rattle.geom.specs.Layout.{Layout}
 use Rattle.dinode_core.specs.declared.mapping.Mapping.{Mapping}
 use Rattle.dinode_core.specs.declared.mapping.Fork.{Fork}
 use Rattle.dinode_core.specs.declared.mapping.ForkFault.{ForkFault}
-use Rattle.dinode_core.specs.Inline.{clears, first_bad, in_range, mapping_fault, mapping_tests, or_else, rises}
+use Rattle.dinode_core.specs.Inline.{clears, first_bad, mapping_fault, mapping_tests, or_else, rises}
 use Rattle.fork_read.specs.Answers.{last_clears}
 use Rattle.fork_read.specs.Parts.{Each}
-use Rattle.fork_read.proofs.StandLemmas.{each_weaker}
 use Rattle.fork_read.proofs.WholeLemmas.{else_parts}
 
 -- the last of a list

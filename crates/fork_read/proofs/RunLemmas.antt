@@ -1,19 +1,18 @@
 -- A walk is one way alone, and behind the first leaf it is the whole btree's.
-use Rattle.std.proofs.Common.{◌≡◌, ℕ, zero, suc, ◌+◌, ◌-◌, ◌<◌, ◌≤◌, Bool, true, false, List, [], ◌∷◌, ◌++◌, map, length, Option, Some, None, Result, Ok, Err, refl, ap, sym, subst, ◌∙◌, inl, inr, append-nil, arith}
-use Rattle.std.specs.Prelude.{⊤, ◌⊎◌, ◌==◌, ◌&&◌, ◌||◌, nat_le, nat_lt, if◌then◌else◌}
-use Rattle.std.proofs.lemmas.Bool.{cases_Bool}
+use Rattle.std.proofs.Common.{◌≡◌, ℕ, zero, suc, ◌+◌, ◌-◌, ◌≤◌, Bool, true, false, List, [], ◌∷◌, ◌++◌, map, length, Option, Some, None, refl, ap, sym, subst, ◌∙◌, append-nil, arith}
+use Rattle.std.specs.Prelude.{◌==◌, if◌then◌else◌}
 use Rattle.std.proofs.lemmas.List.{append_assoc}
 use Rattle.byte_fields.specs.Fields.{field}
-use Rattle.geom.specs.Layout.{Layout, device_block_of, split_of}
+use Rattle.geom.specs.Layout.{Layout, split_of}
 use Rattle.dinode_core.specs.declared.inode.Core3.{Core3}
 use Rattle.dinode_core.specs.declared.mapping.Mapping.{Mapping}
 use Rattle.dinode_core.specs.ForkTree.{Image, Trail, TreeBlock, Last, Entry, leaf_mappings, node_entries}
 use Rattle.fork_read.specs.declared.tasks.Task.{Task}
 use Rattle.fork_read.specs.Parts.{Each}
 use Rattle.fork_read.specs.Walk.{IsRead, Leaves, below_of, entry_of, is_resumed, is_sound_from, passed_from, pruned, read_at, skipped_to, taken_in, tasks_of, walk_tasks}
-use Rattle.fork_read.proofs.StandLemmas.{Deep, Stands, Took, deep_on, leaf_begins, node_begins, own_mappings, stands_on, took}
-use Rattle.fork_read.proofs.WalkLemmas.{leaf_block, leaves_first, leaves_more, node_block}
-use Rattle.fork_read.proofs.WholeLemmas.{entries_same, resumed_same, skipped_same}
+use Rattle.fork_read.proofs.StandLemmas.{own_mappings}
+use Rattle.fork_read.proofs.WalkLemmas.{leaf_block, leaves_more, node_block}
+use Rattle.fork_read.proofs.WholeLemmas.{resumed_same, skipped_same}
 
 pub numbers : List TreeBlock → List ℕ
 numbers bs = map (λ b. b.block) bs
@@ -159,7 +158,7 @@ module _ (at : Layout) (image : Image) (core : Core3) (from : ℕ) where
   upto_tasks level n [] h = tt
   upto_tasks level n (e ∷ es) h = (h, upto_tasks level n es h)
 
-  upto_below : (level skipped n : ℕ) (bytes : List ℕ) (xs : List Task) → n ≤ level → UpTo level xs → UpTo level (below_of skipped n bytes ++ xs)
+  pub upto_below : (level skipped n : ℕ) (bytes : List ℕ) (xs : List Task) → n ≤ level → UpTo level xs → UpTo level (below_of skipped n bytes ++ xs)
   upto_below level skipped zero bytes xs h up = up
   upto_below level skipped (suc n) bytes xs h up = both (tasks_of n (pruned skipped (node_entries bytes))) (upto_tasks level n (pruned skipped (node_entries bytes)) (omega (arith, h)))
     where

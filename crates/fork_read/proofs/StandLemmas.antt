@@ -1,5 +1,5 @@
 -- Where a walk of a btree stands: on each level the entry whose block was read last, and what is left.
-use Rattle.std.proofs.Common.{◌≡◌, ℕ, zero, suc, ◌+◌, ◌*◌, ◌<◌, ◌≤◌, Bool, true, false, List, [], ◌∷◌, ◌++◌, drop, length, Option, Some, None, refl, ap, sym, subst, ◌∙◌, inl, inr, append-nil, arith}
+use Rattle.std.proofs.Common.{◌≡◌, ℕ, zero, suc, ◌+◌, ◌*◌, ◌≤◌, Bool, true, false, List, [], ◌∷◌, ◌++◌, drop, Option, Some, None, refl, ap, sym, subst, ◌∙◌, inl, inr, append-nil, arith}
 use Rattle.std.specs.Prelude.{◌⊎◌, ◌==◌, ◌&&◌, ◌||◌, nat_le, nat_lt, if◌then◌else◌}
 use Rattle.std.proofs.lemmas.Bool.{and_parts, leb-true}
 use Rattle.std.proofs.lemmas.Bool.Decides.{nat_tests}
@@ -11,10 +11,10 @@ use Rattle.dinode_core.specs.declared.inode.Core3.{Core3}
 use Rattle.dinode_core.specs.declared.mapping.Mapping.{Mapping}
 use Rattle.dinode_core.specs.Packed.{unpacked}
 use Rattle.dinode_core.specs.Inline.{mappings_in}
-use Rattle.dinode_core.specs.ForkTree.{Image, Trail, Last, Entry, entries, first_key, is_beside, is_fork_block, is_right, leaf_mappings, node_entries, numrecs, with_mappings}
+use Rattle.dinode_core.specs.ForkTree.{Image, Trail, Last, Entry, entries, first_key, is_beside, is_fork_block, is_right, leaf_mappings, node_entries, numrecs}
 use Rattle.fork_read.specs.declared.tasks.Task.{Task}
 use Rattle.fork_read.specs.Parts.{Each}
-use Rattle.fork_read.specs.Walk.{IsRead, below_of, entry_of, is_resumed, is_sound_from, passed_from, pruned, read_at, skipped_to, taken_in, tasks_of}
+use Rattle.fork_read.specs.Walk.{IsRead, below_of, entry_of, is_resumed, is_sound_from, passed_from, read_at, skipped_to, taken_in, tasks_of}
 use Rattle.fork_read.proofs.WholeLemmas.{entries_same}
 
 -- one of these mappings begins at this offset

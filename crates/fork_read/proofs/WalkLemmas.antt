@@ -10,7 +10,7 @@ use Rattle.dinode_core.specs.ForkTree.{Image, Trail, Last, Entry, entries, numre
 use Rattle.fork_read.specs.declared.tasks.Task.{Task}
 use Rattle.fork_read.specs.Stuck.{IsBorder}
 use Rattle.fork_read.specs.Answers.{AllLow, HasRead, first_level}
-use Rattle.fork_read.specs.Walk.{IsRead, Leaves, Reaches, below_of, pruned, is_resumed, is_sound_from, read_at, passed_from, skipped_to, taken_in, walk_from, entry_of, tasks_of, walk_tasks}
+use Rattle.fork_read.specs.Walk.{IsRead, Leaves, below_of, pruned, is_resumed, is_sound_from, read_at, passed_from, skipped_to, taken_in, walk_from, entry_of, tasks_of, walk_tasks}
 
 part_five : (a b c d e f g h i j : Bool) → (a && b && c && d && e && f && g && h && i && j) ≡ true → e ≡ true
 part_five a b c d e f g h i j p =

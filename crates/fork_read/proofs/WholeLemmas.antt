@@ -1,25 +1,16 @@
 -- A piece from 0 on that leaves nothing is the whole fork.
-use Rattle.std.proofs.Common.{◌≡◌, ℕ, zero, suc, ◌-◌, Bool, true, false, List, [], ◌∷◌, map, filter, Option, Some, None, Result, Ok, Err, refl, ap, sym, ◌∙◌, append-nil, arith}
+use Rattle.std.proofs.Common.{◌≡◌, ℕ, zero, suc, ◌-◌, true, false, List, [], ◌∷◌, filter, Option, Some, None, Result, Ok, Err, refl, ap, sym, ◌∙◌, append-nil, arith}
 use Rattle.std.specs.Prelude.{nat_lt, nat_le}
 use Rattle.std.proofs.lemmas.Bool.Decides.{nat_tests}
 use Rattle.geom.specs.Layout.{Layout, split_of}
 use Rattle.dinode_core.specs.declared.inode.Core3.{Core3}
 use Rattle.dinode_core.specs.declared.mapping.Fork.{Fork}
 use Rattle.dinode_core.specs.declared.mapping.ForkFault.{ForkFault}
-use Rattle.dinode_core.specs.declared.mapping.ForkFault.TheVariants as faults
 use Rattle.dinode_core.specs.declared.mapping.Mapping.{Mapping}
-use Rattle.dinode_core.specs.Inline.{first_bad, form_fault, inline_fault, inline_mappings, or_else, root_level}
+use Rattle.dinode_core.specs.Inline.{or_else, root_level}
 use Rattle.dinode_core.specs.Shape.{area_of}
-use Rattle.dinode_core.specs.ForkTree.{Image, Trail, Last, Entry, ◌>>=◌, sound_at, block_at, passed, with_mappings, leaf_mappings, node_entries, walk_each, walk_in, walk_block, walk_tree, root_entries, start, ends, met_of, is_tree, block_fault, walk_fault}
-use Rattle.fork_read.specs.declared.fault.ForkPiece.{ForkPiece}
-use Rattle.fork_read.specs.declared.tasks.Task.{Task}
-use Rattle.fork_read.specs.declared.walk.Stop.{Stop}
-use Rattle.fork_read.specs.declared.walk.Stop.TheVariants.{Bad, Whole, Left, Long, Fallen}
-use Rattle.fork_read.specs.Answers.{IsPiece, IsStopped, judged, next_of}
-use Rattle.fork_read.specs.Pieces.{IsForkPiece}
-use Rattle.fork_read.specs.Whole.{IsWhole}
+use Rattle.dinode_core.specs.ForkTree.{Image, Trail, Last, Entry, ◌>>=◌, sound_at, block_at, passed, with_mappings, leaf_mappings, node_entries, walk_each, walk_in, walk_block, walk_tree, root_entries, start}
 use Rattle.fork_read.specs.Walk.{is_resumed, is_sound_from, pruned, read_at, passed_from, skipped_to, walk_from, tasks_of, walk_tasks, walk_all}
-use Rattle.fork_read.proofs.PieceLemmas.{form_none}
 use Rattle.fork_read.proofs.WalkLemmas.{each_then}
 
 nothing_below : (n : ℕ) → nat_lt n 0 ≡ false

@@ -1,5 +1,5 @@
 -- The first fault of a whole fork, and how many blocks are read until it is known.
-use Rattle.std.specs.Prelude.{◌≡◌, ℕ, ◌+◌, ◌≤◌, Bool, true, false, List, length, Option, Some, None, Result, Ok, Err, ⊤}
+use Rattle.std.specs.Prelude.{◌≡◌, ℕ, ◌+◌, ◌-◌, ◌*◌, ◌≤◌, Bool, true, false, if◌then◌else◌, List, length, Option, Some, None, Result, Ok, Err, ⊤}
 use Rattle.geom.specs.Layout.{Layout}
 use Rattle.dinode_core.specs.declared.inode.Core3.{Core3}
 use Rattle.dinode_core.specs.declared.mapping.Fork.{Fork}
@@ -7,7 +7,7 @@ use Rattle.dinode_core.specs.declared.mapping.ForkError.{ForkError}
 use Rattle.dinode_core.specs.declared.mapping.ForkError.TheVariants.{Fault, Memory as NoMemory}
 use Rattle.dinode_core.specs.declared.mapping.ForkFault.{ForkFault}
 use Rattle.dinode_core.specs.Core.{core_fault, core_of}
-use Rattle.dinode_core.specs.ForkTree.{Entry, Image, Trail, entries, met_of, walk_each, walk_fault}
+use Rattle.dinode_core.specs.ForkTree.{Entry, Image, Trail, entries, is_tree, met_of, walk_each, walk_fault}
 use Rattle.fork_read.specs.declared.fault.ReadFault.{ReadFault}
 use Rattle.fork_read.specs.declared.fault.ReadFault.TheVariants.{Fork as IsFork, Core as IsCoreFault, Failed, Memory}
 use Rattle.fork_read.specs.declared.tasks.Table.{Table}
@@ -26,9 +26,12 @@ abbrev pub reads_of : Result Trail Trail → ℕ
 reads_of (Ok trail) = length trail.blocks
 reads_of (Err trail) = length trail.blocks + 1
 
--- the entries of a node or of a root
+-- the entries of a node or of a root, and those from one on
 abbrev pub entries_in : Table → List ℕ → List Entry
 entries_in table bytes = entries table.count table.keys table.pointers bytes
+
+abbrev pub entries_from : Table → ℕ → List ℕ → List Entry
+entries_from table i bytes = entries (table.count - i) (table.keys + 8 * i) (table.pointers + 8 * i) bytes
 
 -- the whole walk of these subtrees of a level
 unfoldable pub walk_below : Layout → Image → Core3 → ℕ → List Entry → Trail → Result Trail Trail
@@ -55,9 +58,10 @@ IsFirst at image ino fork (Err (IsCoreFault fault)) = core_fault (inode_bytes at
 IsFirst at image ino fork (Err Failed) = ⊤
 IsFirst at image ino fork (Err Memory) = ⊤
 
--- so many blocks at most beside the inode's: those that are met of the fork's btree, and the first bad one
+-- so many blocks at most beside the inode's: those that are met of the fork's btree, and the first bad one; none where
+-- it has none
 abbrev pub most_met : Layout → Image → Core3 → Fork → ℕ
-most_met at image core fork = length (met_of at image core fork).blocks + 1
+most_met at image core fork = if is_tree core fork then length (met_of at image core fork).blocks + 1 else 0
 
 abbrev pub most_of : Layout → Image → ℕ → Fork → ℕ
 most_of at image ino fork = 1 + most_met at image (core_of (inode_bytes at image ino)) fork

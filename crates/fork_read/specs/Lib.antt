@@ -1,7 +1,9 @@
 pub mod Answers
+pub mod Counted
 pub mod First
 pub mod Parts
 pub mod Pieces
 pub mod Stuck
+pub mod Told
 pub mod Walk
 pub mod Whole

@@ -2,9 +2,11 @@
 use Rattle.std.specs.Prelude.{◌≡◌, ℕ, ◌*◌, ◌/◌, ◌%◌, ◌<◌, ◌≤◌, length, true, false, List, [], map, take, drop, Option, Some, None, Result, Ok, Err, All, IfSome, ◌⊎◌, ⊤}
 use Rattle.blk_cache.specs.Cache.{Keeps, Stays}
 use Rattle.blk_cache.specs.declared.cache.BlkCache.{BlkCache}
+use Rattle.byte_fields.specs.FirstFailing.{Decodes}
 use Rattle.byte_fields.specs.declared.block.Block.{Block}
 use Rattle.geom.specs.Layout.{Layout, device_block_of, split_of}
 use Rattle.dinode_core.specs.declared.inode.Core3.{Core3}
+use Rattle.dinode_core.specs.declared.inode.CoreFault.{CoreFault}
 use Rattle.dinode_core.specs.declared.mapping.Fork.{Fork}
 use Rattle.dinode_core.specs.declared.mapping.ForkError.{ForkError}
 use Rattle.dinode_core.specs.declared.mapping.ForkError.TheVariants.{Fault, Memory as NoMemory}
@@ -44,7 +46,11 @@ bytes_in at image slot (Some place) = slot_bytes (image (device_block_of at plac
 abbrev pub inode_bytes : Layout → Image → ℕ → List ℕ
 inode_bytes at image ino = bytes_in at image (ino % 8) (split_of at (ino / 8))
 
--- the core that these bytes have, or its first fault
+-- these bytes decode to a core, or show its first fault
+abbrev pub DecodesCore : List ℕ → ℕ → List ℕ → Result Core3 CoreFault → Type 0
+DecodesCore bytes ino uuid result = Decodes (core_fault bytes ino uuid) (λ core. core ≡ core_of bytes) result
+
+-- the same where the block was to be read before
 abbrev pub IsCore : List ℕ → ℕ → List ℕ → Result Core3 ReadFault → Type 0
 IsCore bytes ino uuid (Ok core) = (core_fault bytes ino uuid ≡ None) × (core ≡ core_of bytes)
 IsCore bytes ino uuid (Err (IsFork fault)) = ⊥

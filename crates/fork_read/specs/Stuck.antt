@@ -1,5 +1,5 @@
 -- Where no piece can begin, and what is read behind that place.
-use Rattle.std.specs.Prelude.{◌≡◌, ℕ, suc, ◌<◌, ◌≤◌, Bool, true, false, List, [], ◌∷◌, Option, None, ◌⊎◌}
+use Rattle.std.specs.Prelude.{◌≡◌, ℕ, suc, ◌<◌, ◌≤◌, Bool, true, false, List, [], ◌∷◌, None, ◌⊎◌}
 use Rattle.geom.specs.Layout.{Layout, split_of}
 use Rattle.dinode_core.specs.declared.inode.Core3.{Core3}
 use Rattle.dinode_core.specs.declared.mapping.Mapping.{Mapping}
@@ -21,10 +21,11 @@ pub record IsBorder (at : Layout) (image : Image) (core : Core3) (from : ℕ) (t
   pub read : IsNext at image core from (Leaves at image core from tasks trail before) left after
   pub leaf : read.task.level ≡ 0
 
--- some blocks were read, the last of them a leaf
+-- the walk came to a leaf's end with 90 blocks, or with more than 261 mappings of the piece
 pub record EndsLeaf (at : Layout) (image : Image) (core : Core3) (from : ℕ) (tasks : List Task) (trail : Trail) (left : List Task) (after : Trail) : Type 0 where
   pub count : ℕ
   pub border : IsBorder at image core from tasks trail count left after
+  pub late : (90 ≤ count) ⊎ (261 < given_of from after.mappings)
 
 -- the walk came to these subtrees with 90 blocks, or with more than 261 mappings of the piece, which may not end there
 pub record IsStuck (at : Layout) (image : Image) (core : Core3) (from : ℕ) (tasks : List Task) (trail : Trail) (left : List Task) (after : Trail) : Type 0 where

@@ -131,5 +131,15 @@ last_in lasts level = last_or (get_or lasts level unread)
 abbrev pub block_of : BlockRead → TreeBlock
 block_of b = record { block = b.block; before = b.before }
 
+-- a subtree's block is given, where no earlier piece has read it
+abbrev pub blocks_given : ℕ → Task → Seen → List TreeBlock
+blocks_given from task seen =
+    if is_resumed from (last_in seen.lasts task.level) task.key then map block_of seen.blocks.items
+    else map block_of seen.blocks.items ++ record { block = task.block; before = length seen.mappings.items } ∷ []
+
+-- a subtree's block is sound beside those that were read last
+abbrev pub is_task_sound : Layout → Core3 → ℕ → Task → List LastRead → ℕ × ℕ → List ℕ → Bool
+is_task_sound at core from task lasts place bytes = is_sound_from at core from task.level (last_in lasts task.level) (entry_of task) place bytes
+
 abbrev pub trail_of : Seen → Trail
 trail_of seen = record { mappings = seen.mappings.items; blocks = map block_of seen.blocks.items; last = last_in seen.lasts }

@@ -2,7 +2,7 @@ ghost use Rattle.std.specs.Prelude.{◌≡◌, ◌<◌, true, IfSome};
 ghost use Rattle.geom.specs.Layout.{Layout};
 ghost use Rattle.geom.specs.Places.{layout, HasBlock};
 ghost use Rattle.dinode_core.specs.ForkTree.{first_key, is_fork_block, is_right};
-ghost use Rattle.fork_read.specs.Walk.{entry_of, is_sound_from, last_in};
+ghost use Rattle.fork_read.specs.Walk.{entry_of, is_task_sound};
 
 use crate::seen::{Seen, is_beside_last, is_resumed_at};
 use crate::tasks::Task;
@@ -67,7 +67,7 @@ pub fn is_sound_at(
 ) -> bool
     requires place { HasBlock geo.now place.0 place.1 }
     requires level { task.now.level < 9 }
-    ensures { result ≡ is_sound_from (layout geo.now) core.now from task.now.level (last_in seen.now.lasts task.now.level) (entry_of task.now) (place.0, place.1) block.now.bytes }
+    ensures { result ≡ is_task_sound (layout geo.now) core.now from task.now seen.now.lasts (place.0, place.1) block.now.bytes }
 {
     is_right_at(block, geo, core, task, place.0, place.1)
         && (is_resumed_at(seen, task, from) || is_beside_last(seen, task, block))

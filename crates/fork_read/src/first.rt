@@ -10,8 +10,9 @@ ghost use Rattle.geom.specs.Places.{layout};
 ghost use Rattle.dinode_core.specs.ForkTree.{is_tree, numrecs};
 ghost use Rattle.dinode_core.specs.Inline.{form_fault, root_keys, root_level};
 ghost use Rattle.fork_read.specs.Answers.{IsOutside, is_failed};
-ghost use Rattle.fork_read.specs.First.{FewRead, IsFirst, IsFirstOf, IsShown, ended, entries_in, most_met, most_of, walk_below, way_of};
+ghost use Rattle.fork_read.specs.First.{IsFirst, IsFirstOf, IsShown, entries_in, most_met, most_of, way_of};
 ghost use Rattle.fork_read.specs.Pieces.{CachesInode};
+ghost use Rattle.fork_read.specs.Told.{CountsBelow, WalksBelow};
 ghost use Rattle.fork_read.specs.Walk.{entry_of, taken_in, trail_of};
 
 use crate::fault::ReadFault;
@@ -121,8 +122,8 @@ fn walk_entries<D: Device, L: Ledger>(
     requires low { level < 9 }
     requires keys { table.now.keys + 8 * table.now.count ≤ length bytes.now }
     requires small { table.now.pointers + 8 * table.now.count ≤ length bytes.now }
-    ensures walked { IfOk result (λ whole. (c : Contents) → D.content dev.old ≡ Some c → walk_below (layout geo.now) (c Image) core.now level (entries_in table.now bytes.now) (trail_of seen.old) ≡ ended whole (trail_of seen.new)) }
-    ensures each { (c : Contents) → D.content dev.old ≡ Some c → FewRead steps.old.reads steps.new.reads (trail_of seen.old) (walk_below (layout geo.now) (c Image) core.now level (entries_in table.now bytes.now) (trail_of seen.old)) }
+    ensures walked { WalksBelow (layout geo.now) (D.content dev.old) core.now level (entries_in table.now bytes.now) seen.old result seen.new }
+    ensures each { CountsBelow (layout geo.now) (D.content dev.old) core.now level (entries_in table.now bytes.now) seen.old steps.old.reads steps.new.reads }
     ensures outside { IfErr result IsOutside }
     ensures reading { OnlyRead D.Device dev.old dev.new steps.old steps.new }
     ensures cause { HasCause is_failed (D.faults dev.old) (D.faults dev.new) result }

@@ -1,4 +1,4 @@
-ghost use Rattle.std.specs.Prelude.{◌≡◌, ◌+◌, ◌*◌, ◌/◌, ◌%◌, ◌<◌, ◌≤◌, is_some, true, Some, None, IfOk, IfErr, MatchResult, take, drop};
+ghost use Rattle.std.specs.Prelude.{◌≡◌, ◌+◌, ◌*◌, ◌/◌, ◌%◌, ◌<◌, ◌≤◌, is_some, true, Some, None, IfOk, IfErr, take, drop};
 ghost use Rattle.blk_cache.specs.Cache.{AgreesTold};
 ghost use Rattle.blk_device.specs.Causes.{HasCause};
 ghost use Rattle.blk_device.specs.Contents.{Contents};
@@ -6,9 +6,8 @@ ghost use Rattle.blk_device.specs.Reading.{OnlyRead};
 ghost use Rattle.blk_device.specs.declared.device.Region.TheVariants.{Image};
 ghost use Rattle.geom.specs.Layout.{split_of};
 ghost use Rattle.geom.specs.Places.{layout};
-ghost use Rattle.dinode_core.specs.Core.{core_fault, core_of};
 ghost use Rattle.fork_read.specs.Answers.{is_failed};
-ghost use Rattle.fork_read.specs.Pieces.{inode_bytes, slot_bytes, CachesAt, CachesInode, IsCore};
+ghost use Rattle.fork_read.specs.Pieces.{inode_bytes, slot_bytes, CachesAt, CachesInode, DecodesCore, IsCore};
 
 use crate::fault::ReadFault;
 use blk_cache::BlkCache;
@@ -20,9 +19,7 @@ use std::sync::ledger::Ledger;
 
 // The core in the inode's slot of its block.
 fn core_in(block: &Block, ino: u64, geo: &Geometry) -> Result<Core3, CoreFault>
-    ensures { let bytes = slot_bytes block.now.bytes (ino % 8) in MatchResult result
-        (λ core. (core_fault bytes ino geo.now.uuid ≡ None) × (core ≡ core_of bytes))
-        (λ fault. core_fault bytes ino geo.now.uuid ≡ Some fault) }
+    ensures { DecodesCore (slot_bytes block.now.bytes (ino % 8)) ino geo.now.uuid result }
 {
     let slot = (ino % 8) as usize;
     let (_, rest) = block.bytes.split_at(512 * slot);

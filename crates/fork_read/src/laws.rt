@@ -1,4 +1,5 @@
 ghost use Rattle.geom.specs.Places.{layout};
+ghost use Rattle.fork_read.specs.Counted.{PiecesAreFew};
 ghost use Rattle.fork_read.specs.Whole.{FirstFaultTells, PiecesAreParts, PiecesJoin, RefusalsAreFirst};
 
 use dinode_core::{Core3, Fork};
@@ -31,4 +32,11 @@ pub fn first_fault_tells(core: &Core3, fork: Fork, geo: &Geometry)
 /// its btree only. (XFS Algorithms and Data Structures, "Data Fork".)
 pub fn pieces_are_parts(core: &Core3, fork: Fork, geo: &Geometry)
     ensures { PiecesAreParts (layout geo.now) core.now fork }
+{}
+
+/// Pieces from 0 on read each block of the fork's btree once, and a way down again for each but the
+/// first; each that leaves something has two blocks of its own at least.
+/// (XFS Algorithms and Data Structures, "Long Format B+trees".)
+pub fn pieces_are_few(core: &Core3, fork: Fork, geo: &Geometry)
+    ensures { PiecesAreFew (layout geo.now) core.now fork }
 {}

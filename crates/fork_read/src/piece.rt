@@ -11,6 +11,7 @@ ghost use Rattle.dinode_core.specs.Inline.{form_fault, key_room, root_keys, root
 ghost use Rattle.dinode_core.specs.Shape.{size_of};
 ghost use Rattle.fork_read.specs.Answers.{is_failed};
 ghost use Rattle.fork_read.specs.Pieces.{AreInRange, CachesInode, IsAnswer, IsForkAnswer, IsRefused, IsSized, IsTreeAnswer};
+ghost use Rattle.fork_read.specs.Told.{PaysPiece, SpendsPiece};
 ghost use Rattle.fork_read.specs.Walk.{pruned, tasks_of};
 
 use crate::fault::{ForkPiece, ReadFault};
@@ -81,6 +82,8 @@ fn tree_piece<D: Device, L: Ledger>(
     ensures reading { OnlyRead D.Device dev.old dev.new steps.old steps.new }
     ensures cause { HasCause is_failed (D.faults dev.old) (D.faults dev.new) result }
     ensures few { steps.new.reads ≤ steps.old.reads + 128 }
+    ensures spent { SpendsPiece (layout geo.now) (D.content dev.old) core.now fork from steps.old.reads steps.new.reads }
+    ensures paid { PaysPiece (D.content dev.old) core.now fork from result steps.old.reads steps.new.reads }
 {
     let mut tasks = VecDeque::new(alloc);
     let mut seen = fresh_seen(alloc);
@@ -108,8 +111,8 @@ fn refused(error: ForkError) -> ReadFault
 }
 
 /// The next mappings of a fork of this core, which was read before: what `fork_piece` answers of an
-/// inode with such a core. Its blocks come from the device itself, at most 128 of them.
-/// (XFS Algorithms and Data Structures, "Data Fork" and "Long Format B+trees".)
+/// inode with such a core. Its blocks come from the device itself, at most 128: its own, and the way
+/// down to them. (XFS Algorithms and Data Structures, "Data Fork" and "Long Format B+trees".)
 pub fn piece_of_core<D: Device, L: Ledger>(
     alloc: Global,
     dev: &mut D,
@@ -126,6 +129,8 @@ pub fn piece_of_core<D: Device, L: Ledger>(
     ensures reading { OnlyRead D.Device dev.old dev.new steps.old steps.new }
     ensures cause { HasCause is_failed (D.faults dev.old) (D.faults dev.new) result }
     ensures few { steps.new.reads ≤ steps.old.reads + 128 }
+    ensures spent { SpendsPiece (layout geo.now) (D.content dev.old) core.now fork from steps.old.reads steps.new.reads }
+    ensures paid { PaysPiece (D.content dev.old) core.now fork from result steps.old.reads steps.new.reads }
 {
     let mappings = match inline_fork(alloc, core, fork, geo) {
         Ok(mappings) => mappings,

@@ -1,7 +1,7 @@
 ghost use Rattle.std.specs.Prelude.{◌≡◌, ◌<◌, ◌≤◌, ◌+◌, ◌++◌, ◌==◌, ℕ, [], ◌∷◌, length, map, if◌then◌else◌, OnOk};
 ghost use Rattle.dinode_core.specs.ForkTree.{is_beside, leaf_mappings, numrecs, ends, start, with_mappings};
 ghost use Rattle.fork_read.specs.Answers.{given_of};
-ghost use Rattle.fork_read.specs.Walk.{block_of, entry_of, last_or, is_resumed, last_in, passed_from, skipped_to, trail_of};
+ghost use Rattle.fork_read.specs.Walk.{block_of, blocks_given, entry_of, last_or, is_resumed, last_in, passed_from, skipped_to, trail_of};
 
 use crate::fault::ReadFault;
 use crate::tasks::Task;
@@ -91,7 +91,7 @@ pub fn skipped_at(seen: &Seen, task: &Task, from: u64) -> u64
 // Gives a block of the btree, where no earlier piece has read it.
 fn give_block(seen: &mut Seen, task: &Task, from: u64) -> Result<(), ReadFault>
     requires { task.now.level < 9 }
-    ensures blocks { OnOk result (map block_of seen.new.blocks.items ≡ (if is_resumed from (last_in seen.old.lasts task.now.level) task.now.key then map block_of seen.old.blocks.items else map block_of seen.old.blocks.items ++ record { block = task.now.block; before = length seen.old.mappings.items } ∷ [])) }
+    ensures blocks { OnOk result (map block_of seen.new.blocks.items ≡ blocks_given from task.now seen.old) }
     ensures mappings { seen.new.mappings.items ≡ seen.old.mappings.items }
     ensures lasts { seen.new.lasts ≡ seen.old.lasts }
 {

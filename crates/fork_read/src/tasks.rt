@@ -1,5 +1,5 @@
 ghost use Rattle.std.specs.Prelude.{◌≡◌, ◌+◌, ◌-◌, ◌*◌, ◌≤◌, ◌<◌, ◌++◌, length, OnOk};
-ghost use Rattle.dinode_core.specs.ForkTree.{entries};
+ghost use Rattle.fork_read.specs.First.{entries_from, entries_in};
 ghost use Rattle.fork_read.specs.Walk.{pruned, tasks_of};
 
 use crate::fault::ReadFault;
@@ -28,7 +28,7 @@ fn first_entry(bytes: &[u8], table: &Table, from: u64) -> usize
     requires keys { table.now.keys + 8 * table.now.count ≤ length bytes.now }
     requires small { table.now.pointers + 8 * table.now.count ≤ length bytes.now }
     ensures few { result ≤ table.now.count }
-    ensures exact { pruned from (entries table.now.count table.now.keys table.now.pointers bytes.now) ≡ entries (table.now.count - result) (table.now.keys + 8 * result) (table.now.pointers + 8 * result) bytes.now }
+    ensures exact { pruned from (entries_in table.now bytes.now) ≡ entries_from table.now result bytes.now }
 {
     let mut i = 0;
     while i + 1 < table.count && get_u64(bytes, table.keys + 8 * (i + 1)) < from {
@@ -47,7 +47,7 @@ pub fn push_entries(
 ) -> Result<(), ReadFault>
     requires keys { table.now.keys + 8 * table.now.count ≤ length bytes.now }
     requires small { table.now.pointers + 8 * table.now.count ≤ length bytes.now }
-    ensures pushed { OnOk result (tasks.new.items ≡ tasks_of level (pruned from (entries table.now.count table.now.keys table.now.pointers bytes.now)) ++ tasks.old.items) }
+    ensures pushed { OnOk result (tasks.new.items ≡ tasks_of level (pruned from (entries_in table.now bytes.now)) ++ tasks.old.items) }
 {
     let first = first_entry(bytes, table, from);
     let mut i = table.count;

@@ -3,13 +3,11 @@ ghost use Rattle.blk_device.specs.Causes.{HasCause};
 ghost use Rattle.blk_device.specs.Contents.{Contents};
 ghost use Rattle.blk_device.specs.Reading.{OnlyRead};
 ghost use Rattle.blk_device.specs.declared.device.Region.TheVariants.{Image};
-ghost use Rattle.geom.specs.Layout.{split_of};
 ghost use Rattle.geom.specs.Places.{layout};
 ghost use Rattle.dinode_core.specs.ForkTree.{numrecs};
-ghost use Rattle.fork_read.specs.Walk.{HasStepped, entry_of, last_in, passed_from, read_at, trail_of, walk_tasks};
+ghost use Rattle.fork_read.specs.Told.{ComesOn, FindsBlock, GoesOn, Pays, ReadsFirst, SeeksOn, Spends, StepsOn, StopsWalk};
 ghost use Rattle.std.specs.List.{slice_get, list_all};
-ghost use Rattle.fork_read.specs.Answers.{AllLow, bytes_of, end_before, first_level, given_of, HasRead, IfRead, MayLeave, is_failed, IsLow, IsOutside, IsStopped, last_clears, may_stop, stuck_at};
-ghost use Rattle.fork_read.specs.Stuck.{HasCome, HasGone, HasSought};
+ghost use Rattle.fork_read.specs.Answers.{AllLow, end_before, first_level, given_of, IfRead, MayLeave, is_failed, IsLow, IsOutside, last_clears, may_stop, stuck_at};
 
 use crate::block::is_sound_at;
 use crate::fault::ReadFault;
@@ -78,7 +76,7 @@ pub fn open_task<D: Device, L: Ledger>(
 ) -> Result<Option<Block>, ReadFault>
     requires room { geo.now.dblocks ≤ D.blocks dev.old Image }
     requires low { task.now.level < 9 }
-    ensures found { IfOk result (λ found. (c : Contents) → D.content dev.old ≡ Some c → read_at (layout geo.now) (c Image) core.now from task.now.level (last_in seen.now.lasts task.now.level) (entry_of task.now) (split_of (layout geo.now) task.now.block) ≡ bytes_of found) }
+    ensures found { FindsBlock (layout geo.now) (D.content dev.old) core.now from task.now seen.now result }
     ensures most { IfOk result (λ found. IfSome found (λ block. numrecs block.bytes ≤ 251)) }
     ensures some { IfOk result (λ found. IfSome found (λ block. 1 ≤ numrecs block.bytes)) }
     ensures outside { IfErr result IsOutside }
@@ -115,8 +113,8 @@ fn read_task<D: Device, L: Ledger>(
     requires room { geo.now.dblocks ≤ D.blocks dev.old Image }
     requires low { task.now.level < 9 }
     requires all_low { AllLow tasks.old.items }
-    ensures read { IfOk result (λ read. (c : Contents) → D.content dev.old ≡ Some c → HasRead (walk_tasks (layout geo.now) (c Image) core.now from (task.now ∷ tasks.old.items) (trail_of seen.old)) read (walk_tasks (layout geo.now) (c Image) core.now from tasks.new.items (trail_of seen.new)) (trail_of seen.new)) }
-    ensures step { IfOk result (λ read. (c : Contents) → D.content dev.old ≡ Some c → HasStepped (layout geo.now) (c Image) core.now from task.now tasks.old.items (trail_of seen.old) read tasks.new.items (trail_of seen.new)) }
+    ensures read { ReadsFirst (layout geo.now) (D.content dev.old) core.now from task.now tasks.old.items seen.old result tasks.new.items seen.new }
+    ensures step { StepsOn (layout geo.now) (D.content dev.old) core.now from task.now tasks.old.items seen.old result tasks.new.items seen.new }
     ensures low { OnOk result (AllLow tasks.new.items) }
     ensures stays { OnOk result (0 < task.now.level → seen.new.mappings.items ≡ seen.old.mappings.items) }
     ensures falls { IfOk result (λ read. IfRead read (0 < task.now.level → first_level tasks.new.items < task.now.level)) }
@@ -222,8 +220,10 @@ fn walk_on<D: Device, L: Ledger>(
     requires room { geo.now.dblocks ≤ D.blocks dev.old Image }
     requires low { AllLow tasks.old.items }
     requires fresh { given_of from seen.old.mappings.items ≤ 261 }
-    ensures stopped { IfOk result (λ stop. (c : Contents) → D.content dev.old ≡ Some c → IsStopped (walk_tasks (layout geo.now) (c Image) core.now from tasks.old.items (trail_of seen.old)) (walk_tasks (layout geo.now) (c Image) core.now from) from stop tasks.new.items (trail_of seen.new)) }
-    ensures reached { IfOk result (λ stop. (c : Contents) → D.content dev.old ≡ Some c → HasGone (layout geo.now) (c Image) core.now from tasks.old.items (trail_of seen.old) stop tasks.new.items (trail_of seen.new)) }
+    ensures stopped { StopsWalk (layout geo.now) (D.content dev.old) core.now from tasks.old.items seen.old result tasks.new.items seen.new }
+    ensures reached { GoesOn (layout geo.now) (D.content dev.old) core.now from tasks.old.items seen.old result tasks.new.items seen.new }
+    ensures spent { Spends (layout geo.now) (D.content dev.old) core.now from tasks.old.items seen.old steps.old.reads steps.new.reads }
+    ensures paid { Pays (layout geo.now) (D.content dev.old) core.now from tasks.old.items seen.old steps.old.reads steps.new.reads result tasks.new.items seen.new }
     ensures leaves { IfOk result (MayLeave from seen.new.mappings.items tasks.new.items) }
     ensures low { IfOk result (IsLow tasks.new.items) }
     ensures outside { IfErr result IsOutside }
@@ -266,8 +266,10 @@ fn walk_behind<D: Device, L: Ledger>(
     requires room { geo.now.dblocks ≤ D.blocks dev.old Image }
     requires first { first.level < 9 }
     requires low { AllLow tasks.old.items }
-    ensures stopped { IfOk result (λ stop. (c : Contents) → D.content dev.old ≡ Some c → IsStopped (walk_tasks (layout geo.now) (c Image) core.now from (first ∷ tasks.old.items) (trail_of seen.old)) (walk_tasks (layout geo.now) (c Image) core.now from) from stop tasks.new.items (trail_of seen.new)) }
-    ensures reached { IfOk result (λ stop. (c : Contents) → D.content dev.old ≡ Some c → HasSought (layout geo.now) (c Image) core.now from (first ∷ tasks.old.items) (trail_of seen.old) stop tasks.new.items (trail_of seen.new)) }
+    ensures stopped { StopsWalk (layout geo.now) (D.content dev.old) core.now from (first ∷ tasks.old.items) seen.old result tasks.new.items seen.new }
+    ensures reached { SeeksOn (layout geo.now) (D.content dev.old) core.now from (first ∷ tasks.old.items) seen.old result tasks.new.items seen.new }
+    ensures spent { Spends (layout geo.now) (D.content dev.old) core.now from (first ∷ tasks.old.items) seen.old steps.old.reads steps.new.reads }
+    ensures paid { Pays (layout geo.now) (D.content dev.old) core.now from (first ∷ tasks.old.items) seen.old steps.old.reads steps.new.reads result tasks.new.items seen.new }
     ensures leaves { IfOk result (MayLeave from seen.new.mappings.items tasks.new.items) }
     ensures outside { IfErr result IsOutside }
     ensures reading { OnlyRead D.Device dev.old dev.new steps.old steps.new }
@@ -315,8 +317,10 @@ pub fn walk_piece<D: Device, L: Ledger>(
     requires room { geo.now.dblocks ≤ D.blocks dev.old Image }
     requires low { AllLow tasks.old.items }
     requires fresh { given_of from seen.old.mappings.items ≤ 261 }
-    ensures stopped { IfOk result (λ stop. (c : Contents) → D.content dev.old ≡ Some c → IsStopped (walk_tasks (layout geo.now) (c Image) core.now from tasks.old.items (trail_of seen.old)) (walk_tasks (layout geo.now) (c Image) core.now from) from stop tasks.new.items (trail_of seen.new)) }
-    ensures reached { IfOk result (λ stop. (c : Contents) → D.content dev.old ≡ Some c → HasCome (layout geo.now) (c Image) core.now from tasks.old.items (trail_of seen.old) stop tasks.new.items (trail_of seen.new)) }
+    ensures stopped { StopsWalk (layout geo.now) (D.content dev.old) core.now from tasks.old.items seen.old result tasks.new.items seen.new }
+    ensures reached { ComesOn (layout geo.now) (D.content dev.old) core.now from tasks.old.items seen.old result tasks.new.items seen.new }
+    ensures spent { Spends (layout geo.now) (D.content dev.old) core.now from tasks.old.items seen.old steps.old.reads steps.new.reads }
+    ensures paid { Pays (layout geo.now) (D.content dev.old) core.now from tasks.old.items seen.old steps.old.reads steps.new.reads result tasks.new.items seen.new }
     ensures leaves { IfOk result (MayLeave from seen.new.mappings.items tasks.new.items) }
     ensures outside { IfErr result IsOutside }
     ensures reading { OnlyRead D.Device dev.old dev.new steps.old steps.new }

@@ -1,17 +1,17 @@
 -- The blocks of maximal runs as a list, and that they are the ones that a tree claims.
-use Rattle.std.proofs.Common.{◌≡◌, ℕ, zero, suc, ◌+◌, ◌<◌, ◌≤◌, ◌⊎◌, ◌↔◌, Bool, true, false, List, [], ◌∷◌, ◌++◌, length, get_or, refl, ap, sym, subst, ◌∙◌, inl, inr, arith}
-use Rattle.std.specs.Prelude.{nat_lt, nat_le, ◌&&◌}
-use Rattle.std.proofs.lemmas.Bool.{false≢true, lt-ltb, ltb-true, and_parts, and_from, or_cases, cases_Bool, cases_lt}
+use Rattle.std.proofs.Common.{◌≡◌, ℕ, zero, suc, ◌+◌, ◌<◌, ◌≤◌, ◌⊎◌, Bool, true, List, [], ◌∷◌, ◌++◌, length, get_or, refl, sym, subst, ◌∙◌, inl, inr, arith}
+use Rattle.std.specs.Prelude.{nat_lt, nat_le}
+use Rattle.std.proofs.lemmas.Bool.{false≢true, lt-ltb, ltb-true, and_parts, or_cases, cases_lt}
 use Rattle.std.proofs.lemmas.Bool.Decides.{nat_tests}
 use Rattle.fs_derive.specs.Lists.{numbers}
 use Rattle.fs_state.specs.Kinds.{Image}
 use Rattle.geom.specs.Layout.{Layout}
 use Rattle.inode_pass.specs.Units.{units_in}
 use Rattle.group_trees.specs.Trees.{tree_claimed}
-use Rattle.run_sets.specs.Runs.{AreMaximal, AreRunsOf, EndWithin, holds, is_within, most}
+use Rattle.run_sets.specs.Runs.{AreMaximal, AreRunsOf, EndWithin, holds, is_within}
 use Rattle.run_sets.specs.declared.run.Run.{Run}
 use Rattle.sblock.specs.Form.{Form}
-use Rattle.sblock.specs.Lists.{IsAhead, Rises}
+use Rattle.sblock.specs.Lists.{Rises}
 use Rattle.tree_claims.specs.Rows.{AreClaims}
 use Rattle.tree_defs.proofs.ClaimLemmas.{claims_are_listed_lem}
 use Rattle.tree_defs.specs.Claims.{claims_of}

@@ -1,4 +1,5 @@
 pub mod ClaimLemmas
+pub mod CountLemmas
 pub mod HeadLemmas
 pub mod MetadataLemmas
 pub mod ReadLemmas

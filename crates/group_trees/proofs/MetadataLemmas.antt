@@ -1,13 +1,13 @@
 -- The pieces of a group's metadata stand for its claims.
-use Rattle.std.proofs.Common.{◌≡◌, ℕ, zero, suc, ◌+◌, ◌*◌, ◌<◌, ◌≤◌, Bool, true, false, List, [], ◌∷◌, ◌++◌, map, refl, ap, sym, subst, ◌∙◌, arith, append_assoc, Option, Some, None}
-use Rattle.std.specs.Prelude.{◌-◌, ◌==◌, ◌&&◌, not, nat_lt, flat_map, if◌then◌else◌}
+use Rattle.std.proofs.Common.{◌≡◌, ℕ, zero, suc, ◌+◌, ◌*◌, ◌≤◌, Bool, true, false, List, [], ◌∷◌, ◌++◌, map, refl, ap, sym, subst, ◌∙◌, arith, append_assoc, Option, Some, None}
+use Rattle.std.specs.Prelude.{◌-◌, ◌==◌, flat_map, if◌then◌else◌}
 use Rattle.std.specs.List.{filter}
-use Rattle.std.proofs.lemmas.Bool.{cases_Bool, eqb-true, ltb-true}
+use Rattle.std.proofs.lemmas.Bool.{eqb-true, ltb-true}
 use Rattle.std.proofs.lemmas.Bool.Decides.{nat_tests}
 use Rattle.std.proofs.lemmas.Grind.{flat_map-append}
 use Rattle.std.proofs.lemmas.List.{append-nil, map-append}
 use Rattle.fs_derive.specs.Chunks.{chunks}
-use Rattle.fs_derive.specs.Claims.{Claimed, claimed_by, log_claims, metadata_claims, unwritten}
+use Rattle.fs_derive.specs.Claims.{Claimed, claimed_by, log_claims, metadata_claims}
 use Rattle.fs_derive.specs.Contradiction.{first_overlap, is_data, is_written_data}
 use Rattle.fs_derive.specs.Kinds.{all_kinds, tree_owner}
 use Rattle.fs_derive.specs.Lists.{numbers}
@@ -26,7 +26,6 @@ use Rattle.group_trees.specs.Group.{AreInside, AreSoundTrees, AreTrees, first_ki
 use Rattle.group_trees.specs.declared.group.GroupTrees.{GroupTrees}
 use Rattle.group_trees.specs.Metadata.{block_piece, chunk_piece, log_pieces, metadata_pieces, piece_of, tree_pieces}
 use Rattle.rmap_recs.specs.Owners.{number_of}
-use Rattle.rmap_recs.specs.Words.{is_unwritten}
 use Rattle.rmap_recs.specs.declared.owner.Owner.TheVariants.{Fs, Log as OfLog, Ag, Inodes}
 use Rattle.sblock.specs.declared.kind.Kind.{Kind}
 use Rattle.sblock.specs.declared.kind.Kind.TheVariants as kinds
@@ -37,7 +36,6 @@ use Rattle.unit_plan.specs.Sets.{IsFirstOverlap, LieBelow}
 use Rattle.unit_plan.specs.Laws.{StandFor, seen}
 use Rattle.unit_plan.specs.Order.{comes_before, inode, is_first, place}
 use Rattle.unit_plan.specs.Pieces.{blocks_of as blocks_in, claimed, claimed_blocks, in_order, is_looked_at, put_piece}
-use Rattle.unit_plan.specs.declared.piece.Among.{Among}
 use Rattle.unit_plan.specs.declared.piece.Among.TheVariants.{Metadata}
 use Rattle.unit_plan.specs.declared.piece.Piece.{Piece}
 

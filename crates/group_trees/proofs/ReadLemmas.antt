@@ -1,13 +1,13 @@
 -- A tree that was walked, as it is read.
-use Rattle.std.proofs.Common.{◌≡◌, ℕ, ◌<◌, ◌≤◌, ◌+◌, ◌*◌, ◌^◌, Bool, true, false, length, arith, List, Result, Ok, Err, IfOk, refl, sym, ap, ◌∙◌}
+use Rattle.std.proofs.Common.{◌≡◌, ℕ, ◌<◌, ◌≤◌, ◌+◌, ◌*◌, ◌^◌, Bool, true, false, length, arith, List, Result, Ok, Err, IfOk, sym, ap, ◌∙◌}
 use Rattle.std.specs.Prelude.{◌-◌, ◌==◌, if◌then◌else◌}
 use Rattle.fs_state.specs.Kinds.{Heads, Image, heads_of, level_of, root_of}
 use Rattle.fs_state.specs.Read.{Read}
-use Rattle.fs_state.specs.State.{Reading, Readable, Unreadable}
+use Rattle.fs_state.specs.State.{Readable, Unreadable}
 use Rattle.geom.specs.Apart.{HasFitting}
 use Rattle.geom.specs.Layout.{Layout, group_len_of}
 use Rattle.inode_pass.specs.declared.stop.PassStop.{PassStop}
-use Rattle.group_trees.specs.Trees.{IsBad, IsFewRead, IsInsideRead, IsRead, IsSoundRead, read_as, tree_by, tree_claimed, tree_in, tree_walked, walk_of}
+use Rattle.group_trees.specs.Trees.{IsBad, IsFewRead, IsInsideRead, IsRead, IsSoundRead, read_as, tree_by, tree_claimed, tree_in, tree_walked}
 use Rattle.group_trees.specs.declared.reads.Walked.{Walked}
 use Rattle.group_trees.specs.declared.reads.Walked.TheVariants as walks
 use Rattle.sblock.specs.Form.{Form, IsLawful}

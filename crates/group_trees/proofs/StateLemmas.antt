@@ -1,9 +1,8 @@
 -- The trees of a group as they are read are those of the state that the image stands for right after it was opened.
-use Rattle.std.proofs.Common.{◌≡◌, ℕ, List, [], Result, Ok, Err, refl}
-use Rattle.fs_state.specs.Kinds.{Image, RecOf, form_of, heads_of}
-use Rattle.fs_state.specs.Read.{Read, bad_in, claimed, group_of, known, opened, state_of, walked}
+use Rattle.std.proofs.Common.{◌≡◌, ℕ, List, Ok, Err, refl}
+use Rattle.fs_state.specs.Kinds.{Image, form_of, heads_of}
+use Rattle.fs_state.specs.Read.{Read, bad_in, claimed, group_of, known, opened, walked}
 use Rattle.fs_state.specs.Read.{reading_of as reading_in}
-use Rattle.fs_state.specs.State.{Reading}
 use Rattle.geom.specs.Layout.{Layout}
 use Rattle.ino_recs.specs.Chunks.{ino_form, fino_form}
 use Rattle.inode_pass.specs.Units.{opened_state}

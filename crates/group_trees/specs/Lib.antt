@@ -1,3 +1,4 @@
+pub mod Counted
 pub mod Group
 pub mod Heads
 pub mod Metadata

@@ -32,6 +32,10 @@ abbrev pub read_as : {R : Type 0} → Read R → List ℕ → Reading R
 read_as (Ok read) claims = Readable read.0 read.1
 read_as (Err fault) claims = Unreadable fault.0 fault.1 claims
 
+-- these are the claims of this tree
+abbrev pub AreClaimsAt : {R K : Type 0} (form : Form R K) (at : Layout) (image : Image) (tree : TreeAt) → List ℕ → Type 0
+AreClaimsAt form at image tree claims = claims ≡ tree_claimed form at image tree.group tree.root tree.levels
+
 -- what is read of the tree from this root on
 abbrev pub tree_in : {R K : Type 0} (form : Form R K) (at : Layout) (image : Image) (g root levels : ℕ) → Reading R
 tree_in form at image g root levels = read_as (tree_walked form at image g root levels) (tree_claimed form at image g root levels)

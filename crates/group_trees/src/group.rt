@@ -1,4 +1,4 @@
-ghost use Rattle.std.specs.Prelude.{◌≡◌, ◌<◌, ◌≤◌, ◌^◌, ◌++◌, All, Some, IfOk, OnOk, flat_map};
+ghost use Rattle.std.specs.Prelude.{◌≡◌, ◌+◌, ◌<◌, ◌≤◌, ◌^◌, ◌++◌, All, Some, IfOk, OnOk, flat_map};
 ghost use Rattle.blk_cache.specs.Cache.{AgreesTold};
 ghost use Rattle.blk_device.specs.Causes.{HasCause};
 ghost use Rattle.blk_device.specs.Contents.{Contents};
@@ -7,6 +7,7 @@ ghost use Rattle.blk_device.specs.declared.device.Region.TheVariants.{Image};
 ghost use Rattle.fs_state.specs.Kinds.{heads_of};
 ghost use Rattle.geom.specs.Places.{layout};
 ghost use Rattle.inode_pass.specs.Stops.{is_failed};
+ghost use Rattle.group_trees.specs.Counted.{trees_most};
 ghost use Rattle.group_trees.specs.Heads.{heads_seen};
 ghost use Rattle.group_trees.specs.Group.{AreTrees, AreSoundTrees, first_kinds, last_kinds, tree_blocks};
 ghost use Rattle.group_trees.specs.Metadata.{metadata_pieces, tree_pieces};
@@ -62,6 +63,7 @@ pub fn read_trees<D: Device, L: Ledger>(
     ensures reading { OnlyRead D.Device dev.old dev.new steps.old steps.new }
     ensures cause { HasCause is_failed (D.faults dev.old) (D.faults dev.new) result }
     ensures agrees { AgreesTold cache.new (D.content dev.new) }
+    ensures counted { (c : Contents) → D.content dev.old ≡ Some c → steps.new.reads ≤ steps.old.reads + trees_most (layout geo.now) (c Image) g }
 {
     let bno = read_kind::<BnoKind, D, L>(alloc, dev, cache, geo, g, heads, steps)?;
     let cnt = read_kind::<CntKind, D, L>(alloc, dev, cache, geo, g, heads, steps)?;

@@ -1,4 +1,4 @@
-ghost use Rattle.std.specs.Prelude.{◌≡◌, ℕ, ◌<◌, ◌≤◌, Some, IfOk};
+ghost use Rattle.std.specs.Prelude.{◌≡◌, ℕ, ◌+◌, ◌*◌, ◌<◌, ◌≤◌, Some, IfOk};
 ghost use Rattle.blk_cache.specs.Cache.{AgreesTold};
 ghost use Rattle.blk_device.specs.Causes.{HasCause, MovesOnly};
 ghost use Rattle.blk_device.specs.Contents.{Contents};
@@ -10,8 +10,9 @@ ghost use Rattle.geom.specs.Places.{layout};
 ghost use Rattle.tree_walk.specs.Trails.{LieInside};
 ghost use Rattle.inode_pass.specs.Stops.{is_failed};
 ghost use Rattle.fs_state.specs.Read.{Read};
-ghost use Rattle.group_trees.specs.Trees.{FewBlocks, IsFewRead};
-ghost use Rattle.group_trees.specs.Trees.{IsBad, IsRead, IsSound, IsInsideRead, IsSoundRead, IsTreeAt, reading_of, tree_claimed, tree_walked};
+ghost use Rattle.group_trees.specs.Counted.{IsTreeCounted, IsWalkCounted};
+ghost use Rattle.group_trees.specs.Trees.{AreClaimsAt, FewBlocks, IsFewRead};
+ghost use Rattle.group_trees.specs.Trees.{IsBad, IsRead, IsSound, IsInsideRead, IsSoundRead, IsTreeAt, reading_of, tree_walked};
 ghost use Rattle.tree_blocks.specs.Meets.{Refuses};
 ghost use Rattle.tree_blocks.specs.Reading.{CauseOf};
 ghost use Rattle.tree_claims.specs.Looks.{IsOutside};
@@ -81,6 +82,7 @@ fn walk_tree<K: RecKind, D: Device, L: Ledger>(
     ensures reading { OnlyRead D.Device dev.old dev.new steps.old steps.new }
     ensures cause { HasCause is_failed (D.faults dev.old) (D.faults dev.new) result }
     ensures agrees { AgreesTold cache.new (D.content dev.new) }
+    ensures counted { (c : Contents) → D.content dev.old ≡ Some c → IsWalkCounted K.form (layout geo.now) (c Image) tree.now steps.old.reads steps.new.reads }
 {
     match walk::<K, D, L>(alloc, dev, cache, geo, tree, steps) {
         Ok(read) => Ok(Walked::Whole(read)),
@@ -113,11 +115,12 @@ fn read_claims<K: RecKind, D: Device, L: Ledger>(
     requires group { tree.now.group < geo.now.agcount }
     requires room { geo.now.dblocks ≤ D.blocks dev.old Image }
     requires agreed { AgreesTold cache.old (D.content dev.old) }
-    ensures exact { IfOk result (λ claims. (c : Contents) → D.content dev.old ≡ Some c → claims.items ≡ tree_claimed K.form (layout geo.now) (c Image) tree.now.group tree.now.root tree.now.levels) }
+    ensures exact { IfOk result (λ claims. (c : Contents) → D.content dev.old ≡ Some c → AreClaimsAt K.form (layout geo.now) (c Image) tree.now claims.items) }
     ensures inside { IfOk result (λ claims. LieInside (group_len_of (layout geo.now) tree.now.group) claims.items) }
     ensures reading { OnlyRead D.Device dev.old dev.new steps.old steps.new }
     ensures cause { HasCause is_failed (D.faults dev.old) (D.faults dev.new) result }
     ensures agrees { AgreesTold cache.new (D.content dev.new) }
+    ensures few { steps.new.reads ≤ steps.old.reads + 9 * group_len_of (layout geo.now) tree.now.group }
 {
     let set = match claimed::<K, D, L>(alloc, dev, cache, geo, tree, steps) {
         Ok(set) => set,
@@ -149,6 +152,7 @@ pub fn read_tree<K: RecKind, D: Device, L: Ledger>(
     ensures reading { OnlyRead D.Device dev.old dev.new steps.old steps.new }
     ensures cause { HasCause is_failed (D.faults dev.old) (D.faults dev.new) result }
     ensures agrees { AgreesTold cache.new (D.content dev.new) }
+    ensures counted { (c : Contents) → D.content dev.old ≡ Some c → IsTreeCounted K.form (layout geo.now) (c Image) tree.now steps.old.reads steps.new.reads }
 {
     let walked = walk_tree::<K, D, L>(alloc, dev, cache, geo, tree, steps)?;
     match walked {

@@ -1,4 +1,4 @@
-ghost use Rattle.std.specs.Prelude.{◌≡◌, ◌<◌, ◌≤◌, Some, IfOk};
+ghost use Rattle.std.specs.Prelude.{◌≡◌, ◌+◌, ◌<◌, ◌≤◌, Some, IfOk};
 ghost use Rattle.blk_cache.specs.Cache.{AgreesTold};
 ghost use Rattle.blk_device.specs.Causes.{HasCause};
 ghost use Rattle.blk_device.specs.Contents.{Contents};
@@ -9,6 +9,7 @@ ghost use Rattle.geom.specs.Layout.{group_len_of};
 ghost use Rattle.geom.specs.Places.{layout};
 ghost use Rattle.tree_walk.specs.Trails.{LieInside};
 ghost use Rattle.inode_pass.specs.Stops.{is_failed};
+ghost use Rattle.group_trees.specs.Counted.{kind_most};
 ghost use Rattle.group_trees.specs.Heads.{heads_seen};
 ghost use Rattle.group_trees.specs.Trees.{FewBlocks, IsSound, reading_of, tree_by};
 ghost use Rattle.fs_state.specs.State.{blocks_of, recs_of};
@@ -47,6 +48,7 @@ pub fn read_kind<K: RecKind, D: Device, L: Ledger>(
     ensures reading { OnlyRead D.Device dev.old dev.new steps.old steps.new }
     ensures cause { HasCause is_failed (D.faults dev.old) (D.faults dev.new) result }
     ensures agrees { AgreesTold cache.new (D.content dev.new) }
+    ensures counted { (c : Contents) → D.content dev.old ≡ Some c → steps.new.reads ≤ steps.old.reads + kind_most K.form (layout geo.now) (c Image) g }
 {
     let tree = tree_at(heads, g, K::kind());
     read_tree::<K, D, L>(alloc, dev, cache, geo, &tree, steps)

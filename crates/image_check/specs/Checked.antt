@@ -30,4 +30,4 @@ ChecksAll at image fallen before after result = ChecksPhase (opened_state at ima
 -- of the first n units this is the first that didn't pass
 abbrev pub IsFirstFallen : List Bool → ℕ → Option ℕ → Type 0
 IsFirstFallen passed n None = (h : ℕ) → h < n → get_or passed h true ≡ true
-IsFirstFallen passed n (Some g) = (get_or passed g true ≡ false) × ((h : ℕ) → h < g → get_or passed h true ≡ true)
+IsFirstFallen passed n (Some g) = (g < n) × (get_or passed g true ≡ false) × ((h : ℕ) → h < g → get_or passed h true ≡ true)

@@ -9,8 +9,9 @@ use Rattle.fs_model.specs.declared.unit.Unit.{Unit as ScrubUnit}
 use Rattle.fs_state.specs.Kinds.{Image}
 use Rattle.geom.specs.Layout.{Layout}
 use Rattle.inode_pass.specs.Units.{opened_state}
-use Rattle.space_check.specs.Checked.{Checked, RefusedHead, bad_head_from, looked_at, looks, recorded}
+use Rattle.space_check.specs.Checked.{Checked, Judged, MeetsHalt, RefusedHead, bad_head_from, looked_at, looks, recorded}
 use Rattle.space_check.specs.Events.{Event, entries_of, most_entries, reads_of}
+use Rattle.space_check.specs.declared.halt.Halt.{Halt}
 use Rattle.space_check.specs.declared.stop.CheckStop.{CheckStop}
 use Rattle.image_check.specs.Reads.{most_read}
 
@@ -40,6 +41,11 @@ module _ (at : Layout) (image : Image) where
         | Some bad ↦ RefusedHead bad.0 bad.1.0 bad.1.1
         | None ↦ recorded [] image_events
       ]
+
+-- with this journal it ends as this decides, or a front of what is decided is in it
+abbrev pub MeetsEnd : {T : Type 0} → Checked → (journal : List Entry) → Result T Halt → Type 0
+MeetsEnd decided journal (Ok done) = decided ≡ Judged journal
+MeetsEnd decided journal (Err halt) = MeetsHalt decided halt journal
 
 -- the journal that goes with an answer
 abbrev pub journal_in : Result (Vec Entry) CheckStop → List Entry

@@ -13,7 +13,9 @@ use Rattle.fs_state.specs.Kinds.{Image, heads_of}
 use Rattle.fs_state.specs.State.{Reading}
 use Rattle.geom.specs.Layout.{Layout}
 use Rattle.group_trees.specs.Group.{AreTrees}
+use Rattle.group_trees.specs.Heads.{heads_seen}
 use Rattle.group_trees.specs.declared.group.GroupTrees.{GroupTrees}
+use Rattle.group_trees.specs.declared.heads.GroupHeads.{GroupHeads}
 use Rattle.inode_pass.specs.Units.{opened_state}
 use Rattle.quiet_check.specs.Faults.{blocks_kept, faults_in}
 use Rattle.quiet_check.specs.Judged.{Decided, IsJudged}
@@ -61,3 +63,15 @@ AreFaultsOf at image g judged = Decided None (faults (opened_state at image) g u
 pub record AreApart (ps qs : List Piece) : Type 0 where
   pub same : IsPermutation ps qs
   pub none : IsFirstOverlap AllClaims ps None
+
+-- where no two of the first pieces overlap, which stand for all claims, the faults decide
+abbrev pub IsApartJudged : Layout → Image → ℕ → Agf → GroupTrees → (ps qs : List Piece) → Judged → Type 0
+IsApartJudged at image g agf trees ps qs judged = AreApart ps qs → AreMaps at image g agf trees ps → AreFaultsOf at image g judged
+
+-- the same by the claims of all forks, as the code has them
+abbrev pub IsForkDecided : Layout → Image → ℕ → List ℕ → ClaimSet → Judged → Type 0
+IsForkDecided at image g us set judged = HasForks at image g us (pieces_of set) → IsClaimDecided at image g judged
+
+-- in each image of which these are the heads and the trees
+abbrev pub WhereRead : Layout → ℕ → GroupHeads → GroupTrees → (Image → Type 0) → Type 0
+WhereRead at g heads trees P = (image : Image) → heads_seen heads ≡ heads_of at image g → AreTrees at image g trees → P image

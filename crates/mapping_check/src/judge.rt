@@ -1,4 +1,4 @@
-ghost use Rattle.std.specs.Prelude.{◌≡◌, ◌<◌, ◌≤◌, ◌^◌, All, Some, IfErr, IfOk, List};
+ghost use Rattle.std.specs.Prelude.{◌≡◌, ◌+◌, ◌<◌, ◌≤◌, ◌^◌, All, Some, IfErr, IfOk, List};
 ghost use Rattle.blk_device.specs.Causes.{HasCause};
 ghost use Rattle.blk_device.specs.Contents.{Contents};
 ghost use Rattle.blk_device.specs.Reading.{OnlyRead};
@@ -6,11 +6,12 @@ ghost use Rattle.blk_device.specs.declared.device.Region.TheVariants.{Image};
 ghost use Rattle.fs_state.specs.Kinds.{Image as ImageOf, heads_of};
 ghost use Rattle.geom.specs.Layout.{group_len_of};
 ghost use Rattle.geom.specs.Places.{layout};
-ghost use Rattle.group_trees.specs.Group.{AreInside, AreSoundTrees, AreTrees};
+ghost use Rattle.group_trees.specs.Counted.{trees_most};
+ghost use Rattle.group_trees.specs.Group.{AreInside, AreSoundTrees};
 ghost use Rattle.group_trees.specs.Heads.{heads_seen};
 ghost use Rattle.group_trees.specs.Trees.{RisesIfRead, reading_of};
 ghost use Rattle.inode_pass.specs.Stops.{is_failed};
-ghost use Rattle.mapping_check.specs.Mapped.{AreApart, AreFaultsOf, AreMaps, HasForks, IsClaimDecided, IsMappingJudged, mapping_faults as mapping_faults_of};
+ghost use Rattle.mapping_check.specs.Mapped.{AreMaps, IsApartJudged, IsClaimDecided, IsForkDecided, IsMappingJudged, WhereRead, mapping_faults as mapping_faults_of};
 ghost use Rattle.rmap_recs.specs.Rmap.{rmap_form};
 ghost use Rattle.sblock.specs.Blocks.{IsRising};
 ghost use Rattle.tree_walk.specs.Trails.{LieInside};
@@ -62,7 +63,7 @@ fn judge_records(
 ) -> Result<Judged, PassStop>
     requires group { g < geo.now.agcount }
     requires trees { AreSoundTrees (layout geo.now) g trees.now }
-    ensures exact { IfOk result (λ judged. (image : ImageOf) (ps : List PieceOf) → AreApart ps (pieces_of set) → AreMaps (layout geo.now) image g agf.now trees.now ps → AreFaultsOf (layout geo.now) image g judged) }
+    ensures exact { IfOk result (λ judged. (image : ImageOf) (ps : List PieceOf) → IsApartJudged (layout geo.now) image g agf.now trees.now ps (pieces_of set) judged) }
     ensures own { IfErr result (λ stop. stop ≡ PassStop.Memory) }
 {
     mappings_of_group();
@@ -112,7 +113,7 @@ fn judge_all_claims(
     requires trees { AreSoundTrees (layout geo.now) g trees.now }
     requires chunks { AreInside (group_len_of (layout geo.now) g) chunks.now }
     requires small { All (λ u. u < 2 ^ 26) chunks.now }
-    ensures exact { IfOk result (λ judged. (image : ImageOf) → heads_seen heads.now ≡ heads_of (layout geo.now) image g → AreTrees (layout geo.now) image g trees.now → HasForks (layout geo.now) image g chunks.now (pieces_of set) → IsClaimDecided (layout geo.now) image g judged) }
+    ensures exact { IfOk result (λ judged. WhereRead (layout geo.now) g heads.now trees.now (λ image. IsForkDecided (layout geo.now) image g chunks.now set judged)) }
     ensures own { IfErr result (λ stop. stop ≡ PassStop.Memory) }
 {
     let list = heads.list.as_slice();
@@ -137,7 +138,7 @@ fn judge_trees(
     requires trees { AreSoundTrees (layout geo.now) g trees.now }
     requires chunks { AreInside (group_len_of (layout geo.now) g) chunks.now }
     requires small { All (λ u. u < 2 ^ 26) chunks.now }
-    ensures exact { IfOk result (λ judged. (image : ImageOf) → heads_seen heads.now ≡ heads_of (layout geo.now) image g → AreTrees (layout geo.now) image g trees.now → IsMappingJudged (layout geo.now) image g chunks.now set judged) }
+    ensures exact { IfOk result (λ judged. WhereRead (layout geo.now) g heads.now trees.now (λ image. IsMappingJudged (layout geo.now) image g chunks.now set judged)) }
     ensures own { IfErr result (λ stop. stop ≡ PassStop.Memory) }
 {
     match later_in(Kind::Rmap, &trees.rmap) {
@@ -170,6 +171,7 @@ pub fn judge_mappings<D: Device, L: Ledger>(
     ensures exact { IfOk result (λ judged. (c : Contents) → D.content dev.old ≡ Some c → IsMappingJudged (layout geo.now) (c Image) g chunks.now set judged) }
     ensures reading { OnlyRead D.Device dev.old dev.new steps.old steps.new }
     ensures cause { HasCause is_failed (D.faults dev.old) (D.faults dev.new) result }
+    ensures counted { (c : Contents) → D.content dev.old ≡ Some c → steps.new.reads ≤ steps.old.reads + trees_most (layout geo.now) (c Image) g }
 {
     let mut cache = match BlkCache::new(alloc, 0) {
         Ok(cache) => cache,

@@ -19,7 +19,7 @@ use Rattle.index_derive.specs.Units.{is_listed_by}
 use Rattle.rmap_recs.specs.declared.records.RmapRec.{RmapRec}
 use Rattle.run_sets.proofs.SetLemmas.{holds_below}
 use Rattle.sblock.specs.declared.kind.Kind.TheVariants.{Rmap, Ino}
-use Rattle.inode_pass.specs.Units.{AreSeen, opened_state, unit_numbers, units_in}
+use Rattle.inode_pass.specs.Units.{AreSeen, opened_state, unit_count, unit_numbers, units_in}
 use Rattle.inode_pass.specs.declared.unit.UnitSeen.{UnitSeen}
 use Rattle.quiet_check.specs.Chunks.{bad_where, chunk_numbers}
 use Rattle.run_sets.specs.Runs.{EndWithin, holds, in_front, runs_below, runs_from}
@@ -48,6 +48,29 @@ units_from p a (suc n) = kept_units (p a) a (runs_from p (a + 1) n) (filter p (n
 pub units_below : (p : ℕ → Bool) (n : ℕ) (runs : List Run) → runs ≡ runs_below p n → units_in runs ≡ filter p (numbers 0 n)
 unfolding runs_below
 units_below p n runs is = ap units_in is ∙ units_from p 0 n
+
+front_count : (a : ℕ) (rs : List Run) → unit_count (in_front a rs) ≡ 1 + unit_count rs
+front_count a [] = refl
+front_count a (r ∷ rs) = joined (r.start == a + 1) where
+  joined : (b : Bool) → unit_count (if b then record { start = a; count = r.count + 1 } ∷ rs else record { start = a; count = 1 } ∷ r ∷ rs) ≡ 1 + (r.count + unit_count rs)
+  joined true = omega arith
+  joined false = refl
+
+kept_count : (b : Bool) (a n : ℕ) (rs : List Run) → unit_count rs ≤ n → unit_count (if b then in_front a rs else rs) ≤ suc n
+kept_count true a n rs le = let f = front_count a rs in omega (arith, f, le)
+kept_count false a n rs le = omega (arith, le)
+
+count_from : (p : ℕ → Bool) (a n : ℕ) → unit_count (runs_from p a n) ≤ n
+count_from p a zero = omega arith
+count_from p a (suc n) = kept_count (p a) a n (runs_from p (a + 1) n) (count_from p (a + 1) n)
+
+-- the blocks of the units below a length, each read once, are no more than it
+pub cores_few : (p : ℕ → Bool) (length : ℕ) (runs : List Run) (before after : ℕ) → runs ≡ runs_below p (length / 8) → after ≤ before + 8 * unit_count runs → after ≤ before + length
+unfolding runs_below
+cores_few p length runs before after is read =
+    let same = ap unit_count is in
+    let few = count_from p 0 (length / 8) in
+    omega (arith, same, few, read)
 
 front_ends : (a len : ℕ) (rs : List Run) → a + 1 ≤ len → EndWithin len rs → EndWithin len (in_front a rs)
 front_ends a len [] le h = (le, tt)

@@ -7,12 +7,13 @@ use Rattle.fs_derive.specs.Lists.{first_of_all}
 use Rattle.fs_model.specs.declared.claim.Evidence.{Evidence}
 use Rattle.fs_model.specs.declared.fault.Fault.{Fault}
 use Rattle.fs_model.specs.declared.unit.Unit.{Unit as ScrubUnit}
+use Rattle.fs_model.specs.declared.unit.Unit.TheVariants as units
 use Rattle.fs_state.specs.Kinds.{Image, heads_of}
 use Rattle.fs_state.specs.State.{State, recs_of}
 use Rattle.geom.specs.Layout.{Layout, group_len_of}
 use Rattle.index_derive.specs.Units.{is_listed_by}
 use Rattle.index_derive.specs.declared.inodes.UnitCores.{UnitCores}
-use Rattle.inode_pass.specs.Units.{AreSeen, unit_numbers, units_in}
+use Rattle.inode_pass.specs.Units.{AreSeen, opened_state, unit_numbers, units_in}
 use Rattle.inode_pass.specs.declared.unit.UnitSeen.{UnitSeen}
 use Rattle.group_trees.specs.Group.{AreTrees}
 use Rattle.group_trees.specs.Heads.{heads_seen}
@@ -40,6 +41,10 @@ pub record Gathered (at : Layout) (image : Image) (g : ℕ) (heads : GroupHeads)
   pub trees_are : AreTrees at image g trees
   pub cores_are : AreSeen at image g seen
 
+-- where heads, trees and cores are those of an image
+abbrev pub WhereGathered : Layout → ℕ → GroupHeads → GroupTrees → List UnitSeen → (Image → Type 0) → Type 0
+WhereGathered at g heads trees seen P = (image : Image) → Gathered at image g heads trees seen → P image
+
 -- the units that were seen are those that the trees list
 abbrev pub AreUnitsOf : Layout → ℕ → GroupTrees → List UnitSeen → Type 0
 AreUnitsOf at g trees seen =
@@ -55,3 +60,22 @@ overlap_of a g = first_overlap a g (metadata_claims a g)
 -- a core of a chunk doesn't verify, or two claims overlap
 abbrev pub later_evidence : State → ℕ → Option Evidence
 later_evidence a g = first_of_all (bad_chunk a g ∷ overlap_of a g ∷ [])
+
+-- The inodes of a group are judged: by their faults alone ..
+abbrev pub IsFaultJudged : Layout → Image → ℕ → Judged → Type 0
+IsFaultJudged at image g judged = Decided None (faults (opened_state at image) g units.Inode) judged
+
+-- .. or by the first overlap before them ..
+abbrev pub IsOverlapJudged : Layout → Image → ℕ → Judged → Type 0
+IsOverlapJudged at image g judged = Decided (overlap_of (opened_state at image) g) (faults (opened_state at image) g units.Inode) judged
+
+-- .. or by a core of a chunk before both
+abbrev pub IsCoreJudged : Layout → Image → ℕ → Judged → Type 0
+IsCoreJudged at image g judged = Decided (later_evidence (opened_state at image) g) (faults (opened_state at image) g units.Inode) judged
+
+-- Where heads and trees are those of the image, that is how they are judged: from the cores on, and by all.
+abbrev pub IsCoreJudgedBy : Layout → Image → ℕ → GroupHeads → GroupTrees → Judged → Type 0
+IsCoreJudgedBy at image g heads trees judged = heads_seen heads ≡ heads_of at image g → AreTrees at image g trees → IsCoreJudged at image g judged
+
+abbrev pub IsInodeJudgedBy : Layout → Image → ℕ → GroupHeads → GroupTrees → Judged → Type 0
+IsInodeJudgedBy at image g heads trees judged = heads_seen heads ≡ heads_of at image g → AreTrees at image g trees → IsJudged (opened_state at image) g units.Inode judged

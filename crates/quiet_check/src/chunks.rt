@@ -1,9 +1,10 @@
 ghost use Rattle.std.specs.Prelude.{◌≡◌, ◌++◌, None, IfOk, OnOk, if◌then◌else◌, map};
 ghost use Rattle.fs_derive.specs.Lists.{first_of_all};
 ghost use Rattle.quiet_check.specs.Chunks.{bad_where, chunk_from, chunk_numbers};
-ghost use Rattle.run_sets.specs.Runs.{holds};
+ghost use Rattle.run_sets.specs.Runs.{AreMaximal};
 
 use fs_model::Evidence;
+use index_derive::has_unit;
 use inode_pass::UnitSeen;
 use run_sets::Run;
 use std::alloc::{AllocError, Global};
@@ -31,14 +32,6 @@ pub fn chunks_of(alloc: Global, seen: &[UnitSeen]) -> Result<Vec<u32>, AllocErro
     Ok(chunks)
 }
 
-// Whether the unit lies in one of the runs.
-fn is_in(runs: &[Run], unit: u32) -> bool
-    ensures { result ≡ holds runs.now unit }
-{
-    runs.iter()
-        .any(|run| run.start <= unit && unit - run.start < run.count)
-}
-
 // Evidence that counts, or none.
 fn counted(found: Option<Evidence>, counts: bool) -> Option<Evidence>
     ensures { result ≡ (if counts then found else None) }
@@ -49,10 +42,14 @@ fn counted(found: Option<Evidence>, counts: bool) -> Option<Evidence>
 // The first core of a unit that doesn't verify, where both btrees list the unit.
 #[tactic(auto, unfolding(crate::specs::Chunks::bad_where))]
 fn bad_of(by_inodes: &[Run], by_owners: &[Run], unit: &UnitSeen) -> Option<Evidence>
+    requires by_inodes { AreMaximal 0 by_inodes.now }
+    requires by_owners { AreMaximal 0 by_owners.now }
     ensures { result ≡ bad_where by_inodes.now by_owners.now unit.now }
 {
     let number = unit.cores.unit;
-    let counts = unit.broken.is_some() && is_in(by_inodes, number) && is_in(by_owners, number);
+    let counts = unit.broken.is_some()
+        && has_unit(by_inodes, number)
+        && has_unit(by_owners, number);
     counted(unit.broken, counts)
 }
 
@@ -60,6 +57,8 @@ fn bad_of(by_inodes: &[Run], by_owners: &[Run], unit: &UnitSeen) -> Option<Evide
 /// that the inode btree lists, and `by_owners` those whose blocks the reverse mappings give to chunks
 /// (XFS Online Fsck Design, "Cross-Referencing Space Metadata").
 pub fn first_bad_chunk(by_inodes: &[Run], by_owners: &[Run], seen: &[UnitSeen]) -> Option<Evidence>
+    requires by_inodes { AreMaximal 0 by_inodes.now }
+    requires by_owners { AreMaximal 0 by_owners.now }
     ensures { result ≡ first_of_all (map (bad_where by_inodes.now by_owners.now) seen.now) }
 {
     for unit in seen {

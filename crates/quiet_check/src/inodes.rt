@@ -1,4 +1,4 @@
-ghost use Rattle.std.specs.Prelude.{◌≡◌, ◌<◌, ◌≤◌, Some, IfOk, IfErr};
+ghost use Rattle.std.specs.Prelude.{◌≡◌, ◌+◌, ◌<◌, ◌≤◌, Some, IfOk, IfErr};
 ghost use Rattle.blk_device.specs.Causes.{HasCause};
 ghost use Rattle.blk_device.specs.Contents.{Contents};
 ghost use Rattle.blk_device.specs.Reading.{OnlyRead};
@@ -9,6 +9,7 @@ ghost use Rattle.geom.specs.Layout.{group_len_of};
 ghost use Rattle.geom.specs.Places.{layout};
 ghost use Rattle.inode_pass.specs.Stops.{is_failed as is_failed_pass};
 ghost use Rattle.inode_pass.specs.Units.{opened_state};
+ghost use Rattle.quiet_check.specs.Counted.{inodes_most};
 ghost use Rattle.quiet_check.specs.Entries.{AreInodeEntries};
 ghost use Rattle.group_trees.specs.Heads.{IsOutside, IsRefusedIn, heads_seen, is_failed};
 ghost use Rattle.quiet_check.specs.Judged.{IsJudged};
@@ -55,6 +56,7 @@ fn judge_by<D: Device, L: Ledger>(
     ensures outside { IfErr result IsOutside }
     ensures reading { OnlyRead D.Device dev.old dev.new steps.old steps.new }
     ensures cause { HasCause is_failed (D.faults dev.old) (D.faults dev.new) result }
+    ensures counted { (c : Contents) → D.content dev.old ≡ Some c → steps.new.reads ≤ steps.old.reads + inodes_most (layout geo.now) (c Image) g }
 {
     let mut cache = match BlkCache::new(alloc, 0) {
         Ok(cache) => cache,
@@ -84,6 +86,7 @@ pub fn check_inodes<D: Device, L: Ledger>(
     ensures refused { IfErr result (λ stop. (c : Contents) → D.content dev.old ≡ Some c → IsRefusedIn (layout geo.now) (c Image) g stop) }
     ensures reading { OnlyRead D.Device dev.old dev.new steps.old steps.new }
     ensures cause { HasCause is_failed (D.faults dev.old) (D.faults dev.new) result }
+    ensures counted { (c : Contents) → D.content dev.old ≡ Some c → steps.new.reads ≤ steps.old.reads + 1 + inodes_most (layout geo.now) (c Image) g }
 {
     let heads = match read_heads(alloc, dev, geo, g, steps) {
         Ok(heads) => heads,

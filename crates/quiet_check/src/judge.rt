@@ -1,19 +1,19 @@
-ghost use Rattle.std.specs.Prelude.{◌≡◌, ◌<◌, ◌≤◌, Some, None, IfOk, IfErr};
+ghost use Rattle.std.specs.Prelude.{◌≡◌, ◌+◌, ◌<◌, ◌≤◌, Some, None, IfOk, IfErr};
 ghost use Rattle.blk_cache.specs.Cache.{AgreesTold};
 ghost use Rattle.blk_device.specs.Causes.{HasCause};
 ghost use Rattle.blk_device.specs.Contents.{Contents};
 ghost use Rattle.blk_device.specs.Reading.{OnlyRead};
 ghost use Rattle.blk_device.specs.declared.device.Region.TheVariants.{Image};
-ghost use Rattle.fs_derive.specs.Faults.{faults as faults_of};
 ghost use Rattle.fs_model.specs.declared.unit.Unit.TheVariants as units;
-ghost use Rattle.fs_state.specs.Kinds.{Image as ImageOf, heads_of};
+ghost use Rattle.fs_state.specs.Kinds.{heads_of};
 ghost use Rattle.geom.specs.Layout.{group_len_of};
 ghost use Rattle.geom.specs.Places.{layout};
 ghost use Rattle.inode_pass.specs.Stops.{is_failed};
 ghost use Rattle.inode_pass.specs.Units.{opened_state};
-ghost use Rattle.group_trees.specs.Group.{AreSoundTrees, AreTrees};
+ghost use Rattle.group_trees.specs.Group.{AreSoundTrees};
 ghost use Rattle.group_trees.specs.Heads.{heads_seen};
-ghost use Rattle.quiet_check.specs.Judged.{AreUnitsOf, Decided, Gathered, IsJudged, cores_in, later_evidence, overlap_of};
+ghost use Rattle.quiet_check.specs.Counted.{inodes_most};
+ghost use Rattle.quiet_check.specs.Judged.{AreUnitsOf, IsCoreJudged, IsCoreJudgedBy, IsFaultJudged, IsInodeJudgedBy, IsJudged, IsOverlapJudged, WhereGathered, cores_in, overlap_of};
 ghost use Rattle.quiet_check.specs.Units.{AreListed};
 ghost use Rattle.tree_walk.specs.Trails.{LieInside};
 
@@ -63,7 +63,7 @@ fn judge_records(
     requires group { g < geo.now.agcount }
     requires trees { AreSoundTrees (layout geo.now) g trees.now }
     requires units { AreUnitsOf (layout geo.now) g trees.now seen.now }
-    ensures exact { IfOk result (λ judged. (image : ImageOf) → Gathered (layout geo.now) image g heads.now trees.now seen.now → Decided None (faults_of (opened_state (layout geo.now) image) g units.Inode) judged) }
+    ensures exact { IfOk result (λ judged. WhereGathered (layout geo.now) g heads.now trees.now seen.now (λ image. IsFaultJudged (layout geo.now) image g judged)) }
     ensures own { IfErr result (λ stop. stop ≡ PassStop.Memory) }
 {
     let cores = cores_of(alloc, seen)?;
@@ -85,7 +85,7 @@ fn overlap_in(
     requires list { LieInside (group_len_of (layout geo.now) g) heads.now.list.items }
     requires trees { AreSoundTrees (layout geo.now) g trees.now }
     requires units { AreUnitsOf (layout geo.now) g trees.now seen.now }
-    ensures exact { IfOk result (λ found. (image : ImageOf) → Gathered (layout geo.now) image g heads.now trees.now seen.now → found ≡ overlap_of (opened_state (layout geo.now) image) g) }
+    ensures exact { IfOk result (λ found. WhereGathered (layout geo.now) g heads.now trees.now seen.now (λ image. found ≡ overlap_of (opened_state (layout geo.now) image) g)) }
     ensures own { IfErr result (λ stop. stop ≡ PassStop.Memory) }
 {
     let chunks = chunks_of(alloc, seen)?;
@@ -110,7 +110,7 @@ fn judge_chunks(
     requires list { LieInside (group_len_of (layout geo.now) g) heads.now.list.items }
     requires trees { AreSoundTrees (layout geo.now) g trees.now }
     requires units { AreUnitsOf (layout geo.now) g trees.now seen.now }
-    ensures exact { IfOk result (λ judged. (image : ImageOf) → Gathered (layout geo.now) image g heads.now trees.now seen.now → Decided (overlap_of (opened_state (layout geo.now) image) g) (faults_of (opened_state (layout geo.now) image) g units.Inode) judged) }
+    ensures exact { IfOk result (λ judged. WhereGathered (layout geo.now) g heads.now trees.now seen.now (λ image. IsOverlapJudged (layout geo.now) image g judged)) }
     ensures own { IfErr result (λ stop. stop ≡ PassStop.Memory) }
 {
     let found = overlap_in(alloc, geo, g, heads, trees, seen)?;
@@ -135,7 +135,7 @@ fn judge_gathered(
     requires trees { AreSoundTrees (layout geo.now) g trees.now }
     requires listed { AreListed (group_len_of (layout geo.now) g) trees.now listed.now }
     requires units { AreUnitsOf (layout geo.now) g trees.now seen.now }
-    ensures exact { IfOk result (λ judged. (image : ImageOf) → Gathered (layout geo.now) image g heads.now trees.now seen.now → Decided (later_evidence (opened_state (layout geo.now) image) g) (faults_of (opened_state (layout geo.now) image) g units.Inode) judged) }
+    ensures exact { IfOk result (λ judged. WhereGathered (layout geo.now) g heads.now trees.now seen.now (λ image. IsCoreJudged (layout geo.now) image g judged)) }
     ensures own { IfErr result (λ stop. stop ≡ PassStop.Memory) }
 {
     let by_inodes = listed.by_inodes.as_slice();
@@ -160,9 +160,10 @@ fn judge_cores<D: Device, L: Ledger>(
     requires room { geo.now.dblocks ≤ D.blocks dev.old Image }
     requires list { LieInside (group_len_of (layout geo.now) g) heads.now.list.items }
     requires trees { AreSoundTrees (layout geo.now) g trees.now }
-    ensures exact { IfOk result (λ judged. (c : Contents) → D.content dev.old ≡ Some c → heads_seen heads.now ≡ heads_of (layout geo.now) (c Image) g → AreTrees (layout geo.now) (c Image) g trees.now → Decided (later_evidence (opened_state (layout geo.now) (c Image)) g) (faults_of (opened_state (layout geo.now) (c Image)) g units.Inode) judged) }
+    ensures exact { IfOk result (λ judged. (c : Contents) → D.content dev.old ≡ Some c → IsCoreJudgedBy (layout geo.now) (c Image) g heads.now trees.now judged) }
     ensures reading { OnlyRead D.Device dev.old dev.new steps.old steps.new }
     ensures cause { HasCause is_failed (D.faults dev.old) (D.faults dev.new) result }
+    ensures few { steps.new.reads ≤ steps.old.reads + group_len_of (layout geo.now) g }
 {
     let listed = list_units(alloc, geo.group_len(g), trees)?;
     let seen = see_units(alloc, dev, geo, g, listed.either.as_slice(), steps)?;
@@ -183,9 +184,10 @@ fn judge_trees<D: Device, L: Ledger>(
     requires room { geo.now.dblocks ≤ D.blocks dev.old Image }
     requires list { LieInside (group_len_of (layout geo.now) g) heads.now.list.items }
     requires trees { AreSoundTrees (layout geo.now) g trees.now }
-    ensures exact { IfOk result (λ judged. (c : Contents) → D.content dev.old ≡ Some c → heads_seen heads.now ≡ heads_of (layout geo.now) (c Image) g → AreTrees (layout geo.now) (c Image) g trees.now → IsJudged (opened_state (layout geo.now) (c Image)) g units.Inode judged) }
+    ensures exact { IfOk result (λ judged. (c : Contents) → D.content dev.old ≡ Some c → IsInodeJudgedBy (layout geo.now) (c Image) g heads.now trees.now judged) }
     ensures reading { OnlyRead D.Device dev.old dev.new steps.old steps.new }
     ensures cause { HasCause is_failed (D.faults dev.old) (D.faults dev.new) result }
+    ensures few { steps.new.reads ≤ steps.old.reads + group_len_of (layout geo.now) g }
 {
     match tree_evidence(trees) {
         Some(found) => Ok(Judged::GaveUp(found)),
@@ -217,6 +219,7 @@ pub fn judge_inodes<D: Device, L: Ledger>(
     ensures reading { OnlyRead D.Device dev.old dev.new steps.old steps.new }
     ensures cause { HasCause is_failed (D.faults dev.old) (D.faults dev.new) result }
     ensures agrees { AgreesTold cache.new (D.content dev.new) }
+    ensures counted { (c : Contents) → D.content dev.old ≡ Some c → steps.new.reads ≤ steps.old.reads + inodes_most (layout geo.now) (c Image) g }
 {
     let trees = read_trees(alloc, dev, cache, geo, g, heads, steps)?;
     judge_trees(alloc, dev, geo, g, heads, &trees, steps)

@@ -10,7 +10,7 @@ mod judge;
 mod space;
 mod units;
 
-pub use chunks::{chunks_of, first_bad_chunk};
+pub use chunks::chunks_of;
 pub use entries::add_judged;
 pub use evidence::{later_in, tree_evidence};
 pub use faults::{add_counter, blocks_in, index_faults, inode_faults};

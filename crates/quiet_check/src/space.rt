@@ -5,9 +5,11 @@ ghost use Rattle.blk_device.specs.Reading.{OnlyRead};
 ghost use Rattle.blk_device.specs.declared.device.Region.TheVariants.{Image};
 ghost use Rattle.derive_defs.specs.Mappings.{StartsRise, EndWithin};
 ghost use Rattle.geom.specs.Places.{layout};
+ghost use Rattle.quiet_check.specs.Counted.{shared_reads};
 ghost use Rattle.quiet_check.specs.Space.{IsFreeDecided, IsFreeJudged, IsSharedDecided, IsSharedJudged, later_read};
 ghost use Rattle.rmap_recs.specs.Rmap.{rmap_form};
-ghost use Rattle.space_check.specs.Progress.{is_failed, IsOutside};
+ghost use Rattle.space_check.specs.Groups.{free_reads};
+ghost use Rattle.space_check.specs.Progress.{is_failed, HasRead, IsOutside};
 ghost use Rattle.space_check.specs.Reads.{reading_of, RisesIfRead};
 ghost use Rattle.span_recs.specs.Refcounts.{refc_form};
 ghost use Rattle.span_recs.specs.Spans.{bno_form, cnt_form};
@@ -104,6 +106,7 @@ pub fn judge_free_space<D: Device, L: Ledger>(
     requires room { geo.now.dblocks ≤ D.blocks dev.old Image }
     ensures exact { IfOk result (λ judged. (c : Contents) → D.content dev.old ≡ Some c → IsFreeJudged (layout geo.now) (c Image) g agf.now mapped.now judged) }
     ensures outside { IfErr result IsOutside }
+    ensures counted { (c : Contents) → D.content dev.old ≡ Some c → HasRead steps.old.reads (free_reads (layout geo.now) (c Image) g agf.now) steps.new.reads result }
     ensures reading { OnlyRead D.Device dev.old dev.new steps.old steps.new }
     ensures cause { HasCause is_failed (D.faults dev.old) (D.faults dev.new) result }
 {
@@ -134,6 +137,7 @@ pub fn judge_counts<D: Device, L: Ledger>(
     requires room { geo.now.dblocks ≤ D.blocks dev.old Image }
     ensures exact { IfOk result (λ judged. (c : Contents) → D.content dev.old ≡ Some c → IsSharedJudged (layout geo.now) (c Image) g agf.now mapped.now judged) }
     ensures outside { IfErr result IsOutside }
+    ensures counted { (c : Contents) → D.content dev.old ≡ Some c → HasRead steps.old.reads (shared_reads (layout geo.now) (c Image) g agf.now) steps.new.reads result }
     ensures reading { OnlyRead D.Device dev.old dev.new steps.old steps.new }
     ensures cause { HasCause is_failed (D.faults dev.old) (D.faults dev.new) result }
 {

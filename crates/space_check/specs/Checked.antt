@@ -7,7 +7,9 @@ use Rattle.ag_headers.specs.Agi.{agi_fault}
 use Rattle.ag_headers.specs.declared.agf.Agf.{Agf as SpaceHead}
 use Rattle.ag_headers.specs.declared.fault.HeadFault.{HeadFault}
 use Rattle.blk_device.specs.Causes.{HasCause}
+use Rattle.blk_device.specs.Contents.{Contents}
 use Rattle.blk_device.specs.Taken.{IsFront}
+use Rattle.blk_device.specs.declared.device.Region.TheVariants.{Image}
 use Rattle.fs_model.specs.declared.entry.Entry.{Entry}
 use Rattle.fs_model.specs.declared.unit.Head.{Head}
 use Rattle.fs_model.specs.declared.unit.Head.TheVariants.{Agf, Agi, Agfl}
@@ -156,3 +158,8 @@ module _ (at : Layout) (image : ℕ → List ℕ) where
   abbrev pub EndsCheck : {T : Type 0} → (before after : Moment) → Result T Halt → Type 0
   EndsCheck before after (Ok done) = (bad_head_from at image 0 at.agcount ≡ None) × AreDone (check_events at image) before after
   EndsCheck before after (Err halt) = StopsFor at image halt before after
+
+-- how it ends with this journal, where the device tells its content
+abbrev pub EndsTold : {T : Type 0} → Layout → Option Contents → Vec Entry → (reads reads' : ℕ) → Result T Halt → Type 0
+EndsTold at told journal reads reads' result =
+    (c : Contents) → told ≡ Some c → EndsCheck at (c Image) (moment [] reads) (moment journal.items reads') result

@@ -1,6 +1,9 @@
 -- What the check of a group's free space and reference counts reads, and adds to the journal.
-use Rattle.std.specs.Prelude.{ℕ, ◌+◌, ◌==◌, if◌then◌else◌, List, [], ◌∷◌, ◌++◌, length, map, Result, Ok, Err}
+use Rattle.std.specs.Prelude.{ℕ, ◌+◌, ◌==◌, if◌then◌else◌, List, [], ◌∷◌, ◌++◌, length, map, ◌≡◌, Option, Some, Result, Ok, Err}
+use Rattle.std.specs.Global.{Vec}
 use Rattle.ag_headers.specs.declared.agf.Agf.{Agf}
+use Rattle.blk_device.specs.Contents.{Contents}
+use Rattle.blk_device.specs.declared.device.Region.TheVariants.{Image}
 use Rattle.fs_model.specs.declared.entry.Entry.{Entry}
 use Rattle.fs_model.specs.declared.entry.Entry.TheVariants as entries
 use Rattle.fs_model.specs.declared.fault.Fault.{Fault}
@@ -18,9 +21,9 @@ use Rattle.tree_blocks.specs.declared.tree.TreeAt.{TreeAt}
 use Rattle.tree_defs.specs.Sites.{site_of, group_blocks}
 use Rattle.tree_defs.specs.Tree.{read_tree}
 use Rattle.tree_defs.specs.Walked.{walked}
-use Rattle.space_check.specs.Events.{Event}
+use Rattle.space_check.specs.Events.{Does, Event, moment}
 use Rattle.space_check.specs.Faults.{Reading, free_faults, shared_faults}
-use Rattle.space_check.specs.Progress.{HasRead}
+use Rattle.space_check.specs.Progress.{AreFaults, HasRead}
 use Rattle.space_check.specs.declared.halt.Halt.{Halt}
 
 -- good where there is no fault, else faulty with their number
@@ -94,3 +97,38 @@ module _ (at : Layout) (image : ℕ → List ℕ) (g : ℕ) where
 -- a tree's blocks were read for it, or no more of them
 abbrev pub CountsReads : {R K T : Type 0} → Layout → (ℕ → List ℕ) → Form R K → TreeAt → (before after : ℕ) → Result T Halt → Type 0
 CountsReads at image form tree before after result = HasRead before (reads_for at image tree.group form tree) after result
+
+-- ---- steps of the check, where the device tells its content
+
+-- these events are done, with a journal and a count of blocks that were read
+abbrev pub DoesTold : {T : Type 0} → Option Contents → ((ℕ → List ℕ) → List Event) → (journal journal' : Vec Entry) → (reads reads' : ℕ) → Result T Halt → Type 0
+DoesTold told events journal journal' reads reads' result =
+    (c : Contents) → told ≡ Some c → Does (events (c Image)) (moment journal.items reads) (moment journal'.items reads') result
+
+-- the same of events that began n blocks before
+abbrev pub DoesBegun : {T : Type 0} → Option Contents → ((ℕ → List ℕ) → ℕ → List Event) → (journal journal' : Vec Entry) → (reads reads' : ℕ) → Result T Halt → Type 0
+DoesBegun told events journal journal' reads reads' result =
+    (c : Contents) → told ≡ Some c → (before n : ℕ) → reads ≡ before + n → Does (events (c Image) n) (moment journal.items before) (moment journal'.items reads') result
+
+-- these are the faults of free space ..
+abbrev pub AreFreeFaults : Layout → Option Contents → ℕ → Agf → (mappings : List RmapRec) → (mapped : List ℕ) → Result (Vec Fault) Halt → Type 0
+AreFreeFaults at told g agf mappings mapped result =
+    (c : Contents) → told ≡ Some c → AreFaults (free_faults (group_len_of at g) agf mappings (length mapped) (tree_of at (c Image) g bno_form agf.bno_root agf.bno_level) (tree_of at (c Image) g cnt_form agf.cnt_root agf.cnt_level)) result
+
+-- .. and of reference counts
+abbrev pub AreSharedFaults : Layout → Option Contents → ℕ → Agf → (mappings : List RmapRec) → Result (Vec Fault) Halt → Type 0
+AreSharedFaults at told g agf mappings result =
+    (c : Contents) → told ≡ Some c → AreFaults (shared_faults agf mappings (tree_of at (c Image) g refc_form agf.refcount_root agf.refcount_level)) result
+
+-- the blocks of their tree were read, or no more
+abbrev pub ReadsShared : {T : Type 0} → Layout → Option Contents → ℕ → Agf → (before after : ℕ) → Result T Halt → Type 0
+ReadsShared at told g agf before after result =
+    (c : Contents) → told ≡ Some c → HasRead before (blocks_read at (c Image) g refc_form agf.refcount_root agf.refcount_level) after result
+
+-- the unit of free space, which began n blocks before
+abbrev pub free_begun : Layout → ℕ → Agf → (mappings : List RmapRec) → (mapped : List ℕ) → (ℕ → List ℕ) → ℕ → List Event
+free_begun at g agf mappings mapped image n = free_event at image g agf mappings (length mapped) n ∷ []
+
+-- .. and then that of reference counts
+abbrev pub both_begun : Layout → ℕ → Agf → (mappings : List RmapRec) → (mapped : List ℕ) → (ℕ → List ℕ) → ℕ → List Event
+both_begun at g agf mappings mapped image n = free_event at image g agf mappings (length mapped) n ∷ shared_event at image g agf mappings ∷ []

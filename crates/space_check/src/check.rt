@@ -5,9 +5,8 @@ ghost use Rattle.blk_device.specs.Contents.{Contents};
 ghost use Rattle.blk_device.specs.Reading.{OnlyRead};
 ghost use Rattle.blk_device.specs.declared.device.Region.TheVariants.{Image};
 ghost use Rattle.geom.specs.Places.{layout};
-ghost use Rattle.space_check.specs.Checked.{CheckCause, EndsCheck, IsCheck, MeetsCheck, agfs_from, checked, events_from, heads_at};
-ghost use Rattle.space_check.specs.Events.{Does, moment};
-ghost use Rattle.space_check.specs.Groups.{group_events};
+ghost use Rattle.space_check.specs.Checked.{CheckCause, IsCheck, MeetsCheck, agfs_from, checked, events_from, heads_at, EndsTold};
+ghost use Rattle.space_check.specs.Groups.{group_events, DoesTold};
 ghost use Rattle.blk_device.specs.Causes.{HasCause};
 ghost use Rattle.space_check.specs.Progress.{is_failed};
 ghost use Rattle.space_check.specs.Session.{AddsGroup, AddsGroups, EndsInSession, IsSession};
@@ -42,7 +41,8 @@ fn check_one<D: Device, L: Ledger>(
     requires agreed { AgreesTold cache.old (D.content dev.old) }
     requires all { length agfs.now ≡ geo.now.agcount }
     requires kept { (c : Contents) → D.content dev.old ≡ Some c → agfs.now ≡ agfs_from (layout geo.now) (c Image) 0 geo.now.agcount }
-    ensures exact { (c : Contents) → D.content dev.old ≡ Some c → Does (group_events (layout geo.now) (c Image) g (agf_of (heads_at (layout geo.now) (c Image) g))) (moment journal.old.entries.items steps.old.reads) (moment journal.new.entries.items steps.new.reads) result }
+    ensures exact { DoesTold (D.content dev.old) (λ m. group_events (layout geo.now) m g (agf_of (heads_at (layout geo.now) m g)))
+        journal.old.entries journal.new.entries steps.old.reads steps.new.reads result }
     ensures group { AddsGroup g journal.old.entries.items journal.new.entries.items result }
     ensures reading { OnlyRead D.Device dev.old dev.new steps.old steps.new }
     ensures cause { HasCause is_failed (D.faults dev.old) (D.faults dev.new) result }
@@ -65,7 +65,8 @@ fn check_groups<D: Device, L: Ledger>(
     requires agreed { AgreesTold cache.old (D.content dev.old) }
     requires all { length agfs.now ≡ geo.now.agcount }
     requires kept { (c : Contents) → D.content dev.old ≡ Some c → agfs.now ≡ agfs_from (layout geo.now) (c Image) 0 geo.now.agcount }
-    ensures exact { (c : Contents) → D.content dev.old ≡ Some c → Does (events_from (layout geo.now) (c Image) 0 geo.now.agcount) (moment journal.old.entries.items steps.old.reads) (moment journal.new.entries.items steps.new.reads) result }
+    ensures exact { DoesTold (D.content dev.old) (λ m. events_from (layout geo.now) m 0 geo.now.agcount)
+        journal.old.entries journal.new.entries steps.old.reads steps.new.reads result }
     ensures groups { AddsGroups geo.now.agcount journal.old.entries.items journal.new.entries.items result }
     ensures reading { OnlyRead D.Device dev.old dev.new steps.old steps.new }
     ensures cause { HasCause is_failed (D.faults dev.old) (D.faults dev.new) result }
@@ -88,7 +89,7 @@ fn check_all<D: Device, L: Ledger>(
     requires room { geo.now.dblocks ≤ D.blocks dev.old Image }
     requires agreed { AgreesTold cache.old (D.content dev.old) }
     requires empty { journal.old.entries.items ≡ [] }
-    ensures exact { (c : Contents) → D.content dev.old ≡ Some c → EndsCheck (layout geo.now) (c Image) (moment [] steps.old.reads) (moment journal.new.entries.items steps.new.reads) result }
+    ensures exact { EndsTold (layout geo.now) (D.content dev.old) journal.new.entries steps.old.reads steps.new.reads result }
     ensures session { EndsInSession geo.now.agcount journal.new.entries.items result }
     ensures reading { OnlyRead D.Device dev.old dev.new steps.old steps.new }
     ensures cause { HasCause is_failed (D.faults dev.old) (D.faults dev.new) result }
@@ -107,7 +108,7 @@ fn check_into<D: Device, L: Ledger>(
 ) -> Result<(), Halt>
     requires room { geo.now.dblocks ≤ D.blocks dev.old Image }
     requires empty { journal.old.entries.items ≡ [] }
-    ensures exact { (c : Contents) → D.content dev.old ≡ Some c → EndsCheck (layout geo.now) (c Image) (moment [] steps.old.reads) (moment journal.new.entries.items steps.new.reads) result }
+    ensures exact { EndsTold (layout geo.now) (D.content dev.old) journal.new.entries steps.old.reads steps.new.reads result }
     ensures session { EndsInSession geo.now.agcount journal.new.entries.items result }
     ensures reading { OnlyRead D.Device dev.old dev.new steps.old steps.new }
     ensures cause { HasCause is_failed (D.faults dev.old) (D.faults dev.new) result }

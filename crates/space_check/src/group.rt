@@ -1,19 +1,16 @@
-ghost use Rattle.std.specs.Prelude.{◌≡◌, ◌<◌, ◌≤◌, ◌+◌, ℕ, [], ◌∷◌, Some, IfErr, length};
+ghost use Rattle.std.specs.Prelude.{◌≡◌, ◌<◌, ◌≤◌, [], ◌∷◌, Some, IfErr, length};
 ghost use Rattle.blk_cache.specs.Cache.{AgreesTold};
 ghost use Rattle.blk_device.specs.Contents.{Contents};
 ghost use Rattle.blk_device.specs.Reading.{OnlyRead};
 ghost use Rattle.blk_device.specs.declared.device.Region.TheVariants.{Image};
-ghost use Rattle.geom.specs.Places.{layout, group_len as group_len_of};
+ghost use Rattle.geom.specs.Places.{layout};
 ghost use Rattle.rmap_recs.specs.Rmap.{rmap_form};
-ghost use Rattle.space_check.specs.Events.{Does, moment, most_entries};
-ghost use Rattle.space_check.specs.Faults.{free_faults, shared_faults};
-ghost use Rattle.space_check.specs.Groups.{blocks_read, tree_of, free_reads, free_event, shared_event, judged_events, group_events};
+ghost use Rattle.space_check.specs.Events.{most_entries};
+ghost use Rattle.space_check.specs.Groups.{free_reads, shared_event, judged_events, group_events, AreFreeFaults, AreSharedFaults, DoesBegun, DoesTold, ReadsShared, both_begun, free_begun};
 ghost use Rattle.blk_device.specs.Causes.{HasCause};
-ghost use Rattle.space_check.specs.Progress.{is_failed, AreFaults, HasRead, IsOutside};
+ghost use Rattle.space_check.specs.Progress.{is_failed, HasRead, IsOutside};
 ghost use Rattle.space_check.specs.Session.{AddsGroup, AddsUnit};
 ghost use Rattle.space_check.specs.Reads.{reading_of, IsSound};
-ghost use Rattle.span_recs.specs.Refcounts.{refc_form};
-ghost use Rattle.span_recs.specs.Spans.{bno_form, cnt_form};
 ghost use Rattle.tree_defs.specs.Sites.{bounds_of};
 ghost use Rattle.tree_walk.specs.Trails.{AreSound};
 
@@ -49,7 +46,7 @@ fn free_faults_of<D: Device, L: Ledger>(
     requires sound { AreSound rmap_form (bounds_of (layout geo.now) g) mapped.now.recs.items }
     requires room { geo.now.dblocks ≤ D.blocks dev.old Image }
     requires agreed { AgreesTold cache.old (D.content dev.old) }
-    ensures exact { (c : Contents) → D.content dev.old ≡ Some c → AreFaults (free_faults (group_len_of geo.now g) agf.now mapped.now.recs.items (length mapped.now.blocks.items) (tree_of (layout geo.now) (c Image) g bno_form agf.now.bno_root agf.now.bno_level) (tree_of (layout geo.now) (c Image) g cnt_form agf.now.cnt_root agf.now.cnt_level)) result }
+    ensures exact { AreFreeFaults (layout geo.now) (D.content dev.old) g agf.now mapped.now.recs.items mapped.now.blocks.items result }
     ensures counted { (c : Contents) → D.content dev.old ≡ Some c → HasRead steps.old.reads (free_reads (layout geo.now) (c Image) g agf.now) steps.new.reads result }
     ensures outside { IfErr result IsOutside }
     ensures reading { OnlyRead D.Device dev.old dev.new steps.old steps.new }
@@ -81,8 +78,8 @@ fn check_free<D: Device, L: Ledger>(
     requires room { geo.now.dblocks ≤ D.blocks dev.old Image }
     requires agreed { AgreesTold cache.old (D.content dev.old) }
     requires begun { length journal.old.entries.items < most_entries }
-    ensures exact { (c : Contents) → D.content dev.old ≡ Some c → (before n : ℕ) → steps.old.reads ≡ before + n
-        → Does (free_event (layout geo.now) (c Image) g agf.now mapped.now.recs.items (length mapped.now.blocks.items) n ∷ []) (moment journal.old.entries.items before) (moment journal.new.entries.items steps.new.reads) result }
+    ensures exact { DoesBegun (D.content dev.old) (free_begun (layout geo.now) g agf.now mapped.now.recs.items mapped.now.blocks.items)
+        journal.old.entries journal.new.entries steps.old.reads steps.new.reads result }
     ensures unit { AddsUnit g Unit.Free journal.old.entries.items journal.new.entries.items result }
     ensures reading { OnlyRead D.Device dev.old dev.new steps.old steps.new }
     ensures cause { HasCause is_failed (D.faults dev.old) (D.faults dev.new) result }
@@ -107,8 +104,8 @@ fn shared_faults_of<D: Device, L: Ledger>(
     requires sound { AreSound rmap_form (bounds_of (layout geo.now) g) mappings.now }
     requires room { geo.now.dblocks ≤ D.blocks dev.old Image }
     requires agreed { AgreesTold cache.old (D.content dev.old) }
-    ensures exact { (c : Contents) → D.content dev.old ≡ Some c → AreFaults (shared_faults agf.now mappings.now (tree_of (layout geo.now) (c Image) g refc_form agf.now.refcount_root agf.now.refcount_level)) result }
-    ensures counted { (c : Contents) → D.content dev.old ≡ Some c → HasRead steps.old.reads (blocks_read (layout geo.now) (c Image) g refc_form agf.now.refcount_root agf.now.refcount_level) steps.new.reads result }
+    ensures exact { AreSharedFaults (layout geo.now) (D.content dev.old) g agf.now mappings.now result }
+    ensures counted { ReadsShared (layout geo.now) (D.content dev.old) g agf.now steps.old.reads steps.new.reads result }
     ensures outside { IfErr result IsOutside }
     ensures reading { OnlyRead D.Device dev.old dev.new steps.old steps.new }
     ensures cause { HasCause is_failed (D.faults dev.old) (D.faults dev.new) result }
@@ -136,7 +133,8 @@ fn check_shared<D: Device, L: Ledger>(
     requires sound { AreSound rmap_form (bounds_of (layout geo.now) g) mappings.now }
     requires room { geo.now.dblocks ≤ D.blocks dev.old Image }
     requires agreed { AgreesTold cache.old (D.content dev.old) }
-    ensures exact { (c : Contents) → D.content dev.old ≡ Some c → Does (shared_event (layout geo.now) (c Image) g agf.now mappings.now ∷ []) (moment journal.old.entries.items steps.old.reads) (moment journal.new.entries.items steps.new.reads) result }
+    ensures exact { DoesTold (D.content dev.old) (λ m. shared_event (layout geo.now) m g agf.now mappings.now ∷ [])
+        journal.old.entries journal.new.entries steps.old.reads steps.new.reads result }
     ensures unit { AddsUnit g Unit.Refc journal.old.entries.items journal.new.entries.items result }
     ensures reading { OnlyRead D.Device dev.old dev.new steps.old steps.new }
     ensures cause { HasCause is_failed (D.faults dev.old) (D.faults dev.new) result }
@@ -164,8 +162,8 @@ fn check_units<D: Device, L: Ledger>(
     requires room { geo.now.dblocks ≤ D.blocks dev.old Image }
     requires agreed { AgreesTold cache.old (D.content dev.old) }
     requires begun { length journal.old.entries.items < most_entries }
-    ensures exact { (c : Contents) → D.content dev.old ≡ Some c → (before n : ℕ) → steps.old.reads ≡ before + n
-        → Does (free_event (layout geo.now) (c Image) g agf.now mapped.now.recs.items (length mapped.now.blocks.items) n ∷ shared_event (layout geo.now) (c Image) g agf.now mapped.now.recs.items ∷ []) (moment journal.old.entries.items before) (moment journal.new.entries.items steps.new.reads) result }
+    ensures exact { DoesBegun (D.content dev.old) (both_begun (layout geo.now) g agf.now mapped.now.recs.items mapped.now.blocks.items)
+        journal.old.entries journal.new.entries steps.old.reads steps.new.reads result }
     ensures group { AddsGroup g journal.old.entries.items journal.new.entries.items result }
     ensures reading { OnlyRead D.Device dev.old dev.new steps.old steps.new }
     ensures cause { HasCause is_failed (D.faults dev.old) (D.faults dev.new) result }
@@ -193,8 +191,8 @@ fn check_by<D: Device, L: Ledger>(
     requires room { geo.now.dblocks ≤ D.blocks dev.old Image }
     requires agreed { AgreesTold cache.old (D.content dev.old) }
     requires begun { length journal.old.entries.items < most_entries }
-    ensures exact { (c : Contents) → D.content dev.old ≡ Some c → (before n : ℕ) → steps.old.reads ≡ before + n
-        → Does (judged_events (layout geo.now) (c Image) g agf.now n (reading_of rmap.now)) (moment journal.old.entries.items before) (moment journal.new.entries.items steps.new.reads) result }
+    ensures exact { DoesBegun (D.content dev.old) (λ m n. judged_events (layout geo.now) m g agf.now n (reading_of rmap.now))
+        journal.old.entries journal.new.entries steps.old.reads steps.new.reads result }
     ensures group { AddsGroup g journal.old.entries.items journal.new.entries.items result }
     ensures reading { OnlyRead D.Device dev.old dev.new steps.old steps.new }
     ensures cause { HasCause is_failed (D.faults dev.old) (D.faults dev.new) result }
@@ -225,8 +223,8 @@ pub fn check_group<D: Device, L: Ledger>(
     requires group { g < geo.now.agcount }
     requires room { geo.now.dblocks ≤ D.blocks dev.old Image }
     requires agreed { AgreesTold cache.old (D.content dev.old) }
-    ensures exact { (c : Contents) → D.content dev.old ≡ Some c → Does (group_events (layout geo.now) (c Image) g agf.now)
-        (moment journal.old.entries.items steps.old.reads) (moment journal.new.entries.items steps.new.reads) result }
+    ensures exact { DoesTold (D.content dev.old) (λ m. group_events (layout geo.now) m g agf.now)
+        journal.old.entries journal.new.entries steps.old.reads steps.new.reads result }
     ensures group { AddsGroup g journal.old.entries.items journal.new.entries.items result }
     ensures reading { OnlyRead D.Device dev.old dev.new steps.old steps.new }
     ensures cause { HasCause is_failed (D.faults dev.old) (D.faults dev.new) result }

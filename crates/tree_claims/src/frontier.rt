@@ -1,7 +1,6 @@
-ghost use Rattle.std.specs.Prelude.{◌≡◌, List, ℕ, ◌+◌, ◌*◌, ◌^◌, ◌<◌, ◌≤◌, ◌==◌, ◌&&◌, ◌||◌, false, IfOk, IfErr, OnOk, Some};
+ghost use Rattle.std.specs.Prelude.{◌≡◌, ℕ, ◌+◌, ◌*◌, ◌^◌, ◌<◌, ◌≤◌, ◌==◌, ◌&&◌, ◌||◌, IfOk, IfErr, OnOk, Some};
 ghost use Rattle.run_sets.specs.Runs.{is_within, most};
 ghost use Rattle.run_sets.specs.Sets.{has, runs_of};
-ghost use Rattle.sblock.specs.Area.{area_of, child_of};
 ghost use Rattle.sblock.specs.Blocks.{numrecs};
 ghost use Rattle.sblock.specs.Kinds.{node_most_of};
 ghost use Rattle.tree_defs.specs.Claims.{Leads, is_named};

@@ -1,17 +1,21 @@
 use Rattle.std.proofs.Common.{◌-◌, ◌∙◌, sym, refl, arith}
 use Rattle.blk_device.specs.declared.device.Region.TheVariants.{Image}
 use Rattle.blk_device.specs.ReadingLaws.{nothing_read, read_on}
+use Rattle.fs_model.specs.declared.unit.Unit.TheVariants as units
 use Rattle.geom.specs.Places.{layout}
 use Rattle.inode_pass.specs.Units.{opened_state}
 use Rattle.check_phases.specs.Checks.{ChecksPhase}
 use Rattle.check_phases.specs.Phases.{Inodes, lacks_nothing}
 use Rattle.check_phases.proofs.PartLemmas.{part_begun, part_ended, part_goes_on, part_stops}
 use Rattle.space_check.proofs.EventLemmas.{err_cause, with_err}
+use Rattle.check_phases.proofs.AddedLemmas.{any_judged, groups_begun, groups_ended, groups_go_on, groups_stop}
+use Rattle.check_phases.specs.Parts.{AddsGroups, IsInodePart}
 use Rattle.check_phases.proofs.part.check_inode_part.Goals as goal
 
 pub loop-g-init : goal.loop-g-init
 loop-g-init g c = record {
   exact = λ m e. part_begun (opened_state (layout c.args.geo.now) (m Image)) Inodes lacks_nothing c.args.part.from (c.args.part.from - c.args.part.from) c.args.tally.now (omega arith);
+  added = groups_begun IsInodePart c.args.part.from (c.args.part.from - c.args.part.from) c.args.tally.now (omega arith);
   reading = nothing_read g.D.Device g.met.D.Device.only_now g.met.D.Device.counts_now c.args.dev.now c.args.steps.now;
   calm = refl;
 }
@@ -22,6 +26,7 @@ check_inodes_of-requires-clause-heads g c = λ m e. c.requires.heads m (sym c.lo
 pub loop-g-preserved : goal.loop-g-preserved
 loop-g-preserved g c = record {
   exact = λ m e. part_goes_on (opened_state (layout c.args.geo.now) (m Image)) Inodes lacks_nothing c.args.part.from c.loop-g.g c.args.tally.now c.loop-g.tally c.check_inodes_of.new.tally c.loop-g.auto.g (c.loop-g.invariant.exact m e) (c.in_ok-check_inodes_of.ensures.exact m (c.loop-g.invariant.reading.same ∙ e));
+  added = groups_go_on IsInodePart c.args.part.from c.loop-g.g c.args.tally.now c.loop-g.tally c.check_inodes_of.new.tally c.loop-g.auto.g c.loop-g.invariant.added c.in_ok-check_inodes_of.ensures.added;
   reading = read_on g.D.Device g.met.D.Device.only_now g.met.D.Device.counts_now c.args.dev.now c.loop-g.dev c.check_inodes_of.new.dev c.args.steps.now c.loop-g.steps c.check_inodes_of.new.steps c.loop-g.invariant.reading c.in_ok-check_inodes_of.ensures.reading;
   calm = c.in_ok-check_inodes_of.ensures.cause ∙ c.loop-g.invariant.calm;
 }
@@ -43,3 +48,12 @@ returns-in_err-check_inodes_of-clause-cause g c =
 pub returns-clause-exact : goal.returns-clause-exact
 returns-clause-exact g c = λ m e.
     part_ended (opened_state (layout c.args.geo.now) (m Image)) Inodes lacks_nothing c.args.part.from c.args.part.to c.loop-g.g c.args.tally.now c.loop-g.tally (let end = c.loop-g.auto.g-end c.requires.order in omega (arith, c.loop-g-test.false, end)) (c.loop-g.invariant.exact m e)
+
+pub returns-in_err-check_inodes_of-clause-added : goal.returns-in_err-check_inodes_of-clause-added
+returns-in_err-check_inodes_of-clause-added g c =
+    with_err {T = Unit {0}} (λ r. AddsGroups IsInodePart c.args.part.from (c.args.part.to - c.args.part.from) c.args.tally.now c.check_inodes_of.new.tally r) c.in_err-check_inodes_of.field-0.0 c.from_residual.result c.from_residual.ensures
+    (groups_stop IsInodePart c.args.part.from (any_judged units.Inode) c.args.part.to c.loop-g.g c.args.tally.now c.loop-g.tally c.check_inodes_of.new.tally c.in_err-check_inodes_of.field-0.0 c.loop-g.auto.g c.loop-g-test.true c.loop-g.invariant.added c.in_err-check_inodes_of.ensures.added)
+
+pub returns-clause-added : goal.returns-clause-added
+returns-clause-added g c =
+    groups_ended IsInodePart c.args.part.from c.args.part.to c.loop-g.g c.args.tally.now c.loop-g.tally (let end = c.loop-g.auto.g-end c.requires.order in omega (arith, c.loop-g-test.false, end)) c.loop-g.invariant.added

@@ -5,6 +5,7 @@ use Rattle.blk_device.specs.declared.device.Region.TheVariants.{Image}
 use Rattle.geom.specs.Places.{layout}
 use Rattle.inode_pass.specs.Units.{opened_state}
 use Rattle.check_phases.specs.Checks.{ChecksPhase}
+use Rattle.check_phases.specs.Parts.{AddsGroups, IsInodePart}
 use Rattle.check_phases.specs.Phases.{Inodes, lacks_nothing}
 use Rattle.check_phases.proofs.part.check_inode_part.Given as goal
 
@@ -12,6 +13,7 @@ use Rattle.check_phases.proofs.part.check_inode_part.Given as goal
 abbrev pub invariant-loop-g : goal.invariant-loop-g
 invariant-loop-g g l = record {
   exact : (c : Contents) → g.D.Device.content l.fn.dev ≡ Some c → ChecksPhase {T = Unit {0}} (opened_state (layout l.geo) (c Image)) Inodes lacks_nothing l.fn.part.from (l.g - l.fn.part.from) l.fn.tally l.tally (Ok tt);
+  added : AddsGroups {T = Unit {0}} IsInodePart l.fn.part.from (l.g - l.fn.part.from) l.fn.tally l.tally (Ok tt);
   reading : OnlyRead g.D.Device l.fn.dev l.dev l.fn.steps l.steps;
   calm : g.D.Device.faults l.dev ≡ g.D.Device.faults l.fn.dev;
 }

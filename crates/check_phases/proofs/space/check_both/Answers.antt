@@ -6,6 +6,8 @@ use Rattle.inode_pass.specs.Units.{opened_state}
 use Rattle.check_phases.specs.Checks.{ChecksSpace}
 use Rattle.check_phases.proofs.UnitLemmas.{first_stops, second_checks}
 use Rattle.space_check.proofs.EventLemmas.{with_err}
+use Rattle.check_phases.proofs.AddedLemmas as added
+use Rattle.check_phases.specs.Parts.{AddsPart, IsSpacePart}
 use Rattle.check_phases.proofs.space.check_both.Goals as goal
 
 pub returns-in_err-check_free-clause-exact : goal.returns-in_err-check_free-clause-exact
@@ -21,3 +23,12 @@ returns-clause-exact g c = λ m e is.
 pub returns-clause-reading : goal.returns-clause-reading
 returns-clause-reading g c =
     read_on g.D.Device g.met.D.Device.only_now g.met.D.Device.counts_now c.args.dev.now c.check_free.new.dev c.check_counts.new.dev c.args.steps.now c.check_free.new.steps c.check_counts.new.steps c.check_free.ensures.reading c.check_counts.ensures.reading
+
+pub returns-in_err-check_free-clause-added : goal.returns-in_err-check_free-clause-added
+returns-in_err-check_free-clause-added g c =
+    with_err {T = Unit {0}} (λ r. AddsPart (IsSpacePart c.args.g) c.args.tally.now c.check_free.new.tally r) c.in_err-check_free.field-0.0 c.from_residual.result c.from_residual.ensures
+    (added.free_stops c.args.g (Unit {0}) (Unit {0}) c.args.tally.now c.check_free.new.tally c.in_err-check_free.field-0.0 c.in_err-check_free.ensures.added)
+
+pub returns-clause-added : goal.returns-clause-added
+returns-clause-added g c =
+    added.both_added c.args.g {S = Unit {0}} {T = Unit {0}} c.args.tally.now c.check_free.new.tally c.check_counts.new.tally tt c.check_counts.result c.in_ok-check_free.ensures.added c.check_counts.ensures.added

@@ -6,6 +6,8 @@ use Rattle.inode_pass.specs.Units.{opened_state}
 use Rattle.check_phases.specs.Checks.{ChecksUnit}
 use Rattle.check_phases.proofs.UnitLemmas.{unit_added, unit_cut}
 use Rattle.space_check.proofs.EventLemmas.{with_err}
+use Rattle.check_phases.proofs.AddedLemmas as added
+use Rattle.check_phases.specs.Parts.{AddsPart, IsJudgedPart}
 use Rattle.check_phases.proofs.space.check_free.Goals as goal
 
 pub returns-in_err-judged-clause-exact : goal.returns-in_err-judged-clause-exact
@@ -17,3 +19,11 @@ returns-in_err-judged-clause-exact g c = λ m e is.
 pub returns-clause-exact : goal.returns-clause-exact
 returns-clause-exact g c = λ m e is.
     unit_added (opened_state (layout c.args.geo.now) (m Image)) c.args.g units.Free c.args.tally.now c.add.new.self c.add.result c.in_ok-judged.judged (c.in_ok-judged.ensures.exact m e is) c.requires.begun c.add.ensures.added c.add.ensures.passed
+
+pub returns-in_err-judged-clause-added : goal.returns-in_err-judged-clause-added
+returns-in_err-judged-clause-added g c =
+    with_err {T = Unit {0}} (λ r. AddsPart (IsJudgedPart c.args.g units.Free) c.args.tally.now c.args.tally.now r) c.in_err-judged.field-0.0 c.from_residual.result c.from_residual.ensures
+    (added.unit_cut c.args.g units.Free (Unit {0}) c.args.tally.now c.in_err-judged.field-0.0 c.requires.begun c.in_err-judged.ensures.outside)
+
+pub returns-clause-added : goal.returns-clause-added
+returns-clause-added g c = added.unit_added c.args.g units.Free c.in_ok-judged.judged c.args.tally.now c.add.new.self c.add.result c.requires.begun c.add.ensures.added

@@ -11,6 +11,8 @@ use Rattle.tree_blocks.specs.declared.tree.TreeAt.{TreeAt}
 use Rattle.check_phases.specs.Checks.{ChecksSpace}
 use Rattle.check_phases.proofs.SpaceLemmas.{never_bad}
 use Rattle.check_phases.proofs.UnitLemmas.{both_cut, both_full}
+use Rattle.check_phases.proofs.AddedLemmas as added
+use Rattle.check_phases.specs.Parts.{AddsPart, IsSpacePart}
 use Rattle.check_phases.proofs.space.check_mapped.Goals as goal
 
 pub returns-in_err-begin-clause-exact : goal.returns-in_err-begin-clause-exact
@@ -47,3 +49,18 @@ returns-clause-exact g c = λ m e.
     absurd (never_bad (layout c.args.geo.now) (m Image) c.args.g c.args.agf.now c.in_ok-mapped.field-0 c.in-Bad.block c.in-Bad.fault (c.requires.head m e)
     (subst (λ (t : TreeAt). IsReading (tree_of (layout c.args.geo.now) (m Image) t.group rmap_form t.root t.levels) (Ok c.in_ok-mapped.field-0)) c.rmap_tree-tree.ensures (c.in_ok-mapped.ensures.exact m e))
     c.in-Bad.is (c.requires.readable m e))
+
+pub returns-in_err-begin-clause-added : goal.returns-in_err-begin-clause-added
+returns-in_err-begin-clause-added g c =
+    with_err {T = Unit {0}} (λ r. AddsPart (IsSpacePart c.args.g) c.args.tally.now c.args.tally.now r) c.in_err-begin.field-0.0 c.from_residual.result c.from_residual.ensures
+    (added.space_full c.args.g (Unit {0}) (Unit {0}) c.args.tally.now c.in_err-begin.field-0.0 c.in_err-begin.ensures)
+
+pub returns-in_err-cache-clause-added : goal.returns-in_err-cache-clause-added
+returns-in_err-cache-clause-added g c =
+    with_err {T = Unit {0}} (λ r. AddsPart (IsSpacePart c.args.g) c.args.tally.now c.args.tally.now r) _ c.from_residual-in_err-cache.result c.from_residual-in_err-cache.ensures
+    (added.space_cut c.args.g (Unit {0}) c.args.tally.now _ c.in_ok-begin.ensures tt)
+
+pub returns-in_err-mapped-clause-added : goal.returns-in_err-mapped-clause-added
+returns-in_err-mapped-clause-added g c =
+    with_err {T = Unit {0}} (λ r. AddsPart (IsSpacePart c.args.g) c.args.tally.now c.args.tally.now r) c.in_err-mapped.field-0.0 c.from_residual-in_err-mapped.result c.from_residual-in_err-mapped.ensures
+    (added.space_cut c.args.g (Unit {0}) c.args.tally.now c.in_err-mapped.field-0.0 c.in_ok-begin.ensures c.in_err-mapped.ensures.outside)

@@ -4,7 +4,8 @@ use Rattle.fs_derive.specs.Session.{Place}
 use Rattle.geom.specs.Places.{layout}
 use Rattle.inode_pass.specs.Units.{opened_state}
 use Rattle.check_phases.specs.Checks.{ChecksSpace}
-use Rattle.check_phases.proofs.SpaceLemmas.{passed_if_none}
+use Rattle.check_phases.proofs.SpaceLemmas.{lacked_is, passed_if_none}
+use Rattle.check_phases.proofs.AddedLemmas as added
 use Rattle.check_phases.proofs.space.check_space.Goals as goal
 
 pub check_mapped-requires-clause-readable : goal.check_mapped-requires-clause-readable
@@ -19,3 +20,7 @@ pub returns-in-None-clause-exact : goal.returns-in-None-clause-exact
 returns-in-None-clause-exact g c = λ m e.
     subst (λ (o : Option Place). ChecksSpace (opened_state (layout c.args.geo.now) (m Image)) o c.args.g c.args.tally.now c.check_mapped.new.tally c.check_mapped.result) (sym c.in-None.is ∙ c.mappings_lacked.ensures)
     (c.check_mapped.ensures.exact m e)
+
+pub returns-in-Some-clause-added : goal.returns-in-Some-clause-added
+returns-in-Some-clause-added g c =
+    added.as_skipped c.args.g c.in-Some.needed c.args.tally.now c.skip_both.new.tally c.skip_both.result (lacked_is c.args.passed.now c.args.g c.in-Some.needed (sym c.mappings_lacked.ensures ∙ c.in-Some.is)) c.skip_both.ensures.added

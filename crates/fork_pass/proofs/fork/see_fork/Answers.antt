@@ -6,7 +6,7 @@ use Rattle.dinode_core.specs.declared.mapping.ForkFault.{ForkFault}
 use Rattle.geom.specs.Places.{layout}
 use Rattle.inode_pass.specs.Stops.{is_failed}
 use Rattle.fork_pass.specs.Read.{HasRead}
-use Rattle.fork_pass.proofs.ForkLemmas.{bad_read, count_read, good_read}
+use Rattle.fork_pass.proofs.ForkLemmas.{bad_read, count_read, good_read, pieces_counted, worst_counted}
 use Rattle.fork_pass.proofs.fork.see_fork.Goals as goal
 
 pub returns-in-Some-clause-exact : goal.returns-in-Some-clause-exact
@@ -32,3 +32,17 @@ pub returns-clause-exact : goal.returns-clause-exact
 returns-clause-exact g c = λ m e.
     let put = subst (λ (o : Option ForkFault). HasRead (layout c.args.geo.now) (m Image) c.args.core.now c.args.fork c.args.sets.now c.read_pieces.new.sets c.read_pieces.new.met o) c.in-None.is (c.in_ok-read_pieces.ensures.read m e) in
     good_read (layout c.args.geo.now) (m Image) c.args.core.now c.args.fork c.args.sets.now c.read_pieces.new.sets c.read_pieces.new.met put (sym c.is_number_wrong.ensures ∙ c.if-is_number_wrong.false)
+
+pub returns-in_err-read_pieces-clause-each : goal.returns-in_err-read_pieces-clause-each
+returns-in_err-read_pieces-clause-each g c = λ m e. pieces_counted (layout c.args.geo.now) (m Image) c.args.core.now c.args.fork c.args.steps.now.reads c.read_pieces.new.steps.reads (c.read_pieces.ensures.each m e)
+
+pub returns-then-is_number_wrong-clause-each : goal.returns-then-is_number_wrong-clause-each
+returns-then-is_number_wrong-clause-each g c = λ m e. pieces_counted (layout c.args.geo.now) (m Image) c.args.core.now c.args.fork c.args.steps.now.reads c.read_pieces.new.steps.reads (c.read_pieces.ensures.each m e)
+
+pub returns-clause-each : goal.returns-clause-each
+returns-clause-each g c = λ m e. pieces_counted (layout c.args.geo.now) (m Image) c.args.core.now c.args.fork c.args.steps.now.reads c.read_pieces.new.steps.reads (c.read_pieces.ensures.each m e)
+
+pub returns-in-Some-clause-each : goal.returns-in-Some-clause-each
+returns-in-Some-clause-each g c = λ m e.
+    let has = subst (λ (o : Option ForkFault). HasRead (layout c.args.geo.now) (m Image) c.args.core.now c.args.fork c.args.sets.now c.read_pieces.new.sets c.read_pieces.new.met o) c.in-Some.is (c.in_ok-read_pieces.ensures.read m e) in
+    worst_counted (layout c.args.geo.now) (m Image) c.args.core.now c.args.fork c.args.steps.now.reads c.read_pieces.new.steps.reads c.worst.new.steps.reads has (c.read_pieces.ensures.each m e) (c.worst.ensures.each m (c.read_pieces.ensures.reading.same ∙ e))

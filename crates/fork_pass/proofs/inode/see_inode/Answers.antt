@@ -1,4 +1,4 @@
-use Rattle.std.proofs.Common.{List, ℕ, sym, subst, ◌∙◌}
+use Rattle.std.proofs.Common.{List, ℕ, sym, subst, ◌∙◌, arith}
 use Rattle.std.proofs.lemmas.Result.{IfOk-weaker}
 use Rattle.blk_device.specs.ReadingLaws.{cause_on, read_on}
 use Rattle.blk_device.specs.declared.device.Region.TheVariants.{Image}
@@ -28,3 +28,12 @@ returns-in-Blocks-clause-reading g c =
 pub returns-in-Blocks-clause-cause : goal.returns-in-Blocks-clause-cause
 returns-in-Blocks-clause-cause g c =
     cause_on is_failed (g.D.Device.faults c.args.dev.now) (g.D.Device.faults c.see_fork.new.dev) (g.D.Device.faults c.see_rest.new.dev) c.see_rest.result c.in_ok-data.ensures.cause c.see_rest.ensures.cause
+
+pub returns-in_err-data-clause-each : goal.returns-in_err-data-clause-each
+returns-in_err-data-clause-each g c = λ m e. omega (arith, c.see_fork.ensures.each m e)
+
+pub returns-in-Bad-clause-each : goal.returns-in-Bad-clause-each
+returns-in-Bad-clause-each g c = λ m e. omega (arith, c.see_fork.ensures.each m e)
+
+pub returns-in-Blocks-clause-each : goal.returns-in-Blocks-clause-each
+returns-in-Blocks-clause-each g c = λ m e. omega (arith, c.see_fork.ensures.each m e, c.see_rest.ensures.each m (c.see_fork.ensures.reading.same ∙ e))

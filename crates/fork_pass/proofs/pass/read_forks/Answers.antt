@@ -32,3 +32,6 @@ returns-in-None-clause-groups g c =
     let fresh = subst (λ (xs : List ClaimSet). AreFresh c.args.geo.now.agcount xs) (sym c.deref_mut.ensures.value) c.in_ok-sets.ensures.fresh in
     let long : length c.pass_groups.new.sets ≡ c.in_ok-sets.sets.len = omega (arith, c.pass_groups.ensures.groups, c.deref_mut.ensures.len) in
     subst (λ (xs : List ClaimSet). length xs ≡ c.args.geo.now.agcount) (sym (whole_sets c.in_ok-sets.sets.len c.pass_groups.new.sets (drop (length c.pass_groups.new.sets) c.in_ok-sets.sets.items) long)) (c.pass_groups.ensures.groups ∙ fresh.long)
+
+pub returns-in_err-sets-clause-each : goal.returns-in_err-sets-clause-each
+returns-in_err-sets-clause-each g c = λ m e. omega arith

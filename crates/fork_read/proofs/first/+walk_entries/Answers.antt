@@ -1,4 +1,4 @@
-use Rattle.std.proofs.Common.{◌≡◌, ℕ, ◌+◌, ◌-◌, ◌<◌, ◌≤◌, Bool, List, length, Option, Some, None, Result, Ok, Err, refl, ap, sym, subst, ◌∙◌, arith}
+use Rattle.std.proofs.Common.{◌≡◌, ◌+◌, ◌-◌, ◌≤◌, Bool, length, Result, Ok, refl, ap, sym, subst, ◌∙◌, arith}
 use Rattle.blk_device.specs.ReadingLaws.{nothing_read, read_on}
 use Rattle.blk_device.specs.declared.device.Region.TheVariants.{Image}
 use Rattle.geom.specs.Places.{layout}

@@ -1,11 +1,10 @@
-use Rattle.std.proofs.Common.{◌≡◌, ℕ, ◌+◌, ◌-◌, ◌*◌, ◌<◌, ◌≤◌, List, length, Result, ap, sym, ◌∙◌, arith}
+use Rattle.std.proofs.Common.{◌≡◌, ℕ, ◌-◌, List, ap, sym, ◌∙◌, arith}
 use Rattle.blk_device.specs.declared.device.Region.TheVariants.{Image}
 use Rattle.geom.specs.Places.{layout}
-use Rattle.dinode_core.specs.ForkTree.{Trail}
 use Rattle.dinode_core.specs.Inline.{key_room, root_keys, root_level}
 use Rattle.dinode_core.specs.Shape.{area_of, size_of}
 use Rattle.fork_read.specs.Answers.{judged}
-use Rattle.fork_read.specs.First.{reads_of, way_of}
+use Rattle.fork_read.specs.First.{reads_of}
 use Rattle.fork_read.specs.Walk.{trail_of}
 use Rattle.fork_read.specs.declared.walk.Stop.{Stop}
 use Rattle.fork_read.proofs.EachLemmas.{fault_found, few_met, outside_first, tree_started}

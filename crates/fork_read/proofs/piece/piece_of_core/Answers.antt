@@ -1,8 +1,11 @@
 use Rattle.geom.specs.Places.{layout}
 use Rattle.fork_read.proofs.PieceLemmas.{form_none}
-use Rattle.std.proofs.Common.{[], None}
+use Rattle.std.proofs.Common.{[], None, refl, arith}
 use Rattle.fork_read.proofs.RangeLemmas.{inline_ranged}
 use Rattle.fork_read.proofs.SizeLemmas.{inline_sized}
+use Rattle.fork_read.proofs.SpendLemmas.{nothing_spent}
+use Rattle.blk_device.specs.declared.device.Region.TheVariants.{Image}
+use Rattle.std.proofs.lemmas.Result.{IfOk-weaker}
 use Rattle.fork_read.proofs.piece.piece_of_core.Goals as goal
 
 pub tree_piece-requires-clause-form : goal.tree_piece-requires-clause-form
@@ -15,3 +18,12 @@ returns-clause-size g c =
 pub returns-clause-range : goal.returns-clause-range
 returns-clause-range g c =
     inline_ranged (layout c.args.geo.now) c.args.core.now c.args.fork c.args.from c.as_slice.result.now c.in-Ok.mappings.items [] None c.piece_of.result c.in-Ok.ensures.0 c.in-Ok.ensures.1 c.as_slice.ensures.value c.piece_of.ensures.piece
+
+pub returns-in-Err-clause-spent : goal.returns-in-Err-clause-spent
+returns-in-Err-clause-spent g c = λ m e. nothing_spent (layout c.args.geo.now) (m Image) c.args.core.now c.args.fork c.args.from c.args.steps.now.reads c.args.steps.now.reads refl
+
+pub returns-clause-spent : goal.returns-clause-spent
+returns-clause-spent g c = λ m e. nothing_spent (layout c.args.geo.now) (m Image) c.args.core.now c.args.fork c.args.from c.args.steps.now.reads c.args.steps.now.reads refl
+
+pub returns-clause-paid : goal.returns-clause-paid
+returns-clause-paid g c = IfOk-weaker c.piece_of.result _ _ (λ piece _ m e. omega arith) c.piece_of.ensures.piece

@@ -1,14 +1,16 @@
-use Rattle.std.proofs.Common.{◌≡◌, map, ◌∙◌, ap, arith}
+use Rattle.std.proofs.Common.{◌≡◌, None, map, refl, ◌∙◌, ap, arith}
+use Rattle.std.proofs.lemmas.Result.{IfOk-weaker}
 use Rattle.blk_device.specs.declared.device.Region.TheVariants.{Image}
 use Rattle.geom.specs.Places.{layout}
 use Rattle.dinode_core.specs.Inline.{key_room, root_level}
 use Rattle.dinode_core.specs.Shape.{area_of, size_of}
-use Rattle.fork_read.specs.Answers.{next_of}
+use Rattle.fork_read.specs.Answers.{IsPiece, judged, next_of}
 use Rattle.fork_read.specs.Walk.{trail_of}
 use Rattle.fork_read.proofs.PieceLemmas.{ends_of, numbers_same, tree_answered, tree_outside}
 use Rattle.fork_read.proofs.RangeLemmas.{tree_ranged}
 use Rattle.fork_read.proofs.RootLemmas.{first_pushed, low_first, root_facts}
 use Rattle.fork_read.proofs.SizeLemmas.{sized}
+use Rattle.fork_read.proofs.SpendLemmas.{both_ok, nothing_spent, tree_paid, tree_spent}
 use Rattle.fork_read.proofs.piece.tree_piece.Goals as goal
 
 pub fork_area-area-requires : goal.fork_area-area-requires
@@ -59,3 +61,23 @@ returns-clause-size g c = sized (layout c.args.geo.now) c.args.fork c.in-Ok.leve
 pub returns-clause-range : goal.returns-clause-range
 returns-clause-range g c =
     tree_ranged (layout c.args.geo.now) c.args.fork c.in-Ok.level c.args.from c.in-Ok-walk_piece.stop (trail_of c.walk_piece.new.seen) (map (λ b. b.block) c.walk_piece.new.seen.blocks.items) (next_of c.in-Ok-walk_piece.stop) c.answer.result c.answer.ensures.good c.answer.ensures.piece
+
+pub returns-in-Err-clause-spent : goal.returns-in-Err-clause-spent
+returns-in-Err-clause-spent g c = λ m e. nothing_spent (layout c.args.geo.now) (m Image) c.args.core.now c.args.fork c.args.from c.args.steps.now.reads c.args.steps.now.reads refl
+
+pub returns-in-Err-walk_piece-clause-spent : goal.returns-in-Err-walk_piece-clause-spent
+returns-in-Err-walk_piece-clause-spent g c = λ m e.
+    let first = first_pushed c.args.core.now c.args.fork c.args.from c.fork_area-area.result.now c.root_room-room.result c.push_root.new.tasks.items c.new-tasks.result.items c.fork_area-area.ensures.bytes c.root_room-room.ensures c.new-tasks.ensures.items c.in-Ok.ensures.pushed in
+    tree_spent (layout c.args.geo.now) (m Image) c.args.core.now c.args.fork c.args.from c.push_root.new.tasks.items (trail_of c.fresh_seen-seen.result) c.args.steps.now.reads c.walk_piece.new.steps.reads first c.fresh_seen-seen.ensures c.requires.tree (c.walk_piece.ensures.spent m e)
+
+pub returns-clause-spent : goal.returns-clause-spent
+returns-clause-spent g c = λ m e.
+    let first = first_pushed c.args.core.now c.args.fork c.args.from c.fork_area-area.result.now c.root_room-room.result c.push_root.new.tasks.items c.new-tasks.result.items c.fork_area-area.ensures.bytes c.root_room-room.ensures c.new-tasks.ensures.items c.in-Ok.ensures.pushed in
+    tree_spent (layout c.args.geo.now) (m Image) c.args.core.now c.args.fork c.args.from c.push_root.new.tasks.items (trail_of c.fresh_seen-seen.result) c.args.steps.now.reads c.walk_piece.new.steps.reads first c.fresh_seen-seen.ensures c.requires.tree (c.walk_piece.ensures.spent m e)
+
+pub returns-clause-paid : goal.returns-clause-paid
+returns-clause-paid g c =
+    let good = both_ok (λ _. judged (layout c.args.geo.now) c.args.fork c.in-Ok.level c.in-Ok-walk_piece.stop (trail_of c.walk_piece.new.seen) ≡ None) (λ piece. IsPiece c.args.from c.walk_piece.new.seen.mappings.items (map (λ b. b.block) c.walk_piece.new.seen.blocks.items) (next_of c.in-Ok-walk_piece.stop) piece) c.answer.result c.answer.ensures.good c.answer.ensures.piece in
+    let first = first_pushed c.args.core.now c.args.fork c.args.from c.fork_area-area.result.now c.root_room-room.result c.push_root.new.tasks.items c.new-tasks.result.items c.fork_area-area.ensures.bytes c.root_room-room.ensures c.new-tasks.ensures.items c.in-Ok.ensures.pushed in
+    IfOk-weaker c.answer.result _ _ (λ piece h m e.
+    tree_paid (layout c.args.geo.now) (m Image) c.args.core.now c.args.fork c.args.from c.requires.form c.requires.tree c.push_root.new.tasks.items c.walk_piece.new.tasks.items (trail_of c.fresh_seen-seen.result) c.walk_piece.new.seen c.in-Ok-walk_piece.stop c.in-Ok.level c.args.steps.now.reads c.walk_piece.new.steps.reads piece first c.fresh_seen-seen.ensures h.0 h.1 (c.in-Ok-walk_piece.ensures.paid m e)) good

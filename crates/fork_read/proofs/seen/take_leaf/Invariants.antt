@@ -1,4 +1,4 @@
-use Rattle.std.proofs.Common.{◌≡◌, ◌+◌, ◌≤◌, ◌*◌, ◌++◌, length}
+use Rattle.std.proofs.Common.{◌≡◌, ◌≤◌, ◌*◌, ◌++◌, length}
 use Rattle.dinode_core.specs.Inline.{mappings_in}
 use Rattle.dinode_core.specs.ForkTree.{leaf_mappings}
 use Rattle.fork_read.proofs.seen.take_leaf.Given as goal

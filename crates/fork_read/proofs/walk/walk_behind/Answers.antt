@@ -4,6 +4,7 @@ use Rattle.blk_device.specs.declared.device.Region.TheVariants.{Image}
 use Rattle.geom.specs.Places.{layout}
 use Rattle.fork_read.specs.Answers.{AllLow, HasRead}
 use Rattle.fork_read.specs.Walk.{Leaves, trail_of, walk_tasks}
+use Rattle.fork_read.proofs.SpendLemmas.{paid_all}
 use Rattle.fork_read.proofs.EndLemmas.{broken_at, none_left, stepped}
 use Rattle.fork_read.proofs.WalkLemmas.{leaves_first, leaves_next, none_popped, read_one}
 use Rattle.fork_read.proofs.walk.walk_behind.Goals as goal
@@ -67,3 +68,29 @@ returns-in-None-clause-reached g c = λ m e.
 pub returns-then-not-read-clause-reached : goal.returns-then-not-read-clause-reached
 returns-then-not-read-clause-reached g c = λ m e.
     broken_at (layout c.args.geo.now) (m Image) c.args.core.now c.args.from (c.args.first ∷ c.args.tasks.now.items) (c.loop-i.task ∷ c.loop-i.tasks.items) c.loop-i.tasks.items c.read_task.new.tasks.items (trail_of c.args.seen.now) (trail_of c.loop-i.seen) (trail_of c.read_task.new.seen) c.loop-i.i c.loop-i.task c.in-Ok.read refl (c.loop-i.invariant.comes m e) c.if-not-read.true (c.in-Ok.ensures.step m (c.loop-i.invariant.reading.same ∙ e))
+
+pub returns-in-Err-clause-spent : goal.returns-in-Err-clause-spent
+returns-in-Err-clause-spent g c = λ m e.
+    record { count = c.loop-i.i; left = c.loop-i.task ∷ c.loop-i.tasks.items; after = trail_of c.loop-i.seen; leaves = c.loop-i.invariant.comes m e; few = omega (arith, c.loop-i.invariant.few, c.read_task.ensures.few) }
+
+pub returns-then-not-read-clause-spent : goal.returns-then-not-read-clause-spent
+returns-then-not-read-clause-spent g c = λ m e.
+    record { count = c.loop-i.i; left = c.loop-i.task ∷ c.loop-i.tasks.items; after = trail_of c.loop-i.seen; leaves = c.loop-i.invariant.comes m e; few = omega (arith, c.loop-i.invariant.few, c.read_task.ensures.few) }
+
+pub returns-in-None-clause-spent : goal.returns-in-None-clause-spent
+returns-in-None-clause-spent g c = λ m e.
+    let step = stepped (layout c.args.geo.now) (m Image) c.args.core.now c.args.from c.loop-i.task c.loop-i.tasks.items c.read_task.new.tasks.items (trail_of c.loop-i.seen) (trail_of c.read_task.new.seen) c.in-Ok.read c.if-not-read.false (c.in-Ok.ensures.step m (c.loop-i.invariant.reading.same ∙ e)) in
+    record { count = c.loop-i.i + 1; left = c.read_task.new.tasks.items; after = trail_of c.read_task.new.seen; leaves = (leaves_next (layout c.args.geo.now) (m Image) c.args.core.now c.args.from (c.args.first ∷ c.args.tasks.now.items) (c.loop-i.task ∷ c.loop-i.tasks.items) c.loop-i.tasks.items c.read_task.new.tasks.items (trail_of c.args.seen.now) (trail_of c.loop-i.seen) (trail_of c.read_task.new.seen) c.loop-i.i c.loop-i.task refl (c.loop-i.invariant.comes m e) step); few = omega (arith, c.loop-i.invariant.few, c.in-Ok.ensures.few) }
+
+pub returns-in-None-clause-paid : goal.returns-in-None-clause-paid
+returns-in-None-clause-paid g c = λ m e.
+    let none : length c.read_task.new.tasks.items ≡ 0 = omega (arith, c.in-None.ensures.cases.0) in
+    let step = stepped (layout c.args.geo.now) (m Image) c.args.core.now c.args.from c.loop-i.task c.loop-i.tasks.items c.read_task.new.tasks.items (trail_of c.loop-i.seen) (trail_of c.read_task.new.seen) c.in-Ok.read c.if-not-read.false (c.in-Ok.ensures.step m (c.loop-i.invariant.reading.same ∙ e)) in
+    paid_all (layout c.args.geo.now) (m Image) c.args.core.now c.args.from (c.args.first ∷ c.args.tasks.now.items) c.read_task.new.tasks.items (trail_of c.args.seen.now) (trail_of c.read_task.new.seen) (c.loop-i.i + 1) c.args.steps.now.reads c.read_task.new.steps.reads none (leaves_next (layout c.args.geo.now) (m Image) c.args.core.now c.args.from (c.args.first ∷ c.args.tasks.now.items) (c.loop-i.task ∷ c.loop-i.tasks.items) c.loop-i.tasks.items c.read_task.new.tasks.items (trail_of c.args.seen.now) (trail_of c.loop-i.seen) (trail_of c.read_task.new.seen) c.loop-i.i c.loop-i.task refl (c.loop-i.invariant.comes m e) step) (omega (arith, c.loop-i.invariant.few, c.in-Ok.ensures.few))
+
+pub returns-clause-spent : goal.returns-clause-spent
+returns-clause-spent g c = λ m e.
+    record { count = c.loop-i.i; left = c.loop-i.task ∷ c.loop-i.tasks.items; after = trail_of c.loop-i.seen; leaves = c.loop-i.invariant.comes m e; few = omega (arith, c.loop-i.invariant.few) }
+
+pub returns-clause-paid : goal.returns-clause-paid
+returns-clause-paid g c = λ m e. record { count = c.loop-i.i; leaves = c.loop-i.invariant.comes m e; few = c.loop-i.invariant.few }

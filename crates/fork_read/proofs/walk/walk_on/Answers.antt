@@ -5,6 +5,7 @@ use Rattle.geom.specs.Places.{layout}
 use Rattle.fork_read.specs.Answers.{AllLow, HasRead, IfRead, first_level, given_of}
 use Rattle.fork_read.specs.Stuck.{HasGone}
 use Rattle.fork_read.specs.Walk.{trail_of, walk_tasks}
+use Rattle.fork_read.proofs.SpendLemmas.{paid_all, paid_end}
 use Rattle.fork_read.proofs.EndLemmas.{border_next, broken_at, few_given, goes_down, goes_near, has_late, is_leaf, is_node, low_start, none_left, reached_end, stepped}
 use Rattle.fork_read.proofs.WalkLemmas.{leaves_first, leaves_next, none_popped, read_one}
 use Rattle.fork_read.proofs.walk.walk_on.Goals as goal
@@ -79,3 +80,28 @@ pub returns-then-has_enough-clause-reached : goal.returns-then-has_enough-clause
 returns-then-has_enough-clause-reached g c = λ m e.
     let late = has_late c.loop-i.is_border c.loop-i.i (given_of c.args.from c.loop-i.seen.mappings.items) (sym c.has_enough.ensures ∙ c.if-has_enough.true) in
     subst (λ stop. HasGone (layout c.args.geo.now) (m Image) c.args.core.now c.args.from c.args.tasks.now.items (trail_of c.args.seen.now) stop c.pop_front.new.self.items (trail_of c.loop-i.seen)) (sym c.end_at.ensures) (reached_end (layout c.args.geo.now) (m Image) c.args.core.now c.args.from c.args.tasks.now.items c.loop-i.tasks.items c.pop_front.new.self.items (trail_of c.args.seen.now) (trail_of c.loop-i.seen) c.in-Some.task c.in-Some.ensures.items c.loop-i.i (c.loop-i.invariant.border m e late.0) late.1)
+
+pub returns-in_default-clause-spent : goal.returns-in_default-clause-spent
+returns-in_default-clause-spent g c = λ m e.
+    record { count = c.loop-i.i; left = c.loop-i.tasks.items; after = trail_of c.loop-i.seen; leaves = c.loop-i.invariant.comes m e; few = omega (arith, c.loop-i.invariant.few) }
+
+pub returns-in_default-clause-paid : goal.returns-in_default-clause-paid
+returns-in_default-clause-paid g c = λ m e.
+    let none : length c.loop-i.tasks.items ≡ 0 = omega (arith, c.in_default.ensures.cases.0) in
+    paid_all (layout c.args.geo.now) (m Image) c.args.core.now c.args.from c.args.tasks.now.items c.loop-i.tasks.items (trail_of c.args.seen.now) (trail_of c.loop-i.seen) c.loop-i.i c.args.steps.now.reads c.loop-i.steps.reads none (c.loop-i.invariant.comes m e) c.loop-i.invariant.few
+
+pub returns-in-Err-clause-spent : goal.returns-in-Err-clause-spent
+returns-in-Err-clause-spent g c = λ m e.
+    record { count = c.loop-i.i; left = c.loop-i.tasks.items; after = trail_of c.loop-i.seen; leaves = c.loop-i.invariant.comes m e; few = omega (arith, c.loop-i.invariant.few, c.read_task.ensures.few) }
+
+pub returns-then-not-read-clause-spent : goal.returns-then-not-read-clause-spent
+returns-then-not-read-clause-spent g c = λ m e.
+    record { count = c.loop-i.i; left = c.loop-i.tasks.items; after = trail_of c.loop-i.seen; leaves = c.loop-i.invariant.comes m e; few = omega (arith, c.loop-i.invariant.few, c.read_task.ensures.few) }
+
+pub returns-then-has_enough-clause-spent : goal.returns-then-has_enough-clause-spent
+returns-then-has_enough-clause-spent g c = λ m e.
+    record { count = c.loop-i.i; left = c.loop-i.tasks.items; after = trail_of c.loop-i.seen; leaves = c.loop-i.invariant.comes m e; few = omega (arith, c.loop-i.invariant.few) }
+
+pub returns-then-has_enough-clause-paid : goal.returns-then-has_enough-clause-paid
+returns-then-has_enough-clause-paid g c = λ m e.
+    paid_end (layout c.args.geo.now) (m Image) c.args.core.now c.args.from c.args.tasks.now.items c.loop-i.tasks.items c.pop_front.new.self.items (trail_of c.args.seen.now) (trail_of c.loop-i.seen) c.in-Some.task c.end_at.result c.loop-i.i c.args.steps.now.reads c.loop-i.steps.reads c.in-Some.ensures.items c.end_at.ensures (c.loop-i.invariant.comes m e) c.loop-i.invariant.few

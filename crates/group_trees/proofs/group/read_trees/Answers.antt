@@ -1,7 +1,8 @@
-use Rattle.std.proofs.Common.{◌∙◌, sym}
+use Rattle.std.proofs.Common.{◌∙◌, sym, arith}
 use Rattle.blk_device.specs.ReadingLaws.{read_on}
 use Rattle.blk_device.specs.declared.device.Region.TheVariants.{Image}
 use Rattle.geom.specs.Places.{layout}
+use Rattle.group_trees.specs.Counted.{trees_most}
 use Rattle.group_trees.proofs.StateLemmas.{bno_said, cnt_said, fino_said, ino_said, refc_said, rmap_said}
 use Rattle.group_trees.proofs.group.read_trees.Goals as goal
 
@@ -67,3 +68,85 @@ returns-clause-exact g c = λ m e.
       few_ino = c.in_ok-ino.ensures.few m (r4.same ∙ e);
       few_fino = c.in_ok-fino.ensures.few m (r5.same ∙ e);
     }
+
+pub returns-in_err-bno-clause-counted : goal.returns-in_err-bno-clause-counted
+unfolding trees_most
+returns-in_err-bno-clause-counted g c = λ m e.
+    let k1 = c.in_err-bno.ensures.counted m e in
+    omega (arith, k1)
+
+pub returns-in_err-cnt-clause-counted : goal.returns-in_err-cnt-clause-counted
+unfolding trees_most
+returns-in_err-cnt-clause-counted g c = λ m e.
+    let k1 = c.in_ok-bno.ensures.counted m e in
+    let e1 = c.in_ok-bno.ensures.reading.same ∙ e in
+    let k2 = c.in_err-cnt.ensures.counted m e1 in
+    omega (arith, k1, k2)
+
+pub returns-in_err-rmap-clause-counted : goal.returns-in_err-rmap-clause-counted
+unfolding trees_most
+returns-in_err-rmap-clause-counted g c = λ m e.
+    let k1 = c.in_ok-bno.ensures.counted m e in
+    let e1 = c.in_ok-bno.ensures.reading.same ∙ e in
+    let k2 = c.in_ok-cnt.ensures.counted m e1 in
+    let e2 = c.in_ok-cnt.ensures.reading.same ∙ e1 in
+    let k3 = c.in_err-rmap.ensures.counted m e2 in
+    omega (arith, k1, k2, k3)
+
+pub returns-in_err-refc-clause-counted : goal.returns-in_err-refc-clause-counted
+unfolding trees_most
+returns-in_err-refc-clause-counted g c = λ m e.
+    let k1 = c.in_ok-bno.ensures.counted m e in
+    let e1 = c.in_ok-bno.ensures.reading.same ∙ e in
+    let k2 = c.in_ok-cnt.ensures.counted m e1 in
+    let e2 = c.in_ok-cnt.ensures.reading.same ∙ e1 in
+    let k3 = c.in_ok-rmap.ensures.counted m e2 in
+    let e3 = c.in_ok-rmap.ensures.reading.same ∙ e2 in
+    let k4 = c.in_err-refc.ensures.counted m e3 in
+    omega (arith, k1, k2, k3, k4)
+
+pub returns-in_err-ino-clause-counted : goal.returns-in_err-ino-clause-counted
+unfolding trees_most
+returns-in_err-ino-clause-counted g c = λ m e.
+    let k1 = c.in_ok-bno.ensures.counted m e in
+    let e1 = c.in_ok-bno.ensures.reading.same ∙ e in
+    let k2 = c.in_ok-cnt.ensures.counted m e1 in
+    let e2 = c.in_ok-cnt.ensures.reading.same ∙ e1 in
+    let k3 = c.in_ok-rmap.ensures.counted m e2 in
+    let e3 = c.in_ok-rmap.ensures.reading.same ∙ e2 in
+    let k4 = c.in_ok-refc.ensures.counted m e3 in
+    let e4 = c.in_ok-refc.ensures.reading.same ∙ e3 in
+    let k5 = c.in_err-ino.ensures.counted m e4 in
+    omega (arith, k1, k2, k3, k4, k5)
+
+pub returns-in_err-fino-clause-counted : goal.returns-in_err-fino-clause-counted
+unfolding trees_most
+returns-in_err-fino-clause-counted g c = λ m e.
+    let k1 = c.in_ok-bno.ensures.counted m e in
+    let e1 = c.in_ok-bno.ensures.reading.same ∙ e in
+    let k2 = c.in_ok-cnt.ensures.counted m e1 in
+    let e2 = c.in_ok-cnt.ensures.reading.same ∙ e1 in
+    let k3 = c.in_ok-rmap.ensures.counted m e2 in
+    let e3 = c.in_ok-rmap.ensures.reading.same ∙ e2 in
+    let k4 = c.in_ok-refc.ensures.counted m e3 in
+    let e4 = c.in_ok-refc.ensures.reading.same ∙ e3 in
+    let k5 = c.in_ok-ino.ensures.counted m e4 in
+    let e5 = c.in_ok-ino.ensures.reading.same ∙ e4 in
+    let k6 = c.in_err-fino.ensures.counted m e5 in
+    omega (arith, k1, k2, k3, k4, k5, k6)
+
+pub returns-clause-counted : goal.returns-clause-counted
+unfolding trees_most
+returns-clause-counted g c = λ m e.
+    let k1 = c.in_ok-bno.ensures.counted m e in
+    let e1 = c.in_ok-bno.ensures.reading.same ∙ e in
+    let k2 = c.in_ok-cnt.ensures.counted m e1 in
+    let e2 = c.in_ok-cnt.ensures.reading.same ∙ e1 in
+    let k3 = c.in_ok-rmap.ensures.counted m e2 in
+    let e3 = c.in_ok-rmap.ensures.reading.same ∙ e2 in
+    let k4 = c.in_ok-refc.ensures.counted m e3 in
+    let e4 = c.in_ok-refc.ensures.reading.same ∙ e3 in
+    let k5 = c.in_ok-ino.ensures.counted m e4 in
+    let e5 = c.in_ok-ino.ensures.reading.same ∙ e4 in
+    let k6 = c.in_ok-fino.ensures.counted m e5 in
+    omega (arith, k1, k2, k3, k4, k5, k6)

@@ -3,6 +3,7 @@ use Rattle.geom.specs.Layout.{group_len_of}
 use Rattle.geom.specs.Places.{layout}
 use Rattle.tree_blocks.proofs.ReadingLemmas.{each_told}
 use Rattle.tree_defs.specs.Sites.{bounds_of}
+use Rattle.group_trees.proofs.CountLemmas.{fault_walk, whole_walk}
 use Rattle.group_trees.proofs.ReadLemmas.{bad_is_few, bad_is_inside, bad_is_sound, not_read, whole_few, whole_read}
 use Rattle.group_trees.proofs.reads.walk_tree.Goals as goal
 
@@ -29,3 +30,11 @@ returns-in-Ok-clause-few g c = λ m e.
 
 pub returns-in-Err-clause-few : goal.returns-in-Err-clause-few
 returns-in-Err-clause-few g c = λ m e. bad_is_few (group_len_of (layout c.args.geo.now) c.args.tree.now.group) c.unread.result c.unread.ensures.sound
+
+pub returns-in-Ok-clause-counted : goal.returns-in-Ok-clause-counted
+returns-in-Ok-clause-counted g c = λ m e.
+    whole_walk g.K.RecKind.form (layout c.args.geo.now) (m Image) c.args.tree.now.group c.args.tree.now.root c.args.tree.now.levels _ _ (each_told _ _ m c.in-Ok.ensures.counted e)
+
+pub returns-in-Err-clause-counted : goal.returns-in-Err-clause-counted
+returns-in-Err-clause-counted g c = λ m e.
+    fault_walk g.K.RecKind.form (layout c.args.geo.now) (m Image) c.args.tree.now.group c.args.tree.now.root c.args.tree.now.levels _ _ c.in-Err.fault (each_told _ _ m c.in-Err.ensures.counted e)

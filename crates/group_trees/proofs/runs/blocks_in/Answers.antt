@@ -1,4 +1,3 @@
-use Rattle.std.proofs.Common.{◌≡◌}
 use Rattle.run_sets.specs.Runs.{most}
 use Rattle.run_sets.specs.declared.run.Run.{Run}
 use Rattle.inode_pass.specs.Units.{units_in}

@@ -1,4 +1,3 @@
-use Rattle.std.proofs.Common.{◌≡◌}
 use Rattle.inode_pass.proofs.UnitLemmas.{run_more}
 use Rattle.group_trees.proofs.runs.put_run.Goals as goal
 

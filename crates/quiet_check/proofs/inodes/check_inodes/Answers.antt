@@ -1,4 +1,4 @@
-use Rattle.std.proofs.Common.{◌∙◌}
+use Rattle.std.proofs.Common.{◌∙◌, arith}
 use Rattle.blk_device.specs.ReadingLaws.{read_on}
 use Rattle.blk_device.specs.declared.device.Region.TheVariants.{Image}
 use Rattle.geom.specs.Places.{layout}
@@ -21,3 +21,21 @@ returns-clause-reading g c =
 pub returns-in-Ok-add_judged-clause-exact : goal.returns-in-Ok-add_judged-clause-exact
 returns-in-Ok-add_judged-clause-exact g c = λ m e past.
     inodes_added (opened_state (layout c.args.geo.now) (m Image)) past c.args.g c.in-Ok-judge_by.judged c.new-journal.result.entries.items c.add_judged.new.journal.entries.items c.new-journal.ensures c.in-Ok-add_judged.ensures (c.in-Ok-judge_by.ensures.exact m (c.in-Ok.ensures.reading.same ∙ e))
+
+pub returns-in-Err-judge_by-clause-counted : goal.returns-in-Err-judge_by-clause-counted
+returns-in-Err-judge_by-clause-counted g c = λ m e.
+    let one = c.in-Ok.ensures.one in
+    let read = c.in-Err-judge_by.ensures.counted m (c.in-Ok.ensures.reading.same ∙ e) in
+    omega (arith, one, read)
+
+pub returns-in-Ok-add_judged-clause-counted : goal.returns-in-Ok-add_judged-clause-counted
+returns-in-Ok-add_judged-clause-counted g c = λ m e.
+    let one = c.in-Ok.ensures.one in
+    let read = c.in-Ok-judge_by.ensures.counted m (c.in-Ok.ensures.reading.same ∙ e) in
+    omega (arith, one, read)
+
+pub returns-clause-counted : goal.returns-clause-counted
+returns-clause-counted g c = λ m e.
+    let one = c.in-Ok.ensures.one in
+    let read = c.in-Ok-judge_by.ensures.counted m (c.in-Ok.ensures.reading.same ∙ e) in
+    omega (arith, one, read)

@@ -13,7 +13,7 @@ use Rattle.tree_defs.specs.Sites.{bounds_of}
 use Rattle.quiet_check.specs.Judged.{Decided, Gathered, later_evidence}
 use Rattle.group_trees.specs.Trees.{reading_of}
 use Rattle.quiet_check.specs.Units.{AreListed}
-use Rattle.quiet_check.proofs.ChunkLemmas.{ends_below}
+use Rattle.quiet_check.proofs.ChunkLemmas.{cores_few, ends_below}
 use Rattle.quiet_check.proofs.JudgeLemmas.{maps_end, maps_rise, own_cause}
 use Rattle.group_trees.proofs.ReadLemmas.{group_short}
 use Rattle.quiet_check.proofs.judge.judge_cores.Goals as goal
@@ -51,3 +51,13 @@ returns-clause-exact g c =
 
 pub returns-clause-cause : goal.returns-clause-cause
 returns-clause-cause g c = own_cause (g.D.Device.faults c.args.dev.now) (g.D.Device.faults c.see_units.new.dev) c.judge_gathered.result c.in_ok-seen.ensures.cause c.judge_gathered.ensures.own
+
+pub returns-in_err-seen-clause-few : goal.returns-in_err-seen-clause-few
+returns-in_err-seen-clause-few g c =
+    let listed = subst (λ (n : ℕ). AreListed n c.args.trees.now c.in_ok-listed.listed) c.group_len.ensures c.in_ok-listed.ensures in
+    cores_few (is_listed_by (recs_of (reading_of c.args.trees.now.ino)) (recs_of (reading_of c.args.trees.now.rmap))) (group_len_of (layout c.args.geo.now) c.args.g) c.as_slice.result.now c.args.steps.now.reads c.see_units.new.steps.reads (c.as_slice.ensures.value ∙ listed.either) c.in_err-seen.ensures.few
+
+pub returns-clause-few : goal.returns-clause-few
+returns-clause-few g c =
+    let listed = subst (λ (n : ℕ). AreListed n c.args.trees.now c.in_ok-listed.listed) c.group_len.ensures c.in_ok-listed.ensures in
+    cores_few (is_listed_by (recs_of (reading_of c.args.trees.now.ino)) (recs_of (reading_of c.args.trees.now.rmap))) (group_len_of (layout c.args.geo.now) c.args.g) c.as_slice.result.now c.args.steps.now.reads c.see_units.new.steps.reads (c.as_slice.ensures.value ∙ listed.either) c.in_ok-seen.ensures.few

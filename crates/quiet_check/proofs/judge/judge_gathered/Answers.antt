@@ -1,13 +1,26 @@
-use Rattle.std.proofs.Common.{◌∙◌, sym, Some, None}
+use Rattle.std.proofs.Common.{◌∙◌, ◌/◌, [], sym, Some, None}
 use Rattle.std.proofs.lemmas.Result.{IfOk-weaker}
 use Rattle.fs_derive.specs.Faults.{faults}
 use Rattle.fs_model.specs.declared.unit.Unit.TheVariants as units
 use Rattle.fs_state.specs.Kinds.{Image}
+use Rattle.fs_state.specs.State.{recs_of}
+use Rattle.geom.specs.Layout.{group_len_of}
 use Rattle.geom.specs.Places.{layout}
+use Rattle.group_trees.specs.Trees.{reading_of}
+use Rattle.index_derive.specs.Units.{is_listed_by}
 use Rattle.inode_pass.specs.Units.{opened_state}
 use Rattle.quiet_check.specs.Judged.{Decided, Gathered, overlap_of}
 use Rattle.quiet_check.proofs.JudgeLemmas.{bad_decides, bad_judged, left_decides}
+use Rattle.run_sets.proofs.OnlyRunsLemmas.{runs_if_only}
 use Rattle.quiet_check.proofs.judge.judge_gathered.Goals as goal
+
+pub first_bad_chunk-requires-clause-by_inodes : goal.first_bad_chunk-requires-clause-by_inodes
+first_bad_chunk-requires-clause-by_inodes c =
+    (runs_if_only (is_listed_by (recs_of (reading_of c.args.trees.now.ino)) []) (group_len_of (layout c.args.geo.now) c.args.g / 8) c.as_slice-by_inodes.result.now (c.as_slice-by_inodes.ensures.value ∙ c.requires.listed.by_inodes)).maximal
+
+pub first_bad_chunk-requires-clause-by_owners : goal.first_bad_chunk-requires-clause-by_owners
+first_bad_chunk-requires-clause-by_owners c =
+    (runs_if_only (is_listed_by [] (recs_of (reading_of c.args.trees.now.rmap))) (group_len_of (layout c.args.geo.now) c.args.g / 8) c.as_slice-by_owners.result.now (c.as_slice-by_owners.ensures.value ∙ c.requires.listed.by_owners)).maximal
 
 pub returns-in-Some-clause-exact : goal.returns-in-Some-clause-exact
 returns-in-Some-clause-exact c =

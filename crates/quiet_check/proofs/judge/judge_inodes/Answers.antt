@@ -1,4 +1,4 @@
-use Rattle.std.proofs.Common.{◌≡◌, ◌∙◌, Some}
+use Rattle.std.proofs.Common.{◌≡◌, ◌∙◌, Some, arith}
 use Rattle.std.proofs.lemmas.Result.{IfOk-weaker}
 use Rattle.blk_device.specs.Contents.{Contents}
 use Rattle.blk_device.specs.ReadingLaws.{read_on}
@@ -9,6 +9,7 @@ use Rattle.geom.specs.Places.{layout}
 use Rattle.inode_pass.specs.Units.{opened_state}
 use Rattle.group_trees.specs.Group.{AreTrees}
 use Rattle.group_trees.specs.Heads.{heads_seen}
+use Rattle.quiet_check.specs.Counted.{inodes_most}
 use Rattle.quiet_check.specs.Judged.{IsJudged}
 use Rattle.quiet_check.proofs.judge.judge_inodes.Goals as goal
 
@@ -22,3 +23,14 @@ returns-clause-exact g c =
 pub returns-clause-reading : goal.returns-clause-reading
 returns-clause-reading g c =
     read_on g.D.Device g.met.D.Device.only_now g.met.D.Device.counts_now c.args.dev.now c.read_trees.new.dev c.judge_trees.new.dev c.args.steps.now c.read_trees.new.steps c.judge_trees.new.steps c.in_ok-trees.ensures.reading c.judge_trees.ensures.reading
+
+pub returns-in_err-trees-clause-counted : goal.returns-in_err-trees-clause-counted
+unfolding inodes_most
+returns-in_err-trees-clause-counted g c = λ m e. let read = c.in_err-trees.ensures.counted m e in omega (arith, read)
+
+pub returns-clause-counted : goal.returns-clause-counted
+unfolding inodes_most
+returns-clause-counted g c = λ m e.
+    let read = c.in_ok-trees.ensures.counted m e in
+    let cores = c.judge_trees.ensures.few in
+    omega (arith, read, cores)

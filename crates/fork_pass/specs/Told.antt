@@ -1,0 +1,60 @@
+-- What each step of the pass tells, where the device tells its content.
+use Rattle.std.specs.Prelude.{◌≡◌, ℕ, ◌+◌, ◌≤◌, true, List, Option, Some, None, Result, IfOk}
+use Rattle.std.specs.Global.{Vec}
+use Rattle.blk_device.specs.Contents.{Contents}
+use Rattle.blk_device.specs.declared.device.Region.TheVariants.{Image}
+use Rattle.dinode_core.specs.Core.{core_fault}
+use Rattle.dinode_core.specs.Frame.{fork_in}
+use Rattle.dinode_core.specs.declared.inode.Core3.{Core3}
+use Rattle.dinode_core.specs.declared.mapping.Fork.{Fork}
+use Rattle.dinode_core.specs.declared.mapping.ForkFault.{ForkFault}
+use Rattle.fs_derive.specs.Chunks.{chunks}
+use Rattle.fs_model.specs.declared.claim.Evidence.{Evidence}
+use Rattle.fs_state.specs.Apart.{is_chunk}
+use Rattle.geom.specs.Layout.{Layout}
+use Rattle.inode_pass.specs.Units.{opened_state}
+use Rattle.inode_pass.specs.declared.stop.PassStop.{PassStop}
+use Rattle.unit_plan.specs.declared.claims.ClaimSet.{ClaimSet}
+use Rattle.fork_pass.specs.Counted.{pieces_most}
+use Rattle.fork_pass.specs.Passed.{AreChunks, ArePassed, group_inodes, inodes_from}
+use Rattle.fork_pass.specs.Read.{Come, HasTaken, IsSlotRead, slot_fork}
+use Rattle.fork_pass.specs.declared.fork.Met.{Met}
+
+-- behind the pieces that came, one more came, or one is refused ..
+abbrev pub TakesPiece : Layout → Option Contents → Core3 → Fork → ℕ → List ClaimSet → Met → ℕ → Result (Option ForkFault) PassStop → List ClaimSet → Met → ℕ → Type 0
+TakesPiece at told core fork from sets met reads result sets' met' reads' = IfOk result (λ found. (c : Contents) → told ≡ Some c
+    → (first : List ClaimSet) (before : ℕ) → met.next ≡ Some from → Come at (c Image) core fork first sets met before reads
+    → HasTaken at (c Image) core fork first sets' met' before reads' found)
+
+-- .. and the pieces have read no more blocks, whatever ended the last one
+abbrev pub CountsPiece : Layout → Option Contents → Core3 → Fork → ℕ → List ClaimSet → Met → ℕ → ℕ → Type 0
+CountsPiece at told core fork from sets met reads reads' = (c : Contents) → told ≡ Some c
+    → (first : List ClaimSet) (before : ℕ) → met.next ≡ Some from → Come at (c Image) core fork first sets met before reads
+    → reads' ≤ before + pieces_most at (c Image) core fork
+
+-- both forks of the inode of this number were read, whose core this is, or that has these bytes
+abbrev pub SeesAllocated : Layout → Option Contents → Core3 → ℕ → List ClaimSet → Result (Option Evidence) PassStop → List ClaimSet → Type 0
+SeesAllocated at told core ino old result new = IfOk result (λ found. (c : Contents) → told ≡ Some c
+    → core.ino ≡ ino → IsSlotRead at ino (fork_in at (c Image) core) old new found)
+
+abbrev pub SeesSlot : Layout → Option Contents → List ℕ → ℕ → List ClaimSet → Result (Option Evidence) PassStop → List ClaimSet → Type 0
+SeesSlot at told bytes ino old result new = IfOk result (λ found. (c : Contents) → told ≡ Some c
+    → core_fault bytes ino at.uuid ≡ None → IsSlotRead at ino (slot_fork at (c Image) bytes) old new found)
+
+-- these inodes of a unit that is a chunk are passed
+abbrev pub PassesChunk : Layout → Option Contents → ℕ → ℕ → List ℕ → List ClaimSet → Result (Option Evidence) PassStop → List ClaimSet → Type 0
+PassesChunk at told g u inos old result new = IfOk result (λ found. (c : Contents) → told ≡ Some c
+    → is_chunk (opened_state at (c Image)) g u ≡ true → ArePassed (opened_state at (c Image)) inos old new found)
+
+-- so are those of units that are a group's chunks, and of lists that are those of all groups
+abbrev pub PassesUnits : Layout → Option Contents → ℕ → List ℕ → List ClaimSet → Result (Option Evidence) PassStop → List ClaimSet → Type 0
+PassesUnits at told g units old result new = IfOk result (λ found. (c : Contents) → told ≡ Some c
+    → units ≡ chunks (opened_state at (c Image)) g → ArePassed (opened_state at (c Image)) (group_inodes at g units) old new found)
+
+abbrev pub PassesGroups : Layout → Option Contents → List (Vec ℕ) → List ClaimSet → Result (Option Evidence) PassStop → List ClaimSet → Type 0
+PassesGroups at told lists old result new = IfOk result (λ found. (c : Contents) → told ≡ Some c
+    → AreChunks (opened_state at (c Image)) lists → ArePassed (opened_state at (c Image)) (inodes_from at lists 0 at.agcount) old new found)
+
+-- each step of the pass reads no more blocks than this, whatever ends it
+abbrev pub CountsMost : Option Contents → (Contents → ℕ) → ℕ → ℕ → Type 0
+CountsMost told most before now = (c : Contents) → told ≡ Some c → now ≤ before + most c
