@@ -215,9 +215,9 @@ pub of_all : {T : Type 0} (Are : ℕ → List Event → Type 0) (part : Part) (n
 of_all Are part n before after result from to h =
     as_added (AreParts (λ i. Are (part.from + i)) (part.to - part.from)) (AreParts Are n) before after result
     (λ es p.
-        let e : part.to - part.from ≡ n = omega (arith, from, to) in
-        subst (λ k. AreParts Are k es) e
-        (as_parts (λ i. Are (part.from + i)) Are (λ i fs q. let f : part.from + i ≡ i = omega (arith, from) in subst (λ k. Are k fs) f q) (part.to - part.from) es p)) h
+    let e : part.to - part.from ≡ n = omega (arith, from, to) in
+    subst (λ k. AreParts Are k es) e
+    (as_parts (λ i. Are (part.from + i)) Are (λ i fs q. let f : part.from + i ≡ i = omega (arith, from) in subst (λ k. Are k fs) f q) (part.to - part.from) es p)) h
 
 pub any_judged : (unit : ScrubUnit) (g : ℕ) → (es : List Event) × IsJudgedPart g unit es
 any_judged unit g = (event 0 (stands_for g unit) ∷ [], any_part g unit)

@@ -30,7 +30,7 @@ some_from k (suc g) (p ∷ ps) fell all =
 
 pub fallen_is : (ps : List Bool) (n : ℕ) (o : Option ℕ) → length ps ≡ n → IsFirstFallen ps n o → o ≡ first_fallen_from 0 ps
 fallen_is ps n None long is = sym (none_from 0 ps (λ h lt. is h (omega (arith, lt, long))))
-fallen_is ps n (Some g) long is = let zero_more : 0 + g ≡ g = omega arith in sym (some_from 0 g ps is.0 is.1 ∙ ap (λ (m : ℕ). Some m) zero_more)
+fallen_is ps n (Some g) long is = let zero_more : 0 + g ≡ g = omega arith in sym (some_from 0 g ps is.1 is.2 ∙ ap (λ (m : ℕ). Some m) zero_more)
 
 -- ---- no inodes fell
 

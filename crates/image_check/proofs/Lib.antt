@@ -1,10 +1,13 @@
 pub mod AllLemmas
 pub mod ChunkLemmas
+pub mod DecidedLemmas
 pub mod EndLemmas
 pub mod FallenLemmas
 pub mod ForkLemmas
 pub mod ListLemmas
 pub mod MapLemmas
 pub mod PieceLemmas
+pub mod SessionLemmas
 pub mod SetLemmas
+pub mod UnitsLemmas
 pub mod WholeLemmas

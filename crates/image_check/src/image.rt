@@ -1,15 +1,17 @@
-ghost use Rattle.std.specs.Prelude.{◌≡◌, ◌<◌, ◌≤◌, [], None, Some, IfErr, IfOk, get_or, length, not, true};
+ghost use Rattle.std.specs.Prelude.{◌≡◌, ◌<◌, ◌≤◌, [], None, Some, IfErr, IfOk, IfSome, get_or, length, not, true};
 ghost use Rattle.blk_device.specs.Causes.{HasCause};
 ghost use Rattle.blk_device.specs.Contents.{Contents};
 ghost use Rattle.blk_device.specs.Reading.{OnlyRead};
 ghost use Rattle.blk_device.specs.declared.device.Region.TheVariants.{Image};
 ghost use Rattle.check_phases.specs.Checks.{AreAccepted, AreHeads};
+ghost use Rattle.check_phases.specs.Parts.{AddsPart, AreParts};
 ghost use Rattle.fork_pass.specs.Passed.{AreChunks, HasSets, IsPass, LieInGroups};
 ghost use Rattle.check_phases.specs.Session.{inode_fallen};
 ghost use Rattle.geom.specs.Places.{layout};
 ghost use Rattle.image_check.specs.Checked.{AllPass, ChecksAll, ChecksUnits, IsFirstFallen};
 ghost use Rattle.inode_pass.specs.Units.{opened_state};
 ghost use Rattle.image_check.specs.Mappings.{AreReady};
+ghost use Rattle.image_check.specs.Units.{AreMappings, EndsInUnits, IsMappingPart};
 ghost use Rattle.space_check.specs.Events.{most_entries};
 ghost use Rattle.space_check.specs.Progress.{is_failed, IsOutside};
 
@@ -118,6 +120,7 @@ fn check_by_sets<D: Device, L: Ledger>(
     requires sets { length sets.items ≡ geo.now.agcount }
     requires ready { (c : Contents) → D.content dev.old ≡ Some c → AreReady (layout geo.now) (c Image) lists.now sets.items }
     ensures exact { (c : Contents) → D.content dev.old ≡ Some c → ChecksAll (layout geo.now) (c Image) None tally.old tally.new result }
+    ensures added { AddsPart (AreParts IsMappingPart geo.now.agcount) tally.old tally.new result }
     ensures reading { OnlyRead D.Device dev.old dev.new steps.old steps.new }
     ensures cause { HasCause is_failed (D.faults dev.old) (D.faults dev.new) result }
 {
@@ -144,6 +147,7 @@ fn check_by_lists<D: Device, L: Ledger>(
     requires chunks { (c : Contents) → D.content dev.old ≡ Some c → AreChunks (opened_state (layout geo.now) (c Image)) lists.now }
     requires begun { length tally.old.journal.entries.items < most_entries }
     ensures exact { (c : Contents) → D.content dev.old ≡ Some c → ChecksAll (layout geo.now) (c Image) None tally.old tally.new result }
+    ensures added { AddsPart (AreParts IsMappingPart geo.now.agcount) tally.old tally.new result }
     ensures reading { OnlyRead D.Device dev.old dev.new steps.old steps.new }
     ensures cause { HasCause is_failed (D.faults dev.old) (D.faults dev.new) result }
 {
@@ -172,6 +176,7 @@ fn check_by_forks<D: Device, L: Ledger>(
     requires heads { (c : Contents) → D.content dev.old ≡ Some c → AreHeads (layout geo.now) (c Image) 0 heads.now }
     requires passed { (c : Contents) → D.content dev.old ≡ Some c → AllPass (layout geo.now) (c Image) }
     ensures exact { (c : Contents) → D.content dev.old ≡ Some c → ChecksAll (layout geo.now) (c Image) None tally.old tally.new result }
+    ensures added { AddsPart (AreParts IsMappingPart geo.now.agcount) tally.old tally.new result }
     ensures reading { OnlyRead D.Device dev.old dev.new steps.old steps.new }
     ensures cause { HasCause is_failed (D.faults dev.old) (D.faults dev.new) result }
 {
@@ -195,7 +200,9 @@ fn check_all_mappings<D: Device, L: Ledger>(
     requires accepted { AreAccepted (layout geo.now) 0 heads.now }
     requires heads { (c : Contents) → D.content dev.old ≡ Some c → AreHeads (layout geo.now) (c Image) 0 heads.now }
     requires first { (c : Contents) → D.content dev.old ≡ Some c → fallen ≡ inode_fallen (opened_state (layout geo.now) (c Image)) }
+    requires below { IfSome fallen (λ g. g < geo.now.agcount) }
     ensures exact { (c : Contents) → D.content dev.old ≡ Some c → ChecksAll (layout geo.now) (c Image) fallen tally.old tally.new result }
+    ensures added { AddsPart (AreMappings geo.now.agcount) tally.old tally.new result }
     ensures reading { OnlyRead D.Device dev.old dev.new steps.old steps.new }
     ensures cause { HasCause is_failed (D.faults dev.old) (D.faults dev.new) result }
 {
@@ -225,6 +232,7 @@ pub fn check_units<D: Device, L: Ledger>(
     requires heads { (c : Contents) → D.content dev.old ≡ Some c → AreHeads (layout geo.now) (c Image) 0 heads.now }
     requires begun { tally.old.passed.items ≡ [] }
     ensures exact { (c : Contents) → D.content dev.old ≡ Some c → ChecksUnits (layout geo.now) (c Image) tally.old tally.new result }
+    ensures session { EndsInUnits geo.now.agcount tally.old.journal.entries.items tally.new.journal.entries.items result }
     ensures reading { OnlyRead D.Device dev.old dev.new steps.old steps.new }
     ensures cause { HasCause is_failed (D.faults dev.old) (D.faults dev.new) result }
 {

@@ -1,7 +1,8 @@
-//! The full check of a quiet image: what the three phases need of each other, and the phases one after
-//! the other.
+//! The full check of a quiet image: its heads, what the three phases need of each other, and the phases
+//! one after the other.
 #![tactic(auto)]
 
+mod check;
 mod chunks;
 mod image;
 mod lists;
@@ -9,6 +10,7 @@ mod mappings;
 mod parts;
 mod sets;
 
+pub use check::check_image;
 pub use chunks::read_chunks;
 pub use image::check_units;
 pub use lists::all_chunks;

@@ -4,11 +4,13 @@ ghost use Rattle.blk_device.specs.Contents.{Contents};
 ghost use Rattle.blk_device.specs.Reading.{OnlyRead};
 ghost use Rattle.blk_device.specs.declared.device.Region.TheVariants.{Image};
 ghost use Rattle.check_phases.specs.Checks.{AreAccepted, AreHeads, IsHeadsOf};
+ghost use Rattle.check_phases.specs.Parts.{AddsPart, AddsParts};
 ghost use Rattle.fork_pass.specs.Passed.{LieInGroups};
 ghost use Rattle.fork_pass.specs.Sets.{pieces_at};
 ghost use Rattle.geom.specs.Layout.{group_len_of};
 ghost use Rattle.geom.specs.Places.{layout};
 ghost use Rattle.image_check.specs.Mappings.{AreReady, LieIn, ChecksMapping, ChecksMappings, IsReady, MappingsDone};
+ghost use Rattle.image_check.specs.Units.{IsMappingPart};
 ghost use Rattle.mapping_check.specs.Mapped.{IsMappingJudged};
 ghost use Rattle.space_check.specs.Progress.{is_failed, IsOutside};
 ghost use Rattle.tree_walk.specs.Trails.{LieInside};
@@ -74,6 +76,7 @@ pub fn check_mappings<D: Device, L: Ledger>(
     requires chunks { LieIn (layout geo.now) g chunks.now }
     requires heads { (c : Contents) → D.content dev.old ≡ Some c → IsHeadsOf (layout geo.now) (c Image) g heads.now }
     ensures exact { (c : Contents) → D.content dev.old ≡ Some c → MappingsDone (layout geo.now) (c Image) g chunks.now set tally.old tally.new result }
+    ensures added { AddsPart (IsMappingPart g) tally.old tally.new result }
     ensures reading { OnlyRead D.Device dev.old dev.new steps.old steps.new }
     ensures cause { HasCause is_failed (D.faults dev.old) (D.faults dev.new) result }
 {
@@ -103,6 +106,7 @@ fn check_claims_of<D: Device, L: Ledger>(
     requires inside { LieInGroups (layout geo.now) lists.now }
     requires sets { length sets.old ≡ geo.now.agcount }
     ensures exact { (c : Contents) → D.content dev.old ≡ Some c → IsReady (layout geo.now) (c Image) lists.now sets.old g → ChecksMapping (layout geo.now) (c Image) g tally.old tally.new result }
+    ensures added { AddsPart (IsMappingPart g) tally.old tally.new result }
     ensures others { (h : ℕ) → g < h → pieces_at sets.new h ≡ pieces_at sets.old h }
     ensures groups { length sets.new ≡ length sets.old }
     ensures reading { OnlyRead D.Device dev.old dev.new steps.old steps.new }
@@ -149,6 +153,7 @@ pub fn check_mapping_part<D: Device, L: Ledger>(
     requires sets { length sets.old ≡ geo.now.agcount }
     requires ready { (c : Contents) → D.content dev.old ≡ Some c → AreReady (layout geo.now) (c Image) lists.now sets.old }
     ensures exact { (c : Contents) → D.content dev.old ≡ Some c → ChecksMappings (layout geo.now) (c Image) part tally.old tally.new result }
+    ensures added { AddsParts IsMappingPart part tally.old tally.new result }
     ensures reading { OnlyRead D.Device dev.old dev.new steps.old steps.new }
     ensures cause { HasCause is_failed (D.faults dev.old) (D.faults dev.new) result }
 {

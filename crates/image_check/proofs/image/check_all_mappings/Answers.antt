@@ -1,4 +1,5 @@
-use Rattle.std.proofs.Common.{◌∙◌, ℕ, Option, Some, subst, sym}
+use Rattle.std.proofs.Common.{◌<◌, ◌∙◌, ℕ, Option, Some, inl, inr, subst, sym}
+use Rattle.std.specs.Prelude.{IfSome}
 use Rattle.blk_device.specs.declared.device.Region.TheVariants.{Image}
 use Rattle.check_phases.specs.Phases.{Mappings, lacks_inodes}
 use Rattle.geom.specs.Places.{layout}
@@ -6,6 +7,11 @@ use Rattle.inode_pass.specs.Units.{opened_state}
 use Rattle.image_check.proofs.AllLemmas.{of_whole}
 use Rattle.image_check.proofs.FallenLemmas.{all_pass}
 use Rattle.image_check.specs.Checked.{ChecksAll}
+use Rattle.check_phases.proofs.AddedLemmas.{as_added, of_all}
+use Rattle.check_phases.specs.Parts.{AreParts}
+use Rattle.fs_derive.specs.Session.{Place}
+use Rattle.fs_model.specs.declared.unit.Unit.TheVariants as units
+use Rattle.image_check.specs.Units.{AreMappings, IsMappingPart, IsSkippedFor}
 use Rattle.image_check.proofs.image.check_all_mappings.Goals as goal
 
 pub returns-in-Some-clause-exact : goal.returns-in-Some-clause-exact
@@ -19,3 +25,16 @@ check_by_forks-requires-clause-passed g c = λ m e. all_pass (layout c.args.geo.
 pub returns-in-None-clause-exact : goal.returns-in-None-clause-exact
 returns-in-None-clause-exact g c = λ m e.
     subst (λ (o : Option ℕ). ChecksAll (layout c.args.geo.now) (m Image) o c.args.tally.now c.check_by_forks.new.tally c.check_by_forks.result) (sym c.in-None.is) (c.check_by_forks.ensures.exact m e)
+
+pub returns-in-Some-clause-added : goal.returns-in-Some-clause-added
+returns-in-Some-clause-added g c =
+    let n = c.args.geo.now.agcount in
+    let needed : Place = (c.in-Some.g, units.Inode) in
+    let below = subst (λ (o : Option ℕ). IfSome o (λ h. h < n)) c.in-Some.is c.requires.below in
+    as_added (AreParts (IsSkippedFor needed) n) (AreMappings n) c.args.tally.now c.skip_part.new.tally c.skip_part.result (λ es p. inr (c.in-Some.g, below, p))
+    (of_all (IsSkippedFor needed) c.whole.result n c.args.tally.now c.skip_part.new.tally c.skip_part.result c.whole.ensures.from c.whole.ensures.to c.skip_part.ensures.added)
+
+pub returns-in-None-clause-added : goal.returns-in-None-clause-added
+returns-in-None-clause-added g c =
+    let n = c.args.geo.now.agcount in
+    as_added (AreParts IsMappingPart n) (AreMappings n) c.args.tally.now c.check_by_forks.new.tally c.check_by_forks.result (λ es p. inl p) c.check_by_forks.ensures.added

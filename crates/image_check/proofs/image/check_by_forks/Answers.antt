@@ -9,6 +9,9 @@ use Rattle.inode_pass.specs.Units.{opened_state}
 use Rattle.space_check.proofs.EventLemmas.{with_err}
 use Rattle.image_check.proofs.AllLemmas.{are_chunks, cut_phase, full_phase}
 use Rattle.image_check.specs.Checked.{ChecksAll}
+use Rattle.check_phases.specs.Parts.{AddsPart, AreParts}
+use Rattle.image_check.proofs.UnitsLemmas.{mappings_cut, mappings_full}
+use Rattle.image_check.specs.Units.{IsMappingPart}
 use Rattle.image_check.proofs.image.check_by_forks.Goals as goal
 
 pub returns-in_err-begin-clause-exact : goal.returns-in_err-begin-clause-exact
@@ -42,3 +45,13 @@ returns-clause-exact g c = λ m e. c.check_by_lists.ensures.exact m (c.in_ok-lis
 pub returns-clause-reading : goal.returns-clause-reading
 returns-clause-reading g c =
     read_on g.D.Device g.met.D.Device.only_now g.met.D.Device.counts_now c.args.dev.now c.all_chunks.new.dev c.check_by_lists.new.dev c.args.steps.now c.all_chunks.new.steps c.check_by_lists.new.steps c.in_ok-lists.ensures.reading c.check_by_lists.ensures.reading
+
+pub returns-in_err-begin-clause-added : goal.returns-in_err-begin-clause-added
+returns-in_err-begin-clause-added g c =
+    with_err {T = Unit {0}} (λ r. AddsPart (AreParts IsMappingPart c.args.geo.now.agcount) c.args.tally.now c.args.tally.now r) c.in_err-begin.field-0.0 c.from_residual.result c.from_residual.ensures
+    (mappings_full (Unit {0}) c.args.geo.now.agcount c.args.tally.now c.in_err-begin.field-0.0 c.args.geo.now.fitting.some_groups c.in_err-begin.ensures)
+
+pub returns-in_err-lists-clause-added : goal.returns-in_err-lists-clause-added
+returns-in_err-lists-clause-added g c =
+    with_err {T = Unit {0}} (λ r. AddsPart (AreParts IsMappingPart c.args.geo.now.agcount) c.args.tally.now c.args.tally.now r) c.in_err-lists.field-0.0 c.from_residual-in_err-lists.result c.from_residual-in_err-lists.ensures
+    (mappings_cut c.args.geo.now.agcount c.args.tally.now c.in_err-lists.field-0.0 c.args.geo.now.fitting.some_groups c.in_ok-begin.ensures c.in_err-lists.ensures.outside)

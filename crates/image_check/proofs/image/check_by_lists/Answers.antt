@@ -9,6 +9,10 @@ use Rattle.inode_pass.specs.Units.{opened_state}
 use Rattle.space_check.proofs.EventLemmas.{with_err}
 use Rattle.image_check.proofs.AllLemmas.{are_ready, cut_phase, of_whole}
 use Rattle.image_check.specs.Checked.{ChecksAll}
+use Rattle.check_phases.proofs.AddedLemmas.{of_all}
+use Rattle.check_phases.specs.Parts.{AddsPart, AreParts}
+use Rattle.image_check.proofs.UnitsLemmas.{mappings_cut}
+use Rattle.image_check.specs.Units.{IsMappingPart}
 use Rattle.image_check.proofs.image.check_by_lists.Goals as goal
 
 pub returns-in_err-forks-clause-exact : goal.returns-in_err-forks-clause-exact
@@ -40,3 +44,11 @@ returns-in-Claims-clause-exact g c = λ m e. c.check_by_sets.ensures.exact m (c.
 pub returns-in-Claims-clause-reading : goal.returns-in-Claims-clause-reading
 returns-in-Claims-clause-reading g c =
     read_on g.D.Device g.met.D.Device.only_now g.met.D.Device.counts_now c.args.dev.now c.forks_of.new.dev c.check_by_sets.new.dev c.args.steps.now c.forks_of.new.steps c.check_by_sets.new.steps c.in_ok-forks.ensures.reading c.check_by_sets.ensures.reading
+
+pub returns-in_err-forks-clause-added : goal.returns-in_err-forks-clause-added
+returns-in_err-forks-clause-added g c =
+    with_err {T = Unit {0}} (λ r. AddsPart (AreParts IsMappingPart c.args.geo.now.agcount) c.args.tally.now c.args.tally.now r) c.in_err-forks.field-0.0 c.from_residual.result c.from_residual.ensures
+    (mappings_cut c.args.geo.now.agcount c.args.tally.now c.in_err-forks.field-0.0 c.args.geo.now.fitting.some_groups c.requires.begun c.in_err-forks.ensures.outside)
+
+pub returns-in-GaveUp-clause-added : goal.returns-in-GaveUp-clause-added
+returns-in-GaveUp-clause-added g c = of_all IsMappingPart c.whole.result c.args.geo.now.agcount c.args.tally.now c.give_up_part.new.tally c.give_up_part.result c.whole.ensures.from c.whole.ensures.to c.give_up_part.ensures.added

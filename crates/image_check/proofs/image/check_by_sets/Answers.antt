@@ -6,6 +6,8 @@ use Rattle.inode_pass.specs.Units.{opened_state}
 use Rattle.unit_plan.specs.declared.claims.ClaimSet.{ClaimSet}
 use Rattle.image_check.proofs.AllLemmas.{of_whole}
 use Rattle.image_check.specs.Mappings.{AreReady}
+use Rattle.check_phases.proofs.AddedLemmas.{of_all}
+use Rattle.image_check.specs.Units.{IsMappingPart}
 use Rattle.image_check.proofs.image.check_by_sets.Goals as goal
 
 pub check_mapping_part-requires-clause-sets : goal.check_mapping_part-requires-clause-sets
@@ -17,3 +19,6 @@ check_mapping_part-requires-clause-ready g c = λ m e. subst (λ (x : List Claim
 pub returns-clause-exact : goal.returns-clause-exact
 returns-clause-exact g c = λ m e.
     of_whole (opened_state (layout c.args.geo.now) (m Image)) Mappings (lacks_inodes None) c.whole-part.result c.args.geo.now.agcount c.args.tally.now c.check_mapping_part.new.tally c.check_mapping_part.result c.whole-part.ensures.from c.whole-part.ensures.to (c.check_mapping_part.ensures.exact m e)
+
+pub returns-clause-added : goal.returns-clause-added
+returns-clause-added g c = of_all IsMappingPart c.whole-part.result c.args.geo.now.agcount c.args.tally.now c.check_mapping_part.new.tally c.check_mapping_part.result c.whole-part.ensures.from c.whole-part.ensures.to c.check_mapping_part.ensures.added

@@ -8,6 +8,10 @@ use Rattle.space_check.proofs.EventLemmas.{with_err}
 use Rattle.image_check.proofs.AllLemmas.{fallen_said, of_whole}
 use Rattle.image_check.proofs.EndLemmas.{inodes_end, mappings_end, readable_then, units_end}
 use Rattle.image_check.specs.Checked.{ChecksUnits}
+use Rattle.check_phases.proofs.AddedLemmas.{from_same, of_all}
+use Rattle.check_phases.specs.Parts.{AreParts, IsInodePart, IsSpacePart}
+use Rattle.image_check.proofs.UnitsLemmas.{ends_in_units, fallen_below, inodes_stop, mappings_added, mappings_stop, space_added}
+use Rattle.image_check.specs.Units.{AreMappings, EndsInUnits}
 use Rattle.image_check.proofs.image.check_units.Goals as goal
 
 pub returns-in_err-check_inode_part-clause-exact : goal.returns-in_err-check_inode_part-clause-exact
@@ -73,3 +77,36 @@ pub returns-clause-reading : goal.returns-clause-reading
 returns-clause-reading g c =
     let both = read_on g.D.Device g.met.D.Device.only_now g.met.D.Device.counts_now c.args.dev.now c.check_inode_part.new.dev c.check_all_mappings.new.dev c.args.steps.now c.check_inode_part.new.steps c.check_all_mappings.new.steps c.in_ok-check_inode_part.ensures.reading c.in_ok-check_all_mappings.ensures.reading in
     read_on g.D.Device g.met.D.Device.only_now g.met.D.Device.counts_now c.args.dev.now c.check_all_mappings.new.dev c.check_space_part.new.dev c.args.steps.now c.check_all_mappings.new.steps c.check_space_part.new.steps both c.check_space_part.ensures.reading
+
+pub returns-in_err-check_inode_part-clause-session : goal.returns-in_err-check_inode_part-clause-session
+returns-in_err-check_inode_part-clause-session g c =
+    let n = c.args.geo.now.agcount in
+    let inodes = of_all {T = Unit {0}} IsInodePart c.whole.result n c.args.tally.now c.check_inode_part.new.tally (Err c.in_err-check_inode_part.field-0.0) c.whole.ensures.from c.whole.ensures.to c.in_err-check_inode_part.ensures.added in
+    with_err {T = Unit {0}} (λ r. EndsInUnits n c.args.tally.now.journal.entries.items c.check_inode_part.new.tally.journal.entries.items r) c.in_err-check_inode_part.field-0.0 c.from_residual.result c.from_residual.ensures
+    (ends_in_units n {T = Unit {0}} c.args.tally.now c.check_inode_part.new.tally (Err c.in_err-check_inode_part.field-0.0)
+    (inodes_stop n (Unit {0}) (Unit {0}) c.args.tally.now c.check_inode_part.new.tally c.in_err-check_inode_part.field-0.0 inodes))
+
+pub check_all_mappings-requires-clause-below : goal.check_all_mappings-requires-clause-below
+check_all_mappings-requires-clause-below g c = fallen_below c.as_slice.result.now c.args.geo.now.agcount c.first_fallen-fallen.result c.first_fallen-fallen.ensures
+
+pub returns-in_err-check_all_mappings-clause-session : goal.returns-in_err-check_all_mappings-clause-session
+returns-in_err-check_all_mappings-clause-session g c =
+    let n = c.args.geo.now.agcount in
+    let halt = c.in_err-check_all_mappings.field-0.0 in
+    let inodes = of_all {T = Unit {0}} IsInodePart c.whole.result n c.args.tally.now c.check_inode_part.new.tally (Ok tt) c.whole.ensures.from c.whole.ensures.to c.in_ok-check_inode_part.ensures.added in
+    let mappings = from_same {T = Unit {0}} (AreMappings n) c.check_inode_part.new.tally c.take_passed-inodes.new.tally c.check_all_mappings.new.tally (Err halt) c.take_passed-inodes.ensures.journal c.in_err-check_all_mappings.ensures.added in
+    with_err {T = Unit {0}} (λ r. EndsInUnits n c.args.tally.now.journal.entries.items c.check_all_mappings.new.tally.journal.entries.items r) halt c.from_residual-in_err-check_all_mappings.result c.from_residual-in_err-check_all_mappings.ensures
+    (ends_in_units n {T = Unit {0}} c.args.tally.now c.check_all_mappings.new.tally (Err halt)
+    (mappings_stop n (Unit {0}) (Unit {0}) c.args.tally.now c.check_all_mappings.new.tally halt
+    (mappings_added n {S = Unit {0}} {T = Unit {0}} c.args.tally.now c.check_inode_part.new.tally c.check_all_mappings.new.tally tt (Err halt) inodes mappings)))
+
+pub returns-clause-session : goal.returns-clause-session
+returns-clause-session g c =
+    let n = c.args.geo.now.agcount in
+    let inodes = of_all {T = Unit {0}} IsInodePart c.whole.result n c.args.tally.now c.check_inode_part.new.tally (Ok tt) c.whole.ensures.from c.whole.ensures.to c.in_ok-check_inode_part.ensures.added in
+    let mappings = from_same {T = Unit {0}} (AreMappings n) c.check_inode_part.new.tally c.take_passed-inodes.new.tally c.check_all_mappings.new.tally (Ok tt) c.take_passed-inodes.ensures.journal c.in_ok-check_all_mappings.ensures.added in
+    let both = mappings_added n {S = Unit {0}} {T = Unit {0}} c.args.tally.now c.check_inode_part.new.tally c.check_all_mappings.new.tally tt (Ok tt) inodes mappings in
+    let space = of_all IsSpacePart c.whole-2.result n c.take_passed-mappings.new.tally c.check_space_part.new.tally c.check_space_part.result c.whole-2.ensures.from c.whole-2.ensures.to c.check_space_part.ensures.added in
+    let last = from_same (AreParts IsSpacePart n) c.check_all_mappings.new.tally c.take_passed-mappings.new.tally c.check_space_part.new.tally c.check_space_part.result c.take_passed-mappings.ensures.journal space in
+    ends_in_units n c.args.tally.now c.check_space_part.new.tally c.check_space_part.result
+    (space_added n {S = Unit {0}} c.args.tally.now c.check_all_mappings.new.tally c.check_space_part.new.tally tt c.check_space_part.result both last)

@@ -9,7 +9,7 @@ pub loop-g-preserved : goal.loop-g-preserved
 loop-g-preserved c = one_further c.args.passed.now c.loop-g.g c.loop-g.invariant (that_passed (get_or c.args.passed.now c.loop-g.g true) (sym c.has_fallen.ensures ∙ c.if-has_fallen.false))
 
 pub returns-then-has_fallen : goal.returns-then-has_fallen
-returns-then-has_fallen c = (that_fell (get_or c.args.passed.now c.loop-g.g true) (sym c.has_fallen.ensures ∙ c.if-has_fallen.true), c.loop-g.invariant)
+returns-then-has_fallen c = (c.loop-g-test.true, that_fell (get_or c.args.passed.now c.loop-g.g true) (sym c.has_fallen.ensures ∙ c.if-has_fallen.true), c.loop-g.invariant)
 
 pub returns : goal.returns
 returns c = λ h lt. c.loop-g.invariant h (let end = c.loop-g.auto.g-end in omega (arith, lt, c.loop-g-test.false, end))

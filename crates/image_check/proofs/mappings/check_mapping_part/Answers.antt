@@ -8,11 +8,16 @@ use Rattle.check_phases.specs.Phases.{Mappings, lacks_nothing}
 use Rattle.check_phases.proofs.PartLemmas.{part_begun, part_ended, part_goes_on, part_stops}
 use Rattle.space_check.proofs.EventLemmas.{err_cause, with_err}
 use Rattle.image_check.proofs.PieceLemmas.{ready_here}
+use Rattle.check_phases.proofs.AddedLemmas.{groups_begun, groups_ended, groups_go_on, groups_stop}
+use Rattle.check_phases.specs.Parts.{AddsGroups}
+use Rattle.image_check.proofs.UnitsLemmas.{any_mapping}
+use Rattle.image_check.specs.Units.{IsMappingPart}
 use Rattle.image_check.proofs.mappings.check_mapping_part.Goals as goal
 
 pub loop-g-init : goal.loop-g-init
 loop-g-init g c = record {
   exact = λ m e. part_begun (opened_state (layout c.args.geo.now) (m Image)) Mappings lacks_nothing c.args.part.from (c.args.part.from - c.args.part.from) c.args.tally.now (omega arith);
+  added = groups_begun IsMappingPart c.args.part.from (c.args.part.from - c.args.part.from) c.args.tally.now (omega arith);
   others = λ h le. refl;
   groups = refl;
   reading = nothing_read g.D.Device g.met.D.Device.only_now g.met.D.Device.counts_now c.args.dev.now c.args.steps.now;
@@ -25,6 +30,7 @@ check_claims_of-requires-clause-heads g c = λ m e. c.requires.heads m (sym c.lo
 pub loop-g-preserved : goal.loop-g-preserved
 loop-g-preserved g c = record {
   exact = λ m e. part_goes_on (opened_state (layout c.args.geo.now) (m Image)) Mappings lacks_nothing c.args.part.from c.loop-g.g c.args.tally.now c.loop-g.tally c.check_claims_of.new.tally c.loop-g.auto.g (c.loop-g.invariant.exact m e) (c.in_ok-check_claims_of.ensures.exact m (c.loop-g.invariant.reading.same ∙ e) (ready_here (layout c.args.geo.now) (m Image) c.loop-g.g c.args.lists.now c.args.sets.now c.loop-g.sets (c.loop-g.invariant.others c.loop-g.g (omega arith)) (c.requires.ready m e c.loop-g.g (let lt = c.loop-g-test.true in let le = c.requires.part in omega (arith, lt, le)))));
+  added = groups_go_on IsMappingPart c.args.part.from c.loop-g.g c.args.tally.now c.loop-g.tally c.check_claims_of.new.tally c.loop-g.auto.g c.loop-g.invariant.added c.in_ok-check_claims_of.ensures.added;
   others = λ h le. c.in_ok-check_claims_of.ensures.others h (omega (arith, le)) ∙ c.loop-g.invariant.others h (omega (arith, le));
   groups = c.in_ok-check_claims_of.ensures.groups ∙ c.loop-g.invariant.groups;
   reading = read_on g.D.Device g.met.D.Device.only_now g.met.D.Device.counts_now c.args.dev.now c.loop-g.dev c.check_claims_of.new.dev c.args.steps.now c.loop-g.steps c.check_claims_of.new.steps c.loop-g.invariant.reading c.in_ok-check_claims_of.ensures.reading;
@@ -51,3 +57,12 @@ returns-clause-exact g c = λ m e.
 
 pub check_claims_of-requires-clause-sets : goal.check_claims_of-requires-clause-sets
 check_claims_of-requires-clause-sets g c = c.loop-g.invariant.groups ∙ c.requires.sets
+
+pub returns-in_err-check_claims_of-clause-added : goal.returns-in_err-check_claims_of-clause-added
+returns-in_err-check_claims_of-clause-added g c =
+    with_err {T = Unit {0}} (λ r. AddsGroups IsMappingPart c.args.part.from (c.args.part.to - c.args.part.from) c.args.tally.now c.check_claims_of.new.tally r) c.in_err-check_claims_of.field-0.0 c.from_residual.result c.from_residual.ensures
+    (groups_stop IsMappingPart c.args.part.from any_mapping c.args.part.to c.loop-g.g c.args.tally.now c.loop-g.tally c.check_claims_of.new.tally c.in_err-check_claims_of.field-0.0 c.loop-g.auto.g c.loop-g-test.true c.loop-g.invariant.added c.in_err-check_claims_of.ensures.added)
+
+pub returns-clause-added : goal.returns-clause-added
+returns-clause-added g c =
+    groups_ended IsMappingPart c.args.part.from c.args.part.to c.loop-g.g c.args.tally.now c.loop-g.tally (let end = c.loop-g.auto.g-end c.requires.order in omega (arith, c.loop-g-test.false, end)) c.loop-g.invariant.added

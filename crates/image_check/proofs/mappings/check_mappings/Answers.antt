@@ -6,6 +6,9 @@ use Rattle.inode_pass.specs.Units.{opened_state}
 use Rattle.check_phases.specs.Checks.{ChecksUnit}
 use Rattle.check_phases.proofs.UnitLemmas.{unit_added, unit_cut, unit_full}
 use Rattle.space_check.proofs.EventLemmas.{with_err}
+use Rattle.check_phases.proofs.AddedLemmas as added
+use Rattle.check_phases.specs.Parts.{AddsPart}
+use Rattle.image_check.specs.Units.{IsMappingPart}
 use Rattle.image_check.proofs.mappings.check_mappings.Goals as goal
 
 pub returns-in_err-begin-clause-exact : goal.returns-in_err-begin-clause-exact
@@ -23,3 +26,16 @@ returns-in_err-judged-clause-exact g c = λ m e forks.
 pub returns-clause-exact : goal.returns-clause-exact
 returns-clause-exact g c = λ m e forks.
     unit_added (opened_state (layout c.args.geo.now) (m Image)) c.args.g units.Rmap c.args.tally.now c.add.new.self c.add.result c.in_ok-judged.judged (c.in_ok-judged.ensures.exact m e forks) c.in_ok-begin.ensures c.add.ensures.added c.add.ensures.passed
+
+pub returns-in_err-begin-clause-added : goal.returns-in_err-begin-clause-added
+returns-in_err-begin-clause-added g c =
+    with_err {T = Unit {0}} (λ r. AddsPart (IsMappingPart c.args.g) c.args.tally.now c.args.tally.now r) c.in_err-begin.field-0.0 c.from_residual.result c.from_residual.ensures
+    (added.unit_full c.args.g units.Rmap (Unit {0}) (Unit {0}) c.args.tally.now c.in_err-begin.field-0.0 c.in_err-begin.ensures)
+
+pub returns-in_err-judged-clause-added : goal.returns-in_err-judged-clause-added
+returns-in_err-judged-clause-added g c =
+    with_err {T = Unit {0}} (λ r. AddsPart (IsMappingPart c.args.g) c.args.tally.now c.args.tally.now r) c.in_err-judged.field-0.0 c.from_residual-in_err-judged.result c.from_residual-in_err-judged.ensures
+    (added.unit_cut c.args.g units.Rmap (Unit {0}) c.args.tally.now c.in_err-judged.field-0.0 c.in_ok-begin.ensures c.in_err-judged.ensures.outside)
+
+pub returns-clause-added : goal.returns-clause-added
+returns-clause-added g c = added.unit_added c.args.g units.Rmap c.in_ok-judged.judged c.args.tally.now c.add.new.self c.add.result c.in_ok-begin.ensures c.add.ensures.added
