@@ -67,12 +67,12 @@ flipped() {
 
 # damaged GROUPS: sound.img's leaves of group 0, damaged in turn. The other groups are good.
 damaged() {
-  local groups=$1 bno rmap ino length n start count m mapped mapped_count owner
+  local groups=$1 bno rmap length n start count m mapped_count
   local uuid=01020304-0506-0708-090a-0b0c0d0e0f10
   bno=$(told agf bnoroot) rmap=$(told agf rmaproot) length=$(told agf length)
   n=$(told bnoroot numrecs) m=$(told rmaproot numrecs)
   read -r start count <<<"$(record bnoroot "$n")"
-  read -r mapped mapped_count owner _ <<<"$(record rmaproot "$m")"
+  read -r _ mapped_count _ <<<"$(record rmaproot "$m")"
 
   # free_with LINE..: faults of free space in group 0
   free_with() { sound "$groups" && space 0 free "$@" && spaces $((groups - 1)) 1; }
@@ -80,9 +80,9 @@ damaged() {
   changed 'a shorter free run' "$(free_with "bno missing $start $count" "bno extra $start 7")" bnoroot \
     "recs[$n].blockcount 7"
   changed 'the last free run lost' "$(free_with "bno missing $start $count")" bnoroot "numrecs $((n - 1))"
-  changed 'a shorter mapping' '?' rmaproot "recs[$m].blockcount $((mapped_count + 1))"
+  changed 'a longer mapping' '?' rmaproot "recs[$m].blockcount $((mapped_count + 1))"
   changed 'the last mapping lost' '?' rmaproot "numrecs $((m - 1))"
-  changed 'a mapping of another owner' '?' rmaproot "recs[$m].owner $((owner == -5 ? -8 : -5))"
+  changed 'a mapping of a file' '?' rmaproot "recs[$m].owner 128"
   flipped 'a byte of the free space leaf' "$(free_with "bno block $bno checksum")" "$bno"
   flipped 'a byte of the mapping leaf' '?' "$rmap"
   changed 'a leaf of another place' '?' bnoroot 'bno 16384'
