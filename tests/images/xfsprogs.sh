@@ -94,7 +94,7 @@ damaged() {
   changed 'a root of another kind' '?' agf "bnoroot $rmap"
   changed 'levels' "$(free_with "bno block $bno level")" agf 'bnolevel 2'
   changed 'longest' "$(free_with "counter longest 7 $count")" agf 'longest 7'
-  changed 'the blocks of the mappings' '?' agf 'rmapblocks 7'
+  changed 'the blocks of the mappings' '?' agf 'rmapblocks 9999'
   damaged_inodes "$groups"
   changed "the head's version" 'group 0 agf version' agf 'versionnum 2'
   changed "the head's group" 'group 0 agf seqno' agf 'seqno 5'
@@ -217,6 +217,9 @@ used() {
   for tree in bno cnt refc; do
     damaged_leaf "$tree" "$groups"
   done
+  damaged_inodes "$groups"
+  changed 'a mapping lost' '?' rmaproot "numrecs $(($(told rmaproot numrecs) - 1))"
+  changed 'the blocks of the mappings' '?' agf 'rmapblocks 9999'
 }
 
 # damaged_leaf TREE GROUPS: a record in the middle of a tree's leaf changed, and the last one lost. The other
