@@ -15,8 +15,10 @@ said), with the features finobt, rmapbt, reflink, inobtcount, ftype and sparse i
     block 0         the superblock's copy, AGF, AGI and AGFL, a sector of 512 bytes each
     blocks 1 to 6   the roots of bno, cnt, ino, fino, rmap and refc
     blocks 7 to 18  the free list
-    blocks 24 to 31 in group 0 alone: the inodes 192 to 255, of which three are allocated
-    from block 32   what the trees have beside their roots, where they have more than a leaf,
+    blocks 24 to 31 in group 0 alone: the inodes 192 to 255, of which three are allocated, and
+                    with pieces a fourth, 195
+    from block 32   what the trees have beside their roots, where they have more than a leaf; in
+                    group 0 the btree of inode 195, where the inode has no room for its mappings;
                     and then the pieces: a block of inode 195, and one free block or two
 
 The rest is free. Of the pieces so many first ones as --shared says are shared by two offsets of the
@@ -42,8 +44,14 @@ An EDIT, in the order of the command line, is one of
     --add GROUP:TREE:NUMBER:..          puts in a record, keys and checksums mended
     --drop GROUP:TREE:N                 takes out record N, keys and checksums mended
     --change GROUP:TREE:N:NAME:VALUE    changes one number of record N, keys and checksums mended
+    --fork                              prints the block where the pieces of group 0 begin, behind the
+                                        btree of their file
     --tree GROUP:TREE                   prints a line `LEVEL BLOCK` for each block, leaves first
     --records GROUP:TREE                prints a line for each record
+    --map INODE:OFFSET:BLOCK:COUNT      gives an inode of group 0 one more mapping behind those that
+                                        stand in it, of blocks of group 0; a fifth number 1 makes it
+                                        unwritten. An inode that is free becomes a file, also in the
+                                        inode btrees and the AGI
     --cut BLOCKS                        keeps only the first blocks of the file
 
 Numbers are decimal, or hexadecimal after 0x. BLOCK counts from the start of the image, in the
@@ -56,8 +64,9 @@ import sys
 
 sys.dont_write_bytecode = True
 
-from xfs_formats import HEADER, HEADS, Field, crc32c
-from xfs_fresh import Plan, fresh
+from xfs_forks import mapped_by, write_mappings
+from xfs_formats import AGI, HEADER, HEADS, Field, crc32c
+from xfs_fresh import FORK_TREE, Plan, fresh
 from xfs_image import Image, part_of, tree_of
 
 # The edits. Each takes the image and the words between its colons.
@@ -121,6 +130,35 @@ def change_record(image, group, name, place, field, value):
     tree.write(image)
 
 
+def allocate(image, inode):
+    """Makes an inode of group 0 one that is in use, by the inode btrees and the AGI."""
+    for name in ["ino", "fino"]:
+        tree = tree_of(image, 0, name)
+        for place, (first, _, _, free, mask) in enumerate(tree.records):
+            if first <= inode < first + 64:
+                tree.change(place, "freecount", free - 1)
+                tree.change(place, "mask", mask - (1 << inode - first))
+        tree.write(image)
+    field = AGI.fields["freecount"]
+    image.set(0, field, image.get(0, field, AGI.start) - 1, AGI.start)
+
+
+def add_mapping(image, inode, offset, block, count, unwritten="0"):
+    inode, mappings = number(inode), mapped_by(image, number(inode))
+    if not mappings:
+        allocate(image, inode)
+    mappings.append((number(offset), number(block), number(count), number(unwritten)))
+    write_mappings(image, inode, mappings, 0, 0)
+
+
+def end_of_fork(image):
+    """The block behind the btree of a file of group 0."""
+    for start, count, _, word in tree_of(image, 0, "rmap").records:
+        if word == FORK_TREE:
+            return start + count
+    return None
+
+
 def print_tree(image, group, name):
     for level, row in enumerate(tree_of(image, number(group), name).root.rows()):
         for node in row:
@@ -142,6 +180,7 @@ EDITS = {
     "add": (add_record, "GROUP:TREE:NUMBER:.."),
     "drop": (drop_record, "GROUP:TREE:N"),
     "change": (change_record, "GROUP:TREE:N:NAME:VALUE"),
+    "map": (add_mapping, "INODE:OFFSET:BLOCK:COUNT"),
     "tree": (print_tree, "GROUP:TREE"),
     "records": (print_records, "GROUP:TREE"),
 }
@@ -164,6 +203,7 @@ def command_line():
     words.add_argument("--half", action="store_true")
     words.add_argument("--bare", action="store_true")
     words.add_argument("--cut", type=int, metavar="BLOCKS")
+    words.add_argument("--fork", action="store_true")
     for name, (_, metavar) in EDITS.items():
         edit = lambda text, name=name: (name, text.split(":"))
         words.add_argument(f"--{name}", dest="edits", action="append", type=edit, metavar=metavar, default=[])
@@ -180,6 +220,8 @@ def make(words):
     image = Image.opened(given.out) if given.on else fresh(given.out, plan)
     for name, values in given.edits:
         EDITS[name][0](image, *values)
+    if given.fork:
+        print(end_of_fork(image))
     image.save(given.cut)
 
 

@@ -49,7 +49,7 @@ mkdir folder
 refused 'a folder' folder
 refused 'in a folder that is not there' nowhere/new.img
 refused 'a device that keeps its size' /dev/null
-run 0 "$(printf '%s\n' '0 free good' '0 refc good')" check new.img
+run 0 "$(printf '%s\n' '0 inode good' '0 rmap good' '0 free good' '0 refc good')" check new.img
 verdict 'the program finds it good' $? "status $ended, printed '$found'"
 
 # What xfs_db reads of a copy. It wants some fields that the checker doesn't look at: version bits and the logarithms of

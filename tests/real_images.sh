@@ -7,7 +7,9 @@
 # PROGRAM is the launcher ./xscrub where nothing is said. The images come from three hands, none of
 # them ours to prove: tests/make_image.py; mkfs.xfs with xfs_db of xfsprogs; and a kernel, which
 # used the images that are named, perhaps packed by xz. Where xfsprogs isn't here and can't be
-# installed, only the first are checked.
+# installed, only the first are checked. What is expected was worked out by hand, or comes from
+# tests/xfs_model.py, which derives it from an image's bytes; where it is by hand, the model has to say it
+# too.
 # Each case prints `ok NAME` or `FAILED NAME` with what was expected and found. The last line is
 # `N passed, M failed`; the status is 1 where one failed.
 # shellcheck disable=SC2034,SC2154
@@ -29,7 +31,7 @@ for part in cases heads trees records xfsprogs; do
 done
 
 touch -d @0 old
-start_maker
+start_hands
 
 words
 superblock_faults
@@ -45,6 +47,8 @@ three_levels
 by_hand
 records
 sharing
+inode_faults
+evidence
 counters
 groups
 full_journal

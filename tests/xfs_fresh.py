@@ -20,6 +20,7 @@ from xfs_formats import (
     SUPERBLOCK,
     numbers,
 )
+from xfs_forks import sizes_of, write_mappings
 from xfs_image import Image, Node, Tree
 
 UUID = int.from_bytes(range(1, 17), "big")
@@ -29,7 +30,7 @@ CHUNK = range(24, 32)
 FIRST_INODE, INODES = CHUNK[0] * BLOCK // INODE, 64
 FREE_MASK = 0xFFFFFFFFFFFFFFF8
 FIRST_ROOM = CHUNK[-1] + 1
-OWNER_PIECES, OFFSET_STEP = FIRST_INODE + 3, 1 << 20
+OWNER_PIECES, OFFSET_STEP, GROUP_STEP, FORK_TREE = FIRST_INODE + 3, 1 << 20, 1 << 22, 1 << 62
 # the fields of an inode that isn't all zeros
 CORE = (
     numbers(0, "magic", "mode", width=2)
@@ -74,9 +75,23 @@ def pieces_from(plan, first):
         yield first + 2 * i + i // 2, sharers
 
 
+def fork_blocks(plan):
+    """How many blocks the btree of the file has that all pieces belong to; they lie in group 0."""
+    return sum(sizes_of(plan.groups * sum(sharers for _, sharers in pieces_from(plan, 0))))
+
+
+def first_piece(plan, group, beside_ag, beside_refc):
+    return FIRST_ROOM + beside_ag + beside_refc + fork_blocks(plan) * (group == 0)
+
+
+def offsets_of(group, i, sharers):
+    """The offsets of the file that have piece i of a group."""
+    return [i + OFFSET_STEP * n + GROUP_STEP * group for n in range(sharers)]
+
+
 def mappings_of(plan, group, beside_ag, beside_refc):
     """The reverse mappings, where trees have so many blocks beside their roots."""
-    pieces = FIRST_ROOM + beside_ag + beside_refc
+    pieces = first_piece(plan, group, beside_ag, beside_refc)
     owned = [
         (0, 1, OWNER_FS),
         (ROOTS["bno"], 2, OWNER_AG),
@@ -89,8 +104,10 @@ def mappings_of(plan, group, beside_ag, beside_refc):
         (FIRST_ROOM + beside_ag, beside_refc, OWNER_REFC),
     ]
     mappings = [(start, count, owner, 0) for start, count, owner in owned if count]
+    tree = fork_blocks(plan) * (group == 0)
+    mappings += [(pieces - tree, tree, OWNER_PIECES, FORK_TREE)] if tree else []
     for i, (block, sharers) in enumerate(pieces_from(plan, pieces)):
-        mappings += [(block, 1, OWNER_PIECES, i + OFFSET_STEP * n) for n in range(sharers)]
+        mappings += [(block, 1, OWNER_PIECES, offset) for offset in offsets_of(group, i, sharers)]
     return mappings
 
 
@@ -109,9 +126,9 @@ def records_of(plan, group, beside):
     beside_ag = beside["bno"] + beside["cnt"] + beside["rmap"]
     mappings = mappings_of(plan, group, beside_ag, beside["refc"])
     free = [] if plan.bare else free_space(mappings, plan.length)
-    free_inodes = FREE_MASK.bit_count()
-    chunks = [(FIRST_INODE, 0, INODES, free_inodes, FREE_MASK)] if group == 0 else []
-    pieces = pieces_from(plan, FIRST_ROOM + beside_ag + beside["refc"])
+    mask = FREE_MASK - 8 * (plan.pieces > 0)
+    chunks = [(FIRST_INODE, 0, INODES, mask.bit_count(), mask)] if group == 0 else []
+    pieces = pieces_from(plan, first_piece(plan, group, beside_ag, beside["refc"]))
     return {
         "bno": free,
         "cnt": sorted(free, key=KINDS["cnt"].order),
@@ -236,7 +253,21 @@ def write_inodes(image):
         image.mend(block, start, INODE, INODE_CHECKSUM)
 
 
+def write_pieces(image, plan, first):
+    """The file that the pieces of all groups belong to, which begin at these blocks."""
+    bits = (plan.length - 1).bit_length()
+    mappings = [
+        (offset, group << bits | block)
+        for group, start in enumerate(first)
+        for i, (block, sharers) in enumerate(pieces_from(plan, start))
+        for offset in offsets_of(group, i, sharers)
+    ]
+    if mappings:
+        write_mappings(image, OWNER_PIECES, sorted(mappings), 0, first[0] - fork_blocks(plan))
+
+
 def write_group(image, plan, group):
+    """Writes a group, and returns the block where its pieces begin."""
     records, levels = settled_records(plan, group)
     write_superblock(image, plan, group)
     write_agf(image, plan, group, records, levels)
@@ -245,12 +276,14 @@ def write_group(image, plan, group):
     room = iter(range(FIRST_ROOM, plan.length))
     for name in ["bno", "cnt", "rmap", "refc", "ino", "fino"]:
         tree_from(KINDS[name], group, records[name], levels[name], ROOTS[name], room).write(image)
+    beside = {name: sum(sizes) - 1 for name, sizes in levels.items()}
+    return first_piece(plan, group, beside["bno"] + beside["cnt"] + beside["rmap"], beside["refc"])
 
 
 def fresh(path, plan):
     """The sound image."""
     image = Image.made(path, plan.groups, plan.length)
-    for group in range(plan.groups):
-        write_group(image, plan, group)
+    first = [write_group(image, plan, group) for group in range(plan.groups)]
     write_inodes(image)
+    write_pieces(image, plan, first)
     return image

@@ -5,16 +5,32 @@
 
 lines() { printf '%s\n' "$@"; }
 
-# goods N [FIRST]: what a check says of N groups that are good, from group FIRST on.
-goods() {
+# sound N: what a check says first of N groups, where all inodes and reverse mappings are good.
+sound() {
+  local group unit
+  for unit in inode rmap; do
+    for ((group = 0; group < $1; group++)); do
+      lines "$group $unit good"
+    done
+  done
+}
+
+# spaces N [FIRST]: and then of the space of N groups that is good, from group FIRST on.
+spaces() {
   local group first=${2:-0}
   for ((group = first; group < first + $1; group++)); do
     lines "$group free good" "$group refc good"
   done
 }
 
-# faulty GROUP UNIT LINE..: what a check says of a group where one unit has these faults.
-faulty() {
+# goods N: what a check says of N groups that are good.
+goods() {
+  sound "$1"
+  spaces "$1"
+}
+
+# space GROUP UNIT LINE..: what a check says of the space of a group where one unit has these faults.
+space() {
   local group=$1 unit=$2
   shift 2
   [ "$unit" = free ] || lines "$group free good"
@@ -23,17 +39,41 @@ faulty() {
   [ "$unit" = refc ] || lines "$group refc good"
 }
 
-# skipped GROUP: what a check says of a group whose reverse mappings can't be read.
-skipped() { lines "$1 free skipped $1 rmap" "$1 refc skipped $1 rmap"; }
-
-# unit_of TREE: the unit that a tree belongs to.
-unit_of() {
-  if [ "$1" = refc ]; then echo refc; else echo free; fi
+# faulty 0 UNIT LINE..: what a check says of an image of one group where one of these units has faults.
+faulty() {
+  sound 1
+  space "$@"
 }
 
-# unreadable TREE BLOCK FAULT: what a check says of an image of one group with that bad block.
-unreadable() {
-  if [ "$1" = rmap ]; then skipped 0; else faulty 0 "$(unit_of "$1")" "$1 block $2 $3"; fi
+# skipped GROUP: what a check says of the space of a group whose reverse mappings aren't good.
+skipped() { lines "$1 free skipped $1 rmap" "$1 refc skipped $1 rmap"; }
+
+# mapped LINE..: what a check says of an image of one group whose reverse mappings have these faults.
+mapped() {
+  lines '0 inode good' "${@/#/0 rmap }" "0 rmap faulty $#"
+  skipped 0
+}
+
+# inodes LINE..: what a check says of an image of one group whose inodes have these faults.
+inodes() {
+  lines "${@/#/0 }" "0 inode faulty $#" '0 rmap skipped 0 inode'
+  skipped 0
+}
+
+# gave_up UNIT EVIDENCE: what a check says of an image of one group whose inodes or reverse mappings are
+# given up.
+gave_up() {
+  if [ "$1" = inode ]; then
+    lines "0 inode gaveup $2" '0 rmap skipped 0 inode'
+  else
+    lines '0 inode good' "0 rmap gaveup $2"
+  fi
+  skipped 0
+}
+
+# unit_of TREE: the unit that a tree of the space belongs to.
+unit_of() {
+  if [ "$1" = refc ]; then echo refc; else echo free; fi
 }
 
 # expect NAME STATUS STDOUT WORD..: runs the program with the words. A file that the last word
@@ -57,20 +97,52 @@ advised() {
   verdict "$1, on standard error" $? 'expected:' "$2" 'found:' "$(head -n 5 stderr)"
 }
 
-# checked NAME STDOUT IMAGE: a check whose status follows from its lines.
+# model IMAGE: what tests/xfs_model.py says that a check shows is in $modelled, and the btrees that it can't
+# read are in $unread, a line `G KIND BLOCK FAULT` for each.
+model() {
+  local line shown=()
+  unread=()
+  printf '%s\n' "$1" >&"$ask_model"
+  while read -r line <&"$model_answer"; do
+    case $line in
+    'done')
+      modelled=$(lines "${shown[@]}")
+      return 0
+      ;;
+    '= '*) unread+=("${line#= }") ;;
+    *Error:*) break ;;
+    *) shown+=("$line") ;;
+    esac
+  done
+  modelled="the model: $line"
+  return 1
+}
+
+# checked NAME STDOUT IMAGE: a check whose status follows from its lines. Where an image isn't refused, the
+# model has to say the same; STDOUT ? is what the model says.
 checked() {
   local name=$1 stdout=$2 status=0
+  if [[ $stdout != image* && $stdout != group* ]]; then
+    model "$3"
+    [ "$stdout" != '?' ] || stdout=$modelled
+    [ "$stdout" = "$modelled" ] || verdict "$name, by the model" 1 'expected:' "$stdout" 'found:' "$modelled"
+  fi
   case $stdout in
   image* | group*) status=4 ;;
+  *gaveup*) status=6 ;;
   *faulty* | *skipped*) status=1 ;;
   esac
   expect "$name" "$status" "$stdout" check "$3"
 }
 
-# Starts tests/make_image.py, which waits for lines with the words for one image each.
-start_maker() {
+# Starts tests/make_image.py, which waits for lines with the words for one image each, and
+# tests/xfs_model.py, which waits for the names of images.
+start_hands() {
   coproc maker { exec python3 "$top/tests/make_image.py" --lines 2>&1; }
   exec {ask}>&"${maker[1]}" {answer}<&"${maker[0]}"
+  mkfifo asked modelled
+  python3 "$top/tests/xfs_model.py" --lines <asked >modelled 2>&1 &
+  exec {ask_model}>asked {model_answer}<modelled
 }
 
 # make_image WORD..: what it prints is in $printed.
@@ -105,12 +177,12 @@ made() {
   fi
 }
 
-# look TREE: the blocks of a tree of group 0 of the sound image. $leaves has those of level 0,
-# $nodes those of level 1, and $root is the highest.
+# look TREE [GROUP]: the blocks of a tree of a group of the sound image, of group 0 where nothing is said. $leaves
+# has those of level 0, $nodes those of level 1, and $root is the highest.
 look() {
   local line
   leaves=() nodes=()
-  make_image sound.img --on --tree "0:$1"
+  make_image sound.img --on --tree "${2:-0}:$1"
   for line in "${printed[@]}"; do
     root=${line##* }
     case $line in

@@ -92,14 +92,19 @@ superblock_faults() {
   done
 }
 
-# A log of its own has to lie in one group. Its owner is among the reverse mappings of an image
-# that is sound; here they have none, and free space is compared with what they say.
+# A log of its own has to lie in one group, and has its blocks by a reverse mapping.
 logs() {
   build 'log' --groups 2 --blocks 64
-  made 'a log in the last blocks' "$(goods 2)" --head 0:sb:logstart:60 --head 0:sb:logblocks:4
+  made 'a log in the last blocks' "$(goods 2)" --head 0:sb:logstart:60 --head 0:sb:logblocks:4 \
+    --add 0:rmap:60:4:-4:0 --change 0:bno:1:count:28 --change 0:cnt:1:count:28 --head 0:agf:freeblks:33 \
+    --head 0:agf:longest:28
+  made 'a log without a mapping' "$(lines '0 inode good' '1 inode good' '0 rmap missing 60 4 log 0 -' \
+    '0 rmap faulty 1' '1 rmap good'; skipped 0; spaces 1 1)" --head 0:sb:logstart:60 --head 0:sb:logblocks:4
   made 'a log past its group' 'image counts' --head 0:sb:logstart:60 --head 0:sb:logblocks:5
   made 'a log of no blocks' 'image counts' --head 0:sb:logstart:60 --head 0:sb:logblocks:0
-  made 'a log in the second group' "$(goods 2)" --head 0:sb:logstart:65 --head 0:sb:logblocks:63
+  made 'a log over the trees of the second group' \
+    "$(lines '0 inode good' '1 inode gaveup overlap 1 log tree-bno' '0 rmap skipped 1 inode' \
+    '1 rmap skipped 1 inode'; skipped 0; skipped 1)" --head 0:sb:logstart:65 --head 0:sb:logblocks:63
   made 'a log at block 0 of a group' 'image counts' --head 0:sb:logstart:64 --head 0:sb:logblocks:4
   made 'a log in a group that is not there' 'image counts' --head 0:sb:logstart:129 --head 0:sb:logblocks:4
 }
@@ -127,7 +132,8 @@ free_lists() {
   made 'block 9 twice' 'group 0 agfl freelist 3' --head 0:agfl:bno2:9 --head 0:agfl:bno3:9
   made 'block 0' 'group 0 agfl freelist 0' --head 0:agfl:bno0:0
   made 'a block outside' 'group 0 agfl freelist 11' --head 0:agfl:bno11:256
-  made 'the last block of the group' "$(goods 1)" --head 0:agfl:bno11:255
+  made 'the last block of the group' \
+    "$(mapped 'missing 7 11 ag 0 -' 'extra 7 12 ag 0 -' 'missing 255 1 ag 0 -')" --head 0:agfl:bno11:255
   made 'the first of two' 'group 0 agfl freelist 4' --head 0:agfl:bno4:256 --head 0:agfl:bno9:0
   made 'an entry that is not active' "$(goods 1)" --head 0:agfl:bno12:7 --head 0:agfl:bno118:256
   made 'a first place outside' 'group 0 agfl freelist 119' --head 0:agf:flfirst:119
@@ -135,20 +141,22 @@ free_lists() {
   made 'too many' 'group 0 agfl freelist 119' --head 0:agf:flcount:120
   made 'a count that does not fit' 'group 0 agfl freelist 119' --head 0:agf:flcount:11
   made 'places before blocks' 'group 0 agfl freelist 119' --head 0:agf:flcount:13 --head 0:agfl:bno0:0
-  made 'empty' "$(goods 1)" --head 0:agf:flfirst:1 --head 0:agf:fllast:0 --head 0:agf:flcount:0
-  made 'empty, at other places' "$(goods 1)" --head 0:agf:flfirst:7 --head 0:agf:fllast:30 \
+  made 'empty' "$(mapped 'extra 7 12 ag 0 -')" --head 0:agf:flfirst:1 --head 0:agf:fllast:0 \
     --head 0:agf:flcount:0
+  made 'empty, at other places' "$(mapped 'extra 7 12 ag 0 -')" --head 0:agf:flfirst:7 \
+    --head 0:agf:fllast:30 --head 0:agf:flcount:0
   for i in 116 117 118; do
     ring+=(--head "0:agfl:bno$i:$((i + 100))")
   done
-  made 'around the end' "$(goods 1)" "${ring[@]}"
+  made 'around the end' "$(mapped 'missing 7 3 ag 0 -' 'extra 7 12 ag 0 -' 'missing 216 3 ag 0 -')" \
+    "${ring[@]}"
   made 'around the end, a block twice' 'group 0 agfl freelist 1' "${ring[@]}" --head 0:agfl:bno117:8
   made 'around the end, a block outside' 'group 0 agfl freelist 118' "${ring[@]}" --head 0:agfl:bno118:0 \
     --head 0:agfl:bno1:0
   for i in {12..118}; do
     full+=(--head "0:agfl:bno$i:$((i + 100))")
   done
-  made 'full' "$(goods 1)" "${full[@]}"
+  made 'full' "$(mapped 'missing 112 107 ag 0 -')" "${full[@]}"
   made 'full, the last block twice' 'group 0 agfl freelist 118' "${full[@]}" --head 0:agfl:bno118:217
 }
 
@@ -162,5 +170,8 @@ order_of_causes() {
   made 'the last group before the units' 'group 2 agfl seqno' --head 2:agfl:seqno:1 --spoil 0:bno:0:0:70
   made 'the superblock before the heads' 'image counts' --head 0:sb:agcount:4 --head 0:agf:magic:0
   made 'the copies of the superblock are not read' "$(goods 3)" --head 1:sb:magic:0 --xor 128:300:1
-  made 'the inode trees are not read' "$(goods 3)" --spoil 0:ino:0:0:70 --head 1:agi:level:7
+  made 'the inodes of all groups before the first mappings' \
+    "$(lines '0 ino block 3 checksum' '0 inode faulty 1' '1 ino block 3 level' '1 inode faulty 1' '2 inode good'
+    lines '0 rmap skipped 0 inode' '1 rmap skipped 0 inode' '2 rmap skipped 0 inode'
+    skipped 0; skipped 1; skipped 2)" --spoil 0:ino:0:0:70 --head 1:agi:level:7
 }

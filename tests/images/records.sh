@@ -86,14 +86,15 @@ by_hand() {
     --change 0:bno:0:count:2 --add 0:bno:21:3
   made 'by count in two parts' "$(faulty 0 free 'cnt extra 19 2' 'cnt extra 21 3' 'cnt missing 19 5')" \
     --drop 0:cnt:0 --add 0:cnt:19:2 --add 0:cnt:21:3
-  made 'a mapping lost' "$(faulty 0 free 'bno missing 19 237' 'bno extra 19 5' 'bno extra 32 224' \
-    'cnt extra 19 5' 'cnt extra 32 224' 'cnt missing 19 237' 'counter freeblks 229 237' \
-    'counter longest 224 237')" --drop 0:rmap:-1
-  made 'mappings in two parts' "$(goods 1)" --change 0:rmap:1:count:1 --add 0:rmap:2:1:-5:0
+  made 'a mapping lost' "$(mapped 'missing 24 8 inodes 0 -')" --drop 0:rmap:-1
+  made 'mappings in two parts' "$(mapped 'missing 1 2 ag 0 -' 'extra 1 1 ag 0 -' 'extra 2 1 ag 0 -')" \
+    --change 0:rmap:1:count:1 --add 0:rmap:2:1:-5:0
+  made 'a mapping of another owner' "$(mapped 'missing 6 1 refc 0 -' 'extra 6 1 ag 0 -')" \
+    --change 0:rmap:4:owner:0xfffffffffffffffb
   made 'one more count of references' "$(faulty 0 refc 'refc extra 32 1 2')" --add 0:refc:32:1:2
-  made 'a byte of the free space leaf' "$(unreadable bno 1 checksum)" --xor 1:70:255
-  made 'a byte of the mapping leaf' "$(skipped 0)" --xor 5:70:255
-  made 'a byte of both leaves' "$(skipped 0)" --xor 1:70:255 --xor 5:70:255
+  made 'a byte of the free space leaf' "$(faulty 0 free 'bno block 1 checksum')" --xor 1:70:255
+  made 'a byte of the mapping leaf' "$(mapped 'block 5 checksum')" --xor 5:70:255
+  made 'a byte of both leaves' "$(mapped 'block 5 checksum')" --xor 1:70:255 --xor 5:70:255
   made 'longest' "$(faulty 0 free 'counter longest 223 224')" --head 0:agf:longest:223
 }
 
@@ -101,8 +102,9 @@ by_hand() {
 sharing() {
   local apart=(--change 0:bno:1:count:8 --add 0:bno:46:210 --change 0:cnt:1:count:8 --add 0:cnt:46:210
     --head 0:agf:freeblks:223 --head 0:agf:longest:210)
-  local three=(--add 0:rmap:40:4:195:0 --add 0:rmap:42:4:196:0 --add 0:rmap:43:1:197:0)
-  local flag
+  local three=(--map 195:0:40:4 --map 196:0:42:4 --map 197:0:43:1
+    --add 0:rmap:40:4:195:0 --add 0:rmap:42:4:196:0 --add 0:rmap:43:1:197:0)
+  local twice=(--map 195:0:40:6 --map 195:9:40:6 --add 0:rmap:40:6:195:0 --add 0:rmap:40:6:195:9)
   build 'sharing'
   made 'three files' "$(goods 1)" "${apart[@]}" "${three[@]}" --add 0:refc:42:1:2 --add 0:refc:43:1:3
   made 'three files, none counted' "$(faulty 0 refc 'refc missing 42 1 2' 'refc missing 43 1 3')" \
@@ -110,17 +112,88 @@ sharing() {
   made 'three files, counted as two runs of two' \
     "$(faulty 0 refc 'refc missing 42 1 2' 'refc extra 42 2 2' 'refc missing 43 1 3')" "${apart[@]}" \
     "${three[@]}" --add 0:refc:42:2:2
-  for flag in 0x2000000000000000 0x4000000000000000 0x8000000000000000; do
-    made "flag $flag" "$(goods 1)" "${apart[@]}" --add 0:rmap:40:4:195:0 --add "0:rmap:42:4:196:$flag"
-    made "flag $flag, counted" "$(faulty 0 refc 'refc extra 42 2 2')" \
-      "${apart[@]}" --add 0:rmap:40:4:195:0 --add "0:rmap:42:4:196:$flag" --add 0:refc:42:2:2
-  done
-  made 'a group and a file' "$(goods 1)" "${apart[@]}" --add 0:rmap:40:4:-5:0 --add 0:rmap:42:4:196:0
-  made 'two offsets of one file' "$(goods 1)" "${apart[@]}" --add 0:rmap:40:6:195:0 \
-    --add 0:rmap:40:6:195:9 --add 0:refc:40:6:2
+  made 'three files, one not mapped' "$(mapped 'missing 43 1 197 0 -')" "${apart[@]}" "${three[@]}" --drop 0:rmap:-1
+  made 'a file that is unwritten' "$(goods 1)" "${apart[@]}" --map 195:0:40:6:1 \
+    --add 0:rmap:40:6:195:0x2000000000000000
+  made 'two files, one unwritten' "$(gave_up rmap 'overlap 42 data 195 data 196')" "${apart[@]}" \
+    --map 195:0:40:4 --map 196:0:42:4:1 --add 0:rmap:40:4:195:0 --add 0:rmap:42:4:196:0x2000000000000000
+  made 'a file, and a btree of another' "$(mapped 'extra 42 4 196 0 t')" "${apart[@]}" --map 195:0:40:4 \
+    --add 0:rmap:40:4:195:0 --add 0:rmap:42:4:196:0x4000000000000000
+  made 'a file, and attributes of another' "$(mapped 'extra 42 4 196 0 a')" "${apart[@]}" --map 195:0:40:4 \
+    --add 0:rmap:40:4:195:0 --add 0:rmap:42:4:196:0x8000000000000000
+  made 'a group and a file' "$(mapped 'extra 40 4 ag 0 -')" "${apart[@]}" --map 196:0:42:4 \
+    --add 0:rmap:40:4:-5:0 --add 0:rmap:42:4:196:0
+  made 'two offsets of one file' "$(goods 1)" "${apart[@]}" "${twice[@]}" --add 0:refc:40:6:2
   made 'counts in two parts' \
     "$(faulty 0 refc 'refc missing 40 6 2' 'refc extra 40 3 2' 'refc extra 43 3 2')" \
-    "${apart[@]}" --add 0:rmap:40:6:195:0 --add 0:rmap:40:6:195:9 --add 0:refc:40:3:2 --add 0:refc:43:3:2
+    "${apart[@]}" "${twice[@]}" --add 0:refc:40:3:2 --add 0:refc:43:3:2
+}
+
+# Inodes, their btrees and their counters.
+inode_faults() {
+  local chunk='192 0 64 61 fffffffffffffff8' less='192 0 64 60 fffffffffffffff0'
+  build 'inodes'
+  made 'count' "$(inodes 'inode counter count 63 64')" --head 0:agi:count:63
+  made 'freecount' "$(inodes 'inode counter freecount 60 61')" --head 0:agi:freecount:60
+  made 'iblocks' "$(inodes 'inode counter iblocks 2 1')" --head 0:agi:iblocks:2
+  made 'fblocks' "$(inodes 'inode counter fblocks 0 1')" --head 0:agi:fblocks:0
+  made 'blocks of trees that are not counted' "$(goods 1)" --head 0:agi:iblocks:2 --head 0:agi:fblocks:0 \
+    --head 0:sb:features_ro_compat:7
+  made 'a chunk lost' "$(inodes "ino missing $chunk")" --drop 0:ino:0
+  made 'a chunk with free inodes lost' "$(inodes "fino missing $chunk")" --drop 0:fino:0
+  made 'a chunk that is not there' "$(inodes 'ino extra 256 0 64 64 ffffffffffffffff')" \
+    --add 0:ino:256:0:64:64:0xffffffffffffffff
+  made 'another mask' "$(inodes "ino missing $chunk" 'ino extra 192 0 64 61 fffffffffffffff4')" \
+    --change 0:ino:0:mask:0xfffffffffffffff4
+  made 'an inode that is in use' "$(inodes "ino missing $less" "ino extra $chunk" "fino missing $less" \
+    "fino extra $chunk" 'inode counter freecount 61 60')" --set 24:1538:2:0x81a4
+  made 'a byte of a leaf' "$(inodes 'ino block 3 checksum')" --spoil 0:ino:0:0:70
+  made 'a byte of the other leaf' "$(inodes 'fino block 4 checksum')" --spoil 0:fino:0:0:70
+  made 'a byte of both leaves' "$(inodes 'ino block 3 checksum' 'fino block 4 checksum')" \
+    --spoil 0:ino:0:0:70 --spoil 0:fino:0:0:70
+  made 'a mapping of the chunk that is short' "$(mapped 'missing 24 8 inodes 0 -' 'extra 24 7 inodes 0 -')" \
+    --change 0:rmap:-1:count:7
+}
+
+# What gives a unit up.
+evidence() {
+  build 'evidence'
+  made 'a byte of an inode' "$(gave_up inode 'badchunk 24 checksum')" --xor 24:600:255
+  made 'a byte of the last inode' "$(gave_up inode 'badchunk 31 checksum')" --xor 31:4095:1
+  made 'an inode of another number' "$(gave_up inode 'badchunk 24 number')" --set 24:1176:8:195
+  made 'an inode without its magic' "$(gave_up inode 'badchunk 31 magic')" --set 31:0:2:0
+  made 'an inode of another version' "$(gave_up inode 'badchunk 25 version')" --set 25:516:1:2
+  made 'an inode of another system' "$(gave_up inode 'badchunk 26 uuid')" --set 26:160:8:7
+  made 'neither tree that lists chunks' "$(gave_up inode 'badtree rmap 5')" --spoil 0:ino:0:0:70 \
+    --spoil 0:rmap:0:0:70
+  made 'a chunk with a hole' "$(gave_up inode 'later ino 3')" --change 0:ino:0:holemask:1
+  made 'a listed root' "$(gave_up inode 'overlap 5 list tree-rmap')" --head 0:agfl:bno0:5
+  made 'a listed chunk' "$(gave_up inode 'overlap 31 list chunk')" --head 0:agfl:bno0:31
+  made 'a broken core before an overlap' "$(gave_up inode 'badchunk 24 checksum')" --xor 24:600:255 \
+    --head 0:agfl:bno0:5
+  made 'a file over the heads' "$(gave_up rmap 'overlap 0 heads data 195')" --map 195:0:0:1
+  made 'a file over the free list' "$(gave_up rmap 'overlap 18 list data 195')" --map 195:0:18:2
+  made 'a mapping past the group' "$(gave_up rmap 'badfork 195 range')" --map 195:0:255:2
+  made 'mappings that fall' "$(gave_up rmap 'badfork 195 order')" --map 195:9:40:1 --map 195:8:41:1
+  made 'mappings that meet' "$(gave_up rmap 'badfork 195 overlap')" --map 195:0:40:2 --map 195:1:43:1
+  made 'a format that is none' "$(gave_up rmap 'badfork 195 format')" --map 195:0:40:1 --set 24:1541:1:9
+  made 'more mappings than fit' "$(gave_up rmap 'badfork 195 count')" --map 195:0:40:1 --set 24:1612:4:22
+  made 'a staging record' "$(sound 1; lines '0 free good' '0 refc gaveup later refc 6')" \
+    --add 0:refc:0x80000028:1:1
+
+  build 'a file in a btree' --blocks 2000 --pieces 504
+  made 'sound' "$(goods 1)"
+  local first
+  first=$(make_image sound.img --on --records 0:rmap && printf '%s\n' "${printed[@]}" | awk '$4 == 2 ^ 62 { print $1 }')
+  made 'a byte of its leaf' "$(gave_up rmap 'badfork 195 block')" --xor "$((first + 1)):100:1"
+  made 'a mapping more than it says' "$(gave_up rmap 'badfork 195 count')" --set 24:1612:4:505
+  made 'a leaf of its own in the free list' "$(gave_up rmap "overlap $first list forktree 195")" \
+    --head "0:agfl:bno0:$first"
+  build 'a file over three groups' --groups 3 --blocks 4000 --pieces 1200 --shared 700
+  made 'mappings of two groups lost' '?' --drop 0:rmap:-1 --drop 2:rmap:40
+  made 'a bad fork' "$(lines '0 inode good' '1 inode good' '2 inode good'
+    lines '0 rmap gaveup badfork 195 format' '1 rmap gaveup badfork 195 format' '2 rmap gaveup badfork 195 format'
+    skipped 0; skipped 1; skipped 2)" --set 24:1541:1:9
 }
 
 # counter NAME FIELD WANTED UNIT: one counter of group 0, one off and far off.
@@ -144,13 +217,13 @@ counters() {
   counter longest longest 224 free
   counter btreeblks btreeblks 0 free
   counter refcount_blocks refcntblocks 1 refc
-  made 'the counter of the mappings is not judged' "$(goods 1)" --head 0:agf:rmapblocks:9
+  made 'the counter of the mappings' "$(mapped 'counter rmap_blocks 9 1')" --head 0:agf:rmapblocks:9
   made 'all counters' \
-    "$(lines '0 free counter freeblks 1 229' '0 free counter longest 2 224' '0 free counter btreeblks 3 0' \
+    "$(sound 1; lines '0 free counter freeblks 1 229' '0 free counter longest 2 224' '0 free counter btreeblks 3 0' \
     '0 free faulty 3' '0 refc counter refcount_blocks 4 1' '0 refc faulty 1')" \
     --head 0:agf:freeblks:1 --head 0:agf:longest:2 --head 0:agf:btreeblks:3 --head 0:agf:refcntblocks:4
   made 'records before counters' \
-    "$(lines '0 bno missing 19 5' '0 cnt missing 32 224' '0 free counter longest 2 224' \
+    "$(sound 1; lines '0 bno missing 19 5' '0 cnt missing 32 224' '0 free counter longest 2 224' \
     '0 free faulty 3' '0 refc extra 32 1 2' '0 refc counter refcount_blocks 4 1' '0 refc faulty 2')" \
     --drop 0:bno:0 --drop 0:cnt:1 --head 0:agf:longest:2 --add 0:refc:32:1:2 --head 0:agf:refcntblocks:4
   unjudged
@@ -171,10 +244,10 @@ unjudged() {
     --head 0:agf:refcntblocks:4)
   local refc=('0 refc counter refcount_blocks 4 1' '0 refc faulty 1')
   made 'bno unreadable' \
-    "$(lines '0 bno block 1 checksum' '0 free counter freeblks 1 229' '0 free counter longest 2 224' \
+    "$(sound 1; lines '0 bno block 1 checksum' '0 free counter freeblks 1 229' '0 free counter longest 2 224' \
     '0 free faulty 3' "${refc[@]}")" "${all[@]}" --spoil 0:bno:0:0:70
   made 'cnt unreadable' \
-    "$(lines '0 cnt block 2 checksum' '0 free counter freeblks 1 229' '0 free counter longest 2 224' \
+    "$(sound 1; lines '0 cnt block 2 checksum' '0 free counter freeblks 1 229' '0 free counter longest 2 224' \
     '0 free faulty 3' "${refc[@]}")" "${all[@]}" --spoil 0:cnt:0:0:70
   made 'bno unreadable, cnt with another record' \
     "$(faulty 0 free 'bno block 1 checksum' 'cnt missing 19 5')" \
@@ -185,25 +258,30 @@ unjudged() {
   made 'bno and cnt unreadable' "$(faulty 0 free 'bno block 1 checksum' 'cnt block 2 checksum')" \
     --spoil 0:bno:0:0:70 --spoil 0:cnt:0:0:70
   made 'refc unreadable' \
-    "$(lines '0 free counter freeblks 1 229' '0 free counter longest 2 224' '0 free counter btreeblks 3 0' \
+    "$(sound 1; lines '0 free counter freeblks 1 229' '0 free counter longest 2 224' '0 free counter btreeblks 3 0' \
     '0 free faulty 3' '0 refc block 6 checksum' '0 refc faulty 1')" "${all[@]}" --spoil 0:refc:0:0:70
-  made 'rmap unreadable' "$(skipped 0)" "${all[@]}" --spoil 0:rmap:0:0:70
+  made 'rmap unreadable' "$(mapped 'block 5 checksum')" "${all[@]}" --spoil 0:rmap:0:0:70
 }
 
 groups() {
+  local bad=('0 inode good' '1 inode good')
   build 'two groups' --groups 2 --blocks 64
   made 'sound' "$(goods 2)"
-  made 'the first' "$(faulty 0 free 'bno missing 19 5'; goods 1 1)" --drop 0:bno:0
-  made 'the second' "$(goods 1; faulty 1 free 'bno missing 19 45')" --drop 1:bno:0
-  made 'both' "$(faulty 0 refc 'refc extra 32 1 2'; faulty 1 free 'counter longest 44 45')" \
+  made 'the first' "$(sound 2; space 0 free 'bno missing 19 5'; spaces 1 1)" --drop 0:bno:0
+  made 'the second' "$(sound 2; spaces 1; space 1 free 'bno missing 19 45')" --drop 1:bno:0
+  made 'both' "$(sound 2; space 0 refc 'refc extra 32 1 2'; space 1 free 'counter longest 44 45')" \
     --add 0:refc:32:1:2 --head 1:agf:longest:44
-  made 'the first skipped' "$(skipped 0; goods 1 1)" --spoil 0:rmap:0:0:70
-  made 'the second skipped' "$(goods 1; skipped 1)" --spoil 1:rmap:0:0:70
-  made 'a block of the other group' "$(goods 1; faulty 1 free 'bno block 1 owner')" --node 1:bno:0:0:owner:0
-  made 'a place in the other group' "$(goods 1; faulty 1 free 'bno block 1 place')" --node 1:bno:0:0:blkno:8
+  made 'the first skipped' "$(lines "${bad[@]}" '0 rmap block 5 checksum' '0 rmap faulty 1' '1 rmap good'
+    skipped 0; spaces 1 1)" --spoil 0:rmap:0:0:70
+  made 'the second skipped' "$(lines "${bad[@]}" '0 rmap good' '1 rmap block 5 checksum' '1 rmap faulty 1'
+    spaces 1; skipped 1)" --spoil 1:rmap:0:0:70
+  made 'a block of the other group' "$(lines "${bad[@]}" '0 rmap good' '1 rmap extra 1 2 ag 0 -' \
+    '1 rmap missing 2 1 ag 0 -' '1 rmap faulty 2'; spaces 1; skipped 1)" --node 1:bno:0:0:owner:0
+  made 'a place in the other group' "$(lines "${bad[@]}" '0 rmap good' '1 rmap extra 1 2 ag 0 -' \
+    '1 rmap missing 2 1 ag 0 -' '1 rmap faulty 2'; spaces 1; skipped 1)" --node 1:bno:0:0:blkno:8
   build 'forty groups' --groups 40 --blocks 64
   made 'sound' "$(goods 40)"
-  made 'the last' "$(goods 39; faulty 39 free 'bno missing 19 45')" --drop 39:bno:0
+  made 'the last' "$(sound 40; spaces 39; space 39 free 'bno missing 19 45')" --drop 39:bno:0
   made 'the last head' 'group 39 agfl freelist 11' --head 39:agfl:bno11:64
 }
 
@@ -236,12 +314,17 @@ same_lines() {
   verdict "made: $1" $? "expected status $2, found $ended" "$(cat differ.txt stderr)" "$(tail -n 3 found.txt)"
 }
 
+# first_piece: the block of the sound image where the pieces begin, behind the btree of their file.
+first_piece() {
+  make_image sound.img --on --fork
+  echo "${printed[@]}"
+}
+
 # No unit begins where the journal has 1,048,576 entries or more; one that has begun is shown whole.
 full_journal() {
-  local pieces=524285 length=1320000
+  local pieces=524284 length=1320000
   build 'a journal that is nearly full' --blocks "$length" --pieces "$pieces" --bare
-  make_image sound.img --on --tree 0:rmap
-  { missing $((31 + ${#printed[@]})) "$pieces" "$length" && lines '0 refc good'; } >wanted.txt
+  { sound 1 && missing "$(first_piece)" "$pieces" "$length" && lines '0 refc good'; } >wanted.txt
   same_lines 'one entry more, and it is full' 1
   make_image sound.img --on --head 0:agf:refcntblocks:4
   { sed '$d' wanted.txt && lines '0 refc counter refcount_blocks 4 1' '0 refc faulty 1'; } >longer.txt
@@ -249,7 +332,6 @@ full_journal() {
   same_lines 'a unit that has begun is shown whole' 1
   ((pieces++))
   build 'a full journal' --blocks "$length" --pieces "$pieces" --bare
-  make_image sound.img --on --tree 0:rmap
-  { missing $((31 + ${#printed[@]})) "$pieces" "$length" && lines 'journal full'; } >wanted.txt
+  { sound 1 && missing "$(first_piece)" "$pieces" "$length" && lines 'journal full'; } >wanted.txt
   same_lines 'no unit begins' 7
 }

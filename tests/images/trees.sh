@@ -2,12 +2,17 @@
 # Blocks of trees that can't be read, on images of tests/make_image.py: trees of one leaf, of two
 # and of three levels, of the four kinds that a check reads.
 
-# bad NAME TREE BLOCK FAULT EDIT..: the first fault of a tree of the sound image.
+# bad NAME TREE BLOCK FAULT EDIT..: the first fault of a tree of the sound image, by the model's reading. What
+# the check shows then is by the model, too: a block that says that it is another, and one that can't be reached
+# any more, aren't the tree's, and the reverse mappings differ from that.
 bad() {
-  local name="$2, $1" stdout
-  stdout=$(unreadable "$2" "$3" "$4")
+  local name="$2, $1" wanted="0 $2 $3 $4" line found=1
   shift 4
-  made "$name" "$stdout" "$@"
+  made "$name" '?' "$@"
+  for line in "${unread[@]}"; do
+    [ "$line" != "$wanted" ] || found=0
+  done
+  [ "$found" = 0 ] || verdict "made: $built, $name, by the model" 1 'expected:' "$wanted" 'found:' "${unread[@]}"
 }
 
 # leaf_faults TREE BLOCK MOST ORDER RANGE: the tests of a leaf, alone and with what is tested after
@@ -93,32 +98,31 @@ single_leaves() {
   bad 'range before a staging record' refc 6 range --add 0:refc:40:0:2 --add 0:refc:0x80000028:1:1
 }
 
-# mapping NAME STDOUT RECORD: one more reverse mapping; one of block 40 alone is a file's own.
+# mapping NAME STDOUT RECORD: one more reverse mapping.
 mapping() { made "mapping $1" "$2" --add "0:rmap:$3"; }
 
 mappings() {
-  local owner word one
-  one=$(faulty 0 free 'bno missing 32 8' 'bno extra 32 224' 'bno missing 41 215' \
-    'cnt missing 32 8' 'cnt missing 41 215' 'cnt extra 32 224' 'counter freeblks 229 228' \
-    'counter longest 224 215')
+  local owner word shown
   build 'numbers of a mapping'
-  for owner in 0 195 2047 -3 -4 -5 -6 -7 -8 -9; do
-    mapping "of owner $owner" "$one" "40:1:$owner:0"
+  for owner in 0:0 195:195 2047:2047 -3:fs -4:log -5:ag -6:inobt -7:inodes -8:refc -9:cow; do
+    mapping "of owner ${owner%:*}" "$(mapped "extra 40 1 ${owner#*:} 0 -")" "40:1:${owner%:*}:0"
   done
   for owner in -1 -2 -10 2048 0x7fffffffffffffff; do
-    mapping "of owner $owner" "$(skipped 0)" "40:1:$owner:0"
+    mapping "of owner $owner" "$(mapped 'block 5 range')" "40:1:$owner:0"
   done
-  for word in 0x8000000000000005 0x4000000000000000 0xc000000000000000 0x2000000000000005 0x3fffffffffffff; do
-    mapping "with word $word" "$one" "40:1:195:$word"
+  for word in '0x8000000000000005 5 a' '0x4000000000000000 0 t' '0xc000000000000000 0 at' \
+    '0x2000000000000005 5 u' '0x3fffffffffffff 18014398509481983 -'; do
+    shown=${word#* } word=${word%% *}
+    mapping "with word $word" "$(mapped "extra 40 1 195 $shown")" "40:1:195:$word"
   done
   for word in 0x4000000000000001 0x6000000000000000 0xa000000000000000 0x1000000000000000 0x40000000000000; do
-    mapping "with word $word" "$(skipped 0)" "40:1:195:$word"
+    mapping "with word $word" "$(mapped 'block 5 range')" "40:1:195:$word"
   done
-  mapping 'past the last offset' "$(skipped 0)" 40:2:195:0x3fffffffffffff
-  mapping 'of a group with an offset' "$(skipped 0)" 40:1:-5:1
-  mapping 'of a group that is unwritten' "$(skipped 0)" 40:1:-5:0x2000000000000000
-  mapping 'of no blocks' "$(skipped 0)" 40:0:195:0
-  mapping 'past the group' "$(skipped 0)" 255:2:195:0
+  mapping 'past the last offset' "$(mapped 'block 5 range')" 40:2:195:0x3fffffffffffff
+  mapping 'of a group with an offset' "$(mapped 'block 5 range')" 40:1:-5:1
+  mapping 'of a group that is unwritten' "$(mapped 'block 5 range')" 40:1:-5:0x2000000000000000
+  mapping 'of no blocks' "$(mapped 'block 5 range')" 40:0:195:0
+  mapping 'past the group' "$(mapped 'block 5 range')" 255:2:195:0
 }
 
 # spoiled_everywhere TREE: one byte at each place of a tree of two or three levels.
@@ -264,8 +268,9 @@ shapes() {
   build 'several groups of two levels' --groups 3 --blocks 4000 --pieces 1200 --shared 700
   look bno
   made 'sound' "$(goods 3)"
+  look bno 1
   made 'a byte of a leaf of the second' \
-    "$(goods 1; faulty 1 free "bno block ${leaves[1]} checksum"; goods 1 2)" --spoil 1:bno:0:1:70
+    "$(sound 3; spaces 1; space 1 free "bno block ${leaves[1]} checksum"; spaces 1 2)" --spoil 1:bno:0:1:70
 }
 
 three_levels() {

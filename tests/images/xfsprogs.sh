@@ -14,8 +14,11 @@ real() {
 
 # place TREE: the words of xfs_db that go to a tree's root in group 0, or to the head itself.
 place() {
-  words_of_db=(-c 'agf 0')
-  [ "$1" = agf ] || words_of_db+=(-c "addr $1")
+  case $1 in
+  agi | root | free_root) words_of_db=(-c 'agi 0') ;;
+  *) words_of_db=(-c 'agf 0') ;;
+  esac
+  [ "$1" = agf ] || [ "$1" = agi ] || words_of_db+=(-c "addr $1")
 }
 
 # told TREE FIELD: a number of sound.img as xfs_db prints it.
@@ -62,47 +65,72 @@ flipped() {
   checked "real: $built, $1" "$2" real.img
 }
 
-# damaged REST: sound.img's leaves of group 0, damaged in turn. REST is what is said of the others.
+# damaged GROUPS: sound.img's leaves of group 0, damaged in turn. The other groups are good.
 damaged() {
-  local rest=$1 bno rmap length n start count m mapped mapped_count end
+  local groups=$1 bno rmap length n start count m mapped_count
   local uuid=01020304-0506-0708-090a-0b0c0d0e0f10
   bno=$(told agf bnoroot) rmap=$(told agf rmaproot) length=$(told agf length)
   n=$(told bnoroot numrecs) m=$(told rmaproot numrecs)
   read -r start count <<<"$(record bnoroot "$n")"
-  read -r mapped mapped_count _ <<<"$(record rmaproot "$m")"
-  end=$((mapped + mapped_count))
+  read -r _ mapped_count _ <<<"$(record rmaproot "$m")"
 
   # free_with LINE..: faults of free space in group 0
-  free_with() { faulty 0 free "$@" && lines "$rest"; }
+  free_with() { sound "$groups" && space 0 free "$@" && spaces $((groups - 1)) 1; }
 
   changed 'a shorter free run' "$(free_with "bno missing $start $count" "bno extra $start 7")" bnoroot \
     "recs[$n].blockcount 7"
   changed 'the last free run lost' "$(free_with "bno missing $start $count")" bnoroot "numrecs $((n - 1))"
-  if [ "$end" = "$start" ]; then
-    changed 'a shorter mapping before it' \
-      "$(free_with "bno missing $((start - 1)) $((count + 1))" "bno extra $start $count" \
-        "cnt extra $start $count" "cnt missing $((start - 1)) $((count + 1))" \
-        "counter freeblks $(told agf freeblks) $(($(told agf freeblks) + 1))" \
-        "counter longest $count $((count + 1))")" \
-      rmaproot "recs[$m].blockcount $((mapped_count - 1))"
-  fi
+  changed 'a longer mapping' '?' rmaproot "recs[$m].blockcount $((mapped_count + 1))"
+  changed 'the last mapping lost' '?' rmaproot "numrecs $((m - 1))"
+  changed 'a mapping of a file' '?' rmaproot "recs[$m].owner 128"
   flipped 'a byte of the free space leaf' "$(free_with "bno block $bno checksum")" "$bno"
-  flipped 'a byte of the mapping leaf' "$(skipped 0 && lines "$rest")" "$rmap"
-  changed 'a leaf of another place' "$(free_with "bno block $bno place")" bnoroot 'bno 16384'
-  changed 'a leaf of another group' "$(free_with "bno block $bno owner")" bnoroot 'owner 1'
+  flipped 'a byte of the mapping leaf' '?' "$rmap"
+  changed 'a leaf of another place' '?' bnoroot 'bno 16384'
+  changed 'a leaf of another group' '?' bnoroot 'owner 1'
   changed 'a leaf with a right sibling' "$(free_with "bno block $bno sibling")" bnoroot 'rightsib 5'
   changed 'a free run at block 0' "$(free_with "bno block $bno range")" bnoroot 'recs[1].startblock 0'
-  changed 'a mapping with an offset that may have none' "$(skipped 0 && lines "$rest")" rmaproot \
-    'recs[1].offset 1'
-  changed 'a root outside' "$(free_with "bno block $length range")" agf "bnoroot $length"
-  changed 'a root of another kind' "$(free_with "bno block $rmap magic")" agf "bnoroot $rmap"
+  changed 'a mapping with an offset that may have none' '?' rmaproot 'recs[1].offset 1'
+  changed 'a root outside' '?' agf "bnoroot $length"
+  changed 'a root of another kind' '?' agf "bnoroot $rmap"
   changed 'levels' "$(free_with "bno block $bno level")" agf 'bnolevel 2'
   changed 'longest' "$(free_with "counter longest 7 $count")" agf 'longest 7'
+  changed 'the blocks of the mappings' '?' agf 'rmapblocks 9999'
+  damaged_inodes "$groups"
   changed "the head's version" 'group 0 agf version' agf 'versionnum 2'
   changed "the head's group" 'group 0 agf seqno' agf 'seqno 5'
   changed "the head's length" 'group 0 agf length' agf "length $((length - 1))"
   changed "the head's uuid" 'group 0 agf uuid' agf "uuid $uuid"
   changed "the free list's count" 'group 0 agfl freelist 119' agf 'flcount 1'
+}
+
+# damaged_inodes GROUPS: the inodes of group 0, which are one chunk at least.
+damaged_inodes() {
+  local groups=$1 first free block count lost=()
+  read -r first _ _ free _ <<<"$(record root 1)"
+  count=$(told agi count) block=$((first / 8))
+
+  # inodes_with LINE..: faults of the inodes of group 0
+  inodes_with() {
+    local group
+    lines "${@/#/0 }" "0 inode faulty $#"
+    for ((group = 1; group < groups; group++)); do lines "$group inode good"; done
+    fallen
+  }
+
+  # fallen: what is skipped then
+  fallen() {
+    local group
+    for ((group = 0; group < groups; group++)); do lines "$group rmap skipped 0 inode"; done
+    for ((group = 0; group < groups; group++)); do skipped "$group"; done
+  }
+
+  changed 'count' "$(inodes_with "inode counter count 7 $count")" agi 'count 7'
+  changed 'freecount' "$(inodes_with "inode counter freecount 7 $(told agi freecount)")" agi 'freecount 7'
+  changed 'a chunk lost' '?' root 'numrecs 0'
+  changed 'a chunk with free inodes lost' '?' free_root 'numrecs 0'
+  for ((count = 1; count < groups; count++)); do lost+=("$count inode good"); done
+  flipped 'a byte of the first inode' "$(lines "0 inode gaveup badchunk $block checksum" "${lost[@]}" && fallen)" \
+    "$block"
 }
 
 # A file of mkfs.xfs's own form from which it fills a new file system.
@@ -114,8 +142,8 @@ prototype() {
 
 required='rmapbt=1,reflink=1,finobt=1'
 
-# sound NAME GROUPS SIZE OPTION..: an image of mkfs.xfs that is good in each group.
-sound() {
+# new NAME GROUPS SIZE OPTION..: an image of mkfs.xfs that is good in each group.
+new() {
   local name=$1 groups=$2
   shift 2
   real "$name" "$@" && checked "real: $name" "$(goods "$groups")" real.img
@@ -135,31 +163,31 @@ new_images() {
     built=$size
     mv real.img sound.img
     checked "real: $size" "$(goods 1)" sound.img
-    damaged ''
+    damaged 1
   done
   real 'three groups' 100M -m "$required" -d agcount=3 && {
     built='three groups'
     mv real.img sound.img
     checked 'real: three groups' "$(goods 3)" sound.img
-    damaged "$(goods 2 1)"
+    damaged 3
   }
 
   for groups in 2 5 16 50 128; do
-    sound "$groups groups of 16 MiB" "$groups" $((groups * 16))M -m "$required" -d agsize=16m
+    new "$groups groups of 16 MiB" "$groups" $((groups * 16))M -m "$required" -d agsize=16m
   done
-  sound 'a last group that is shorter' 4 112M -m "$required" -d agsize=32m
-  sound 'four groups of 1 GiB' 4 4G -m "$required" -d agcount=4
+  new 'a last group that is shorter' 4 112M -m "$required" -d agsize=32m
+  new 'four groups of 1 GiB' 4 4G -m "$required" -d agcount=4
   for inobtcount in 0 1; do
     for bigtime in 0 1; do
       for nrext64 in 0 1; do
-        sound "inobtcount=$inobtcount, bigtime=$bigtime, nrext64=$nrext64" 2 32M \
+        new "inobtcount=$inobtcount, bigtime=$bigtime, nrext64=$nrext64" 2 32M \
           -m "$required,inobtcount=$inobtcount,bigtime=$bigtime" -i "nrext64=$nrext64" -d agcount=2
       done
     done
   done
-  sound 'a log elsewhere' 2 32M -m "$required" -l logdev=log.img -d agcount=2
+  new 'a log elsewhere' 2 32M -m "$required" -l logdev=log.img -d agcount=2
   prototype
-  sound 'files' 2 32M -m "$required" -p prototype -d agcount=2
+  new 'files' 2 32M -m "$required" -p prototype -d agcount=2
 
   refused 'image feature 1' -m rmapbt=0
   refused 'image feature 2' -m rmapbt=1,reflink=0
@@ -187,14 +215,17 @@ used() {
   verdict "real: $built, by xfs_repair" $? "$(tail -n 3 xfs_repair.log)"
   checked "real: $built" "$(goods "$groups")" sound.img
   for tree in bno cnt refc; do
-    damaged_leaf "$tree" "$(goods $((groups - 1)) 1)"
+    damaged_leaf "$tree" "$groups"
   done
+  damaged_inodes "$groups"
+  changed 'a mapping lost' '?' rmaproot "numrecs $(($(told rmaproot numrecs) - 1))"
+  changed 'the blocks of the mappings' '?' agf 'rmapblocks 9999'
 }
 
-# damaged_leaf TREE REST: a record in the middle of a tree's leaf changed, and the last one lost.
-# REST is what is said of the other groups.
+# damaged_leaf TREE GROUPS: a record in the middle of a tree's leaf changed, and the last one lost. The other
+# groups are good.
 damaged_leaf() {
-  local tree=$1 rest=$2 unit root=${1/refc/refcnt}root count n block middle last start length refs write extra
+  local tree=$1 groups=$2 unit root=${1/refc/refcnt}root count n block middle last start length refs write extra
   unit=$(unit_of "$tree")
   count=$(told "$root" numrecs) block=$(told agf "$root")
   n=$(((count + 1) / 2))
@@ -209,9 +240,10 @@ damaged_leaf() {
   local faults=("$tree missing $middle" "$tree extra $extra")
   [ "$tree" != cnt ] || faults=("${faults[1]}" "${faults[0]}")
 
-  both "$tree, another record" "$(faulty 0 "$unit" "${faults[@]}" && lines "$rest")" "$root" -d "$write"
-  both "$tree, another record, not summed" \
-    "$(faulty 0 "$unit" "$tree block $block checksum" && lines "$rest")" "$root" -c "$write"
-  both "$tree, the last record lost" "$(faulty 0 "$unit" "$tree missing $last" && lines "$rest")" "$root" \
-    -d "numrecs $((count - 1))"
+  # with LINE..: what is said of the image
+  with() { sound "$groups" && space 0 "$unit" "$@" && spaces $((groups - 1)) 1; }
+
+  both "$tree, another record" "$(with "${faults[@]}")" "$root" -d "$write"
+  both "$tree, another record, not summed" "$(with "$tree block $block checksum")" "$root" -c "$write"
+  both "$tree, the last record lost" "$(with "$tree missing $last")" "$root" -d "numrecs $((count - 1))"
 }

@@ -1,11 +1,13 @@
 use crate::fresh::{small_image, small_with, two_groups_with};
-use crate::runs::{expect_check, expect_end, run_words};
+use crate::runs::{ALL_GOOD, SOUND, expect_end, run_words};
 use crate::trees::{at, bno_leaf, run};
 use blk_device::MemDevice;
 use byte_fields::Block;
 use fs_model::{AnyRec, Entry, Fault, Unit, Verdict};
+use sblock::{BlockFault, Kind};
+use std::alloc::{AllocError, Global};
 use std::test::Fail;
-use xscrub::{Purpose, judge};
+use xscrub::{MemHost, Purpose, RunEnd, judge};
 
 const USAGE: &str =
     "usage: xscrub JOB TARGET [--redo FILE] [--script FILE] [--rebuild] [--turns N]\n";
@@ -47,15 +49,20 @@ fn a_sound_image_is_good(rt: HostRuntime) -> Result<(), Fail> {
     let image = small_image(rt.alloc())?;
     let words = ["check", "a.img"];
     let (end, host) = run_words(rt.alloc(), &words, image, Vec::new(rt.alloc()))?;
-    expect_end(&rt, &end, &host, 0, "0 free good\n0 refc good\n")?;
+    expect_end(&rt, &end, &host, 0, ALL_GOOD)?;
     let good = |unit| Entry::Verdict {
         group: 0,
         unit,
         verdict: Verdict::Good,
     };
-    let journal = [good(Unit::Free), good(Unit::Refc)];
+    let journal = [
+        good(Unit::Inode),
+        good(Unit::Rmap),
+        good(Unit::Free),
+        good(Unit::Refc),
+    ];
     assert_eq!(rt; end.journal.as_slice(), journal.as_slice());
-    assert_eq!(rt; end.starts, [0, 2, 2]);
+    assert_eq!(rt; end.starts, [0, 4, 4]);
     assert_eq!(rt; host.asked.len(), 1);
     assert_eq!(rt; host.asked[0].image.as_str(), "a.img");
     assert_eq!(rt; host.asked[0].redo, None);
@@ -74,19 +81,25 @@ fn faults_stand_before_the_verdict(rt: HostRuntime) -> Result<(), Fail> {
     let image = two_groups_with(rt.alloc(), &[(1, short), (69, Block::zeroed())])?;
     let words = ["check", "a.img"];
     let (end, _host) = run_words(rt.alloc(), &words, image, Vec::new(rt.alloc()))?;
-    let fault_of = |fault| Entry::Fault {
-        group: 0,
-        unit: Unit::Free,
-        fault,
-    };
+    let fault_of = |group, unit, fault| Entry::Fault { group, unit, fault };
     let verdict_of = |group, unit, verdict| Entry::Verdict {
         group,
         unit,
         verdict,
     };
+    let unread = Fault::Block {
+        kind: Kind::Rmap,
+        block: 5,
+        fault: BlockFault::Magic,
+    };
     let wanted = [
-        fault_of(Fault::Missing(AnyRec::Bno(run(32, 32)))),
-        fault_of(Fault::Extra(AnyRec::Bno(run(32, 31)))),
+        verdict_of(0, Unit::Inode, Verdict::Good),
+        verdict_of(1, Unit::Inode, Verdict::Good),
+        verdict_of(0, Unit::Rmap, Verdict::Good),
+        fault_of(1, Unit::Rmap, unread),
+        verdict_of(1, Unit::Rmap, Verdict::Faulty(1)),
+        fault_of(0, Unit::Free, Fault::Missing(AnyRec::Bno(run(32, 32)))),
+        fault_of(0, Unit::Free, Fault::Extra(AnyRec::Bno(run(32, 31)))),
         verdict_of(0, Unit::Free, Verdict::Faulty(2)),
         verdict_of(0, Unit::Refc, Verdict::Good),
         verdict_of(1, Unit::Free, Verdict::Skipped(1, Unit::Rmap)),
@@ -96,38 +109,76 @@ fn faults_stand_before_the_verdict(rt: HostRuntime) -> Result<(), Fail> {
     Ok(())
 }
 
-#[test]
-fn each_read_of_the_device_may_fail(rt: HostRuntime) -> Result<(), Fail> {
-    // The superblock, the heads, and the trees in the order rmap, bno, cnt, refc: what is judged
-    // before the read that fails is shown.
-    let free = "0 bno missing 32 224\n0 bno extra 32 223\n0 free faulty 2\n";
-    let rows = [(0, ""), (1, ""), (2, ""), (3, ""), (4, ""), (5, free)];
-    for (call, shown) in &rows {
-        let short = bno_leaf(at(1), &[run(19, 5), run(32, 223)]);
-        let mut image = small_with(rt.alloc(), &[(1, short)])?;
-        image.failing.push(*call)?;
-        let words = ["check", "a.img"];
-        let (end, host) = run_words(rt.alloc(), &words, image, Vec::new(rt.alloc()))?;
-        let report = format!(in rt.alloc(); "{shown}device failed\n")?;
-        expect_end(&rt, &end, &host, 5, report.as_str())?;
-        assert_eq!(rt; [host.host_faults, host.dev_faults], [0, 1], "read {call}");
-    }
-    // A check makes no seventh call.
-    let mut image = small_image(rt.alloc())?;
-    image.failing.push(6)?;
-    expect_check(&rt, image, 0, "0 free good\n0 refc good\n")
+// What a check of the image with a run that is too short shows of its units, of none to all but the last,
+// and then that the device failed.
+const CUT_OFF: [&str; 4] = [
+    "device failed\n",
+    "0 inode good\ndevice failed\n",
+    "0 inode good\n0 rmap good\ndevice failed\n",
+    "0 inode good\n0 rmap good\n0 bno missing 32 224\n0 bno extra 32 223\n0 free faulty 2\n\
+        device failed\n",
+];
+
+// Checks that image, of whose device this call fails.
+fn check_failing(alloc: Global, call: u64) -> Result<(RunEnd, MemHost), AllocError> {
+    let short = bno_leaf(at(1), &[run(19, 5), run(32, 223)]);
+    let mut image = small_with(alloc, &[(1, short)])?;
+    image.failing.push(call)?;
+    run_words(alloc, &["check", "a.img"], image, Vec::new(alloc))
 }
 
 #[test]
-fn each_block_is_read_once_and_the_superblock_s_twice(rt: HostRuntime) -> Result<(), Fail> {
+fn each_read_of_the_device_may_fail(rt: HostRuntime) -> Result<(), Fail> {
+    // Superblock and heads are read before any unit. From then on what was judged before the read that
+    // fails is shown, each unit with all its lines, and each unit reads something.
+    let mut units = 0usize;
+    let mut most = 0;
+    for call in 0..1000u64 {
+        let (end, host) = check_failing(rt.alloc(), call)?;
+        if end.status == 1 {
+            break;
+        }
+        let report = str::from_utf8(host.report.as_slice())?;
+        if units < 3 && report == CUT_OFF[units + 1] {
+            units += 1;
+        }
+        assert_eq!(rt; report, CUT_OFF[units.min(3)], "read {call}");
+        assert_eq!(rt; end.status, 5);
+        assert_eq!(rt; [host.host_faults, host.dev_faults], [0, 1], "read {call}");
+        most = call;
+    }
+    assert_eq!(rt; units, 3);
+    // A check makes no call behind the last that it needs.
+    let (end, host) = check_failing(rt.alloc(), most.saturating_add(1))?;
+    let report = format!(in rt.alloc();
+        "{SOUND}0 bno missing 32 224\n0 bno extra 32 223\n0 free faulty 2\n0 refc good\n"
+    )?;
+    expect_end(&rt, &end, &host, 1, report.as_str())?;
+    assert_eq!(rt; host.dev_faults, 0);
+    Ok(())
+}
+
+#[test]
+fn how_often_each_block_is_read(rt: HostRuntime) -> Result<(), Fail> {
     let alloc = rt.alloc();
     let image = two_groups_with(alloc, &[])?;
     let mut dev = MemDevice::with_image(alloc, image.size, 1, image.blocks, Vec::new(alloc))?;
     assert!(rt; judge(alloc, &mut dev).is_ok());
     // The superblock is in block 0, beside the heads of group 0.
     assert_eq!(rt; dev.reads_at(0), 2);
-    for block in [64, 1, 2, 5, 6, 65, 66, 69, 70] {
-        assert_eq!(rt; dev.reads_at(block), 1, "block {block}");
+    assert_eq!(rt; dev.reads_at(64), 1);
+    for group in [0, 64u64] {
+        // Each btree is read for the inodes and for the reverse mappings; the inode btree besides for
+        // the chunks, and those of the group's space for their own units.
+        for block in [1, 2, 3, 5, 6] {
+            let at = group.wrapping_add(block);
+            assert_eq!(rt; dev.reads_at(at), 3, "block {at}");
+        }
+        assert_eq!(rt; dev.reads_at(group.wrapping_add(4)), 2);
+    }
+    // A chunk is read for its cores, and for the forks of its inodes.
+    for block in 24..32 {
+        assert_eq!(rt; dev.reads_at(block), 2, "block {block}");
     }
     Ok(())
 }
@@ -145,12 +196,14 @@ fn an_image_that_is_not_there_is_a_fault_of_the_host(rt: HostRuntime) -> Result<
 #[test]
 fn a_report_ends_where_the_sink_fails(rt: HostRuntime) -> Result<(), Fail> {
     let lines = [
+        "0 inode good\n",
+        "0 rmap good\n",
         "0 bno missing 32 224\n",
         "0 bno extra 32 223\n",
         "0 free faulty 2\n",
         "0 refc good\n",
     ];
-    for call in 0..4usize {
+    for call in 0..6usize {
         let mut report = String::new(rt.alloc());
         for line in &lines[..call] {
             report.push_str(line)?;
@@ -163,7 +216,7 @@ fn a_report_ends_where_the_sink_fails(rt: HostRuntime) -> Result<(), Fail> {
         let (end, host) = run_words(rt.alloc(), &["check", "a.img"], image, failing)?;
         expect_end(&rt, &end, &host, 5, report.as_str())?;
         assert_eq!(rt; host.sink_faults, 1);
-        assert_eq!(rt; end.journal.len(), 4);
+        assert_eq!(rt; end.journal.len(), 6);
     }
     let mut failing = Vec::new(rt.alloc());
     failing.push(0)?;

@@ -1,5 +1,6 @@
 //! How a journal that isn't the whole one is told.
-use fs_model::{Entry, Unit, Verdict};
+use dinode_core::CoreFault;
+use fs_model::{Entry, Evidence, Reason, Unit, Verdict};
 use std::alloc::{AllocError, Global};
 use std::collections::BTreeMap;
 use std::test::Fail;
@@ -54,5 +55,44 @@ fn what_was_found_is_told_and_then_why_there_is_no_more(rt: HostRuntime) -> Resu
     assert_eq!(rt; str::from_utf8(host.report.as_slice())?, "host failed\n");
     assert_eq!(rt; told.status, Status::Failed);
     assert_eq!(rt; Status::Full.code(), 7);
+    Ok(())
+}
+
+// How a journal with these verdicts on free space is told.
+fn status_of(alloc: Global, verdicts: &[Verdict]) -> Result<Status, AllocError> {
+    let mut journal = Vec::new(alloc);
+    for verdict in verdicts {
+        journal.push(Entry::Verdict {
+            group: 0,
+            unit: Unit::Free,
+            verdict: *verdict,
+        })?;
+    }
+    let (told, _host) = tell_to(alloc, Finding::Judged(journal), 9)?;
+    Ok(told.status)
+}
+
+#[test]
+fn the_verdicts_decide_the_status(rt: HostRuntime) -> Result<(), Fail> {
+    let evidence = Evidence::BadChunk {
+        block: 24,
+        fault: CoreFault::Checksum,
+    };
+    let gave_up = Verdict::GaveUp(Reason::Contradiction(evidence));
+    let skipped = Verdict::Skipped(0, Unit::Rmap);
+    let rows: [(&[Verdict], Status, u8); 7] = [
+        (&[Verdict::Good, Verdict::Good], Status::Clean, 0),
+        (&[Verdict::Good, Verdict::Faulty(1)], Status::Faulty, 1),
+        (&[skipped, Verdict::Good], Status::Faulty, 1),
+        (&[Verdict::Good, gave_up], Status::GaveUp, 6),
+        (&[Verdict::Faulty(2), gave_up], Status::GaveUp, 6),
+        (&[gave_up, skipped], Status::GaveUp, 6),
+        (&[gave_up, Verdict::Faulty(2)], Status::GaveUp, 6),
+    ];
+    for (verdicts, status, code) in &rows {
+        let found = status_of(rt.alloc(), *verdicts)?;
+        assert_eq!(rt; found, *status);
+        assert_eq!(rt; found.code(), *code);
+    }
     Ok(())
 }

@@ -1,10 +1,12 @@
-//! Images for tests, with all heads and the four space btrees of each group; the inode btrees
-//! aren't there, since a check doesn't read them.
-use crate::heads::{Group, heads_of};
+//! Images for tests. Heads, space btrees and reverse mappings are built here from outside; the inode
+//! btrees and the chunk are those of a new image.
+use crate::files::{chunk_with, file_core, with_file, written};
+use crate::heads::{Group, altered, heads_of, mended_heads};
 use crate::trees::{
     Place, at, bno_leaf, cnt_leaf, mapped, owned, refc_leaf, rmap_leaf, run, shared,
 };
 use byte_fields::Block;
+use fresh_image::fresh_block;
 use rmap_recs::RmapRec;
 use span_recs::{RefcRec, SpanRec};
 use std::alloc::{AllocError, Global};
@@ -42,7 +44,7 @@ pub(crate) fn small_owned() -> [RmapRec; 7] {
 }
 
 /// An image of so many blocks, which are these by their numbers, and zeros for the rest.
-pub(crate) fn image_of(
+pub(crate) fn bare_image(
     alloc: Global,
     size: u64,
     blocks: &[(u64, Block)],
@@ -56,6 +58,27 @@ pub(crate) fn image_of(
         blocks: map,
         failing: Vec::new(alloc),
     })
+}
+
+/// An image of so many blocks, whose first group has the inode btrees and the chunk of a new one. These
+/// blocks are those of the rest that aren't zeros, or are others.
+pub(crate) fn image_of(
+    alloc: Global,
+    size: u64,
+    blocks: &[(u64, Block)],
+) -> Result<MemImage, AllocError> {
+    let mut image = bare_image(
+        alloc,
+        size,
+        &[(3, fresh_block(1, 256, 3)), (4, fresh_block(1, 256, 4))],
+    )?;
+    for number in 24..32 {
+        image.blocks.insert(number, fresh_block(1, 256, number))?;
+    }
+    for (number, block) in blocks {
+        image.blocks.insert(*number, *block)?;
+    }
+    Ok(image)
 }
 
 /// The small image, of which these blocks are others.
@@ -107,6 +130,8 @@ pub(crate) fn two_groups_with(
             (64, heads_of(&second_of_two())),
             (65, bno_leaf(second(1), &[run(19, 45)])),
             (66, cnt_leaf(second(2), &[run(19, 45)])),
+            (67, fresh_block(2, 64, 67)),
+            (68, fresh_block(2, 64, 68)),
             (69, rmap_leaf(second(5), &small_owned()[..6])),
             (70, refc_leaf(second(6), &[])),
         ],
@@ -151,20 +176,37 @@ pub(crate) fn file_shared() -> [RefcRec; 3] {
 
 // The mappings of inode 195: block 40 and the blocks 50 and 51 at two offsets each, and block 60
 // at three.
+const FILE_RUNS: [(u32, u32, u64); 7] = [
+    (40, 1, 0),
+    (40, 1, 5),
+    (50, 2, 10),
+    (50, 2, 20),
+    (60, 1, 30),
+    (60, 1, 40),
+    (60, 1, 50),
+];
+
+// All reverse mappings, with those.
 fn file_owned(alloc: Global) -> Result<Vec<RmapRec>, AllocError> {
     let mut mappings = small_owned().to_vec(alloc)?;
-    for (start, count, offset) in [
-        (40, 1, 0),
-        (40, 1, 5),
-        (50, 2, 10),
-        (50, 2, 20),
-        (60, 1, 30),
-        (60, 1, 40),
-        (60, 1, 50),
-    ] {
-        mappings.push(mapped(start, count, 195, offset))?;
+    for (start, count, offset) in FILE_RUNS.iter() {
+        mappings.push(mapped(*start, *count, 195, *offset))?;
     }
     Ok(mappings)
+}
+
+// Block 24, with the inode.
+fn file_chunk(alloc: Global) -> Result<Block, AllocError> {
+    let mut stretches = Vec::new(alloc);
+    for (start, count, offset) in FILE_RUNS.iter() {
+        stretches.push(written(*offset, u64::from(*start), u64::from(*count)))?;
+    }
+    Ok(chunk_with(&file_core(stretches.as_slice())))
+}
+
+/// Block 0 of a group in which inode 195 is allocated.
+pub(crate) fn file_heads(of: &Group) -> Block {
+    mended_heads(altered(heads_of(of), 1052, 60))
 }
 
 /// The image of a file: the small image with an inode that maps four blocks, all of them shared.
@@ -180,11 +222,14 @@ pub(crate) fn file_with(alloc: Global, blocks: &[(u64, Block)]) -> Result<MemIma
     let mut image = small_with(
         alloc,
         &[
-            (0, heads_of(&group)),
+            (0, file_heads(&group)),
             (1, bno_leaf(at(1), &file_free())),
             (2, cnt_leaf(at(2), &sizes)),
+            (3, with_file(fresh_block(1, 256, 3))),
+            (4, with_file(fresh_block(1, 256, 4))),
             (5, rmap_leaf(at(5), mappings.as_slice())),
             (6, refc_leaf(at(6), &file_shared())),
+            (24, file_chunk(alloc)?),
         ],
     )?;
     for (number, block) in blocks {

@@ -1,7 +1,9 @@
 //! Block 0 of each group of a test image: superblock, AGF, AGI and AGFL.
 use byte_fields::{Block, put_sum, put_u16, put_u32, put_u64, sum_at};
 
-// The image's UUID: the bytes 1 to 16.
+/// The image's UUID, and its two halves.
+pub(crate) const UUID: [u8; 16] = [1, 2, 3, 4, 5, 6, 7, 8, 9, 10, 11, 12, 13, 14, 15, 16];
+
 pub(crate) const UUID_HIGH: u64 = 0x0102_0304_0506_0708;
 
 pub(crate) const UUID_LOW: u64 = 0x090a_0b0c_0d0e_0f10;

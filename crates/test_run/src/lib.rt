@@ -7,6 +7,8 @@ mod checks;
 #[cfg(test)]
 mod endings;
 #[cfg(test)]
+mod files;
+#[cfg(test)]
 mod fresh;
 #[cfg(test)]
 mod heads;
@@ -24,5 +26,7 @@ mod runs;
 mod spaces;
 #[cfg(test)]
 mod trees;
+#[cfg(test)]
+mod units;
 #[cfg(test)]
 mod unreadable;

@@ -1,6 +1,6 @@
 //! New images.
-use crate::fresh::{image_of, small_heads};
-use crate::runs::{expect_end, run_words, words_of};
+use crate::fresh::{bare_image, small_heads};
+use crate::runs::{ALL_GOOD, expect_end, run_words, words_of};
 use byte_fields::Block;
 use fresh_image::fresh_block;
 use std::alloc::{AllocError, Global};
@@ -36,7 +36,7 @@ fn a_new_image_takes_the_place_of_what_was_there_and_is_good(rt: HostRuntime) ->
     let alloc = rt.alloc();
     // Three blocks, one of them with heads; and one that is longer than the new image.
     for size in [3, 300] {
-        let before = image_of(alloc, size, &[(0, small_heads()), (2, small_heads())])?;
+        let before = bare_image(alloc, size, &[(0, small_heads()), (2, small_heads())])?;
         let (end, mut host) = run_words(alloc, &["make", "a.img"], before, Vec::new(alloc))?;
         expect_end(&rt, &end, &host, 0, "")?;
         assert_eq!(rt; end.journal.len(), 0);
@@ -49,7 +49,7 @@ fn a_new_image_takes_the_place_of_what_was_there_and_is_good(rt: HostRuntime) ->
         }
         let words = words_of(alloc, &["check", "a.img"])?;
         let end = fsck_main(alloc, &mut host, words.as_slice());
-        expect_end(&rt, &end, &host, 0, "0 free good\n0 refc good\n")?;
+        expect_end(&rt, &end, &host, 0, ALL_GOOD)?;
     }
     Ok(())
 }
@@ -81,7 +81,7 @@ fn each_call_of_the_device_that_fails_ends_the_making(rt: HostRuntime) -> Result
 #[test]
 fn an_image_that_can_t_be_made_is_the_host_s_fault(rt: HostRuntime) -> Result<(), Fail> {
     let alloc = rt.alloc();
-    let other = image_of(alloc, 3, &[(0, small_heads())])?;
+    let other = bare_image(alloc, 3, &[(0, small_heads())])?;
     let (end, host) = run_words(alloc, &["make", "b.img"], other, Vec::new(alloc))?;
     expect_end(&rt, &end, &host, 5, "host failed\n")?;
     assert_eq!(rt; host.host_faults, 1);

@@ -1,15 +1,13 @@
 //! Checks with a redo file beside the image.
 use crate::fresh::{small_heads, small_image, small_with};
 use crate::heads::{altered, mended_heads};
-use crate::runs::{expect_end, words_of};
+use crate::runs::{ALL_GOOD, expect_end, words_of};
 use byte_fields::Block;
 use std::alloc::{AllocError, Global};
 use std::collections::BTreeMap;
 use std::process::Abort;
 use std::test::Fail;
 use xscrub::{MemHost, MemImage, MemRedo, Purpose, RunEnd, fsck_main};
-
-const GOOD: &str = "0 free good\n0 refc good\n";
 
 // A block with this in its first byte.
 fn gate(first: u8) -> Block {
@@ -46,9 +44,9 @@ fn a_redo_file_is_looked_at_by_its_length_and_its_gate(rt: HostRuntime) -> Resul
     let rows = [
         (162, 1, 4, "redo waiting\n"),
         (200, 1, 4, "redo waiting\n"),
-        (162, 0, 0, GOOD),
-        (162, 7, 0, GOOD),
-        (162, 2, 0, GOOD),
+        (162, 0, 0, ALL_GOOD),
+        (162, 7, 0, ALL_GOOD),
+        (162, 2, 0, ALL_GOOD),
         (161, 0, 4, "redo short\n"),
         (161, 1, 4, "redo short\n"),
         (0, 1, 4, "redo short\n"),
@@ -81,7 +79,7 @@ fn a_redo_file_that_isn_t_there_holds_nothing(rt: HostRuntime) -> Result<(), Fai
     images.insert(String::from_str(alloc, "a.img")?, small_image(alloc)?)?;
     let mut host = MemHost::new(alloc, images, Vec::new(alloc));
     let end = fsck_main(alloc, &mut host, words.as_slice());
-    expect_end(&rt, &end, &host, 0, GOOD)
+    expect_end(&rt, &end, &host, 0, ALL_GOOD)
 }
 
 // An image of zeros.

@@ -5,6 +5,16 @@ use std::process::Abort;
 use std::test::Fail;
 use xscrub::{MemHost, MemImage, RunEnd, fsck_main};
 
+/// What a check of one group shows before its free space, where its inodes and its reverse mappings
+/// are good.
+pub(crate) const SOUND: &str = "0 inode good\n0 rmap good\n";
+
+/// And what it shows where all is good.
+pub(crate) const ALL_GOOD: &str = "0 inode good\n0 rmap good\n0 free good\n0 refc good\n";
+
+/// And after reverse mappings that aren't good.
+pub(crate) const SKIPPED: &str = "0 free skipped 0 rmap\n0 refc skipped 0 rmap\n";
+
 /// Words as a program is handed them.
 pub(crate) fn words_of(alloc: Global, words: &[&str]) -> Result<Vec<String>, AllocError> {
     let mut texts = Vec::new(alloc);

@@ -1,26 +1,26 @@
 //! Records and counters that differ from what the reverse mappings give.
+use crate::files::{chunk_with, file_core, with_file, written};
 use crate::fresh::{
-    file_free, file_shared, file_with, image_of, small_group, small_heads, small_owned, small_with,
-    two_groups_with,
+    file_free, file_heads, file_shared, file_with, image_of, small_group, small_heads, small_owned,
+    small_with, two_groups_with,
 };
 use crate::heads::{Group, NONE, altered, heads_of, mended_heads};
-use crate::runs::{expect_check, run_words};
+use crate::runs::{ALL_GOOD, SOUND, expect_check, run_words};
 use crate::trees::{
-    at, bno_leaf, bno_part, bno_root, cnt_leaf, owned, refc_leaf, rmap_leaf, run, shared,
+    at, bno_leaf, bno_part, bno_root, cnt_leaf, mapped, owned, refc_leaf, rmap_leaf, run, shared,
 };
-use byte_fields::Block;
+use fresh_image::fresh_block;
 use span_recs::{RefcRec, SpanRec};
 use std::alloc::{AllocError, Global};
 use std::test::Fail;
 use xscrub::MemImage;
 
-const ALL_GOOD: &str = "0 free good\n0 refc good\n";
-
 #[test]
 fn sound_groups_are_good(rt: HostRuntime) -> Result<(), Fail> {
     expect_check(&rt, small_with(rt.alloc(), &[])?, 0, ALL_GOOD)?;
     expect_check(&rt, file_with(rt.alloc(), &[])?, 0, ALL_GOOD)?;
-    let report = "0 free good\n0 refc good\n1 free good\n1 refc good\n";
+    let report = "0 inode good\n1 inode good\n0 rmap good\n1 rmap good\n\
+        0 free good\n0 refc good\n1 free good\n1 refc good\n";
     expect_check(&rt, two_groups_with(rt.alloc(), &[])?, 0, report)
 }
 
@@ -52,11 +52,12 @@ fn free_space_by_start_is_compared(rt: HostRuntime) -> Result<(), Fail> {
     ];
     for (records, shown) in &rows {
         let image = file_with(rt.alloc(), &[(1, bno_leaf(at(1), *records))])?;
-        let report = format!(in rt.alloc(); "0 bno {shown}\n0 refc good\n")?;
+        let report = format!(in rt.alloc(); "{SOUND}0 bno {shown}\n0 refc good\n")?;
         expect_check(&rt, image, 1, report.as_str())?;
     }
     let short = bno_leaf(at(1), &[run(19, 5), run(32, 223)]);
-    let report = "0 bno missing 32 224\n0 bno extra 32 223\n0 free faulty 2\n0 refc good\n";
+    let report = "0 inode good\n0 rmap good\n0 bno missing 32 224\n0 bno extra 32 223\n\
+        0 free faulty 2\n0 refc good\n";
     expect_check(&rt, small_with(rt.alloc(), &[(1, short)])?, 1, report)
 }
 
@@ -89,7 +90,7 @@ fn free_space_by_count_is_compared(rt: HostRuntime) -> Result<(), Fail> {
     ];
     for (records, shown) in &rows {
         let image = file_with(rt.alloc(), &[(2, cnt_leaf(at(2), *records))])?;
-        let report = format!(in rt.alloc(); "0 cnt {shown}\n0 refc good\n")?;
+        let report = format!(in rt.alloc(); "{SOUND}0 cnt {shown}\n0 refc good\n")?;
         expect_check(&rt, image, 1, report.as_str())?;
     }
     Ok(())
@@ -129,32 +130,35 @@ fn reference_counts_are_compared(rt: HostRuntime) -> Result<(), Fail> {
     ];
     for (records, shown) in &rows {
         let image = file_with(rt.alloc(), &[(6, refc_leaf(at(6), *records))])?;
-        let report = format!(in rt.alloc(); "0 free good\n0 refc {shown}\n")?;
+        let report = format!(in rt.alloc(); "{SOUND}0 free good\n0 refc {shown}\n")?;
         expect_check(&rt, image, 1, report.as_str())?;
     }
     let image = small_with(rt.alloc(), &[(6, refc_leaf(at(6), &[shared(32, 1, 2)]))])?;
-    let report = "0 free good\n0 refc extra 32 1 2\n0 refc faulty 1\n";
+    let report =
+        "0 inode good\n0 rmap good\n0 free good\n0 refc extra 32 1 2\n0 refc faulty 1\n";
     expect_check(&rt, image, 1, report)
 }
 
 #[test]
 fn a_run_in_two_records_is_not_that_run(rt: HostRuntime) -> Result<(), Fail> {
     let halves = bno_leaf(at(1), &[run(19, 5), run(32, 100), run(132, 124)]);
-    let report = "0 bno missing 32 224\n0 bno extra 32 100\n0 bno extra 132 124\n\
-        0 free faulty 3\n0 refc good\n";
+    let report = "0 inode good\n0 rmap good\n0 bno missing 32 224\n0 bno extra 32 100\n\
+        0 bno extra 132 124\n0 free faulty 3\n0 refc good\n";
     expect_check(&rt, small_with(rt.alloc(), &[(1, halves)])?, 1, report)?;
     let [a, _, c] = file_shared();
     let halves = refc_leaf(at(6), &[a, shared(50, 1, 2), shared(51, 1, 2), c]);
-    let report = "0 free good\n0 refc missing 50 2 2\n0 refc extra 50 1 2\n\
-        0 refc extra 51 1 2\n0 refc faulty 3\n";
+    let report = "0 inode good\n0 rmap good\n0 free good\n0 refc missing 50 2 2\n\
+        0 refc extra 50 1 2\n0 refc extra 51 1 2\n0 refc faulty 3\n";
     expect_check(&rt, file_with(rt.alloc(), &[(6, halves)])?, 1, report)?;
-    // The reverse mappings have no verdict of their own.
     let mut mappings = small_owned().to_vec(rt.alloc())?;
     mappings.pop();
     mappings.push(owned(24, 4, 7))?;
     mappings.push(owned(28, 4, 7))?;
     let halves = rmap_leaf(at(5), mappings.as_slice());
-    expect_check(&rt, small_with(rt.alloc(), &[(5, halves)])?, 0, ALL_GOOD)
+    let report = "0 inode good\n0 rmap missing 24 8 inodes 0 -\n0 rmap extra 24 4 inodes 0 -\n\
+        0 rmap extra 28 4 inodes 0 -\n0 rmap faulty 3\n0 free skipped 0 rmap\n\
+        0 refc skipped 0 rmap\n";
+    expect_check(&rt, small_with(rt.alloc(), &[(5, halves)])?, 1, report)
 }
 
 #[test]
@@ -168,21 +172,19 @@ fn counters_are_compared(rt: HostRuntime) -> Result<(), Fail> {
     ];
     for (at, value, shown) in &rows {
         let heads = mended_heads(altered(small_heads(), *at, *value));
-        let report = format!(in rt.alloc(); "{shown}0 free faulty 1\n0 refc good\n")?;
+        let report = format!(in rt.alloc(); "{SOUND}{shown}0 free faulty 1\n0 refc good\n")?;
         let image = small_with(rt.alloc(), &[(0, heads)])?;
         expect_check(&rt, image, 1, report.as_str())?;
     }
     for value in [0, 2] {
         let heads = mended_heads(altered(small_heads(), 596, value));
         let report = format!(in rt.alloc();
-            "0 free good\n0 refc counter refcount_blocks {value} 1\n0 refc faulty 1\n"
+            "{SOUND}0 free good\n0 refc counter refcount_blocks {value} 1\n0 refc faulty 1\n"
         )?;
         let image = small_with(rt.alloc(), &[(0, heads)])?;
         expect_check(&rt, image, 1, report.as_str())?;
     }
-    // The number of blocks of the reverse mappings belongs to no unit.
-    let heads = mended_heads(altered(small_heads(), 592, 7));
-    expect_check(&rt, small_with(rt.alloc(), &[(0, heads)])?, 0, ALL_GOOD)
+    Ok(())
 }
 
 #[test]
@@ -199,115 +201,149 @@ fn counters_come_after_the_records_of_their_unit(rt: HostRuntime) -> Result<(), 
         (2, cnt_leaf(at(2), &[run(32, 224)])),
         (6, refc_leaf(at(6), &[shared(32, 1, 2)])),
     ];
-    let report = "0 bno missing 32 224\n0 cnt missing 19 5\n0 free counter freeblks 9 229\n\
-        0 free counter longest 8 224\n0 free counter btreeblks 6 0\n0 free faulty 5\n\
+    let report = "0 inode good\n0 rmap good\n0 bno missing 32 224\n0 cnt missing 19 5\n\
+        0 free counter freeblks 9 229\n0 free counter longest 8 224\n\
+        0 free counter btreeblks 6 0\n0 free faulty 5\n\
         0 refc extra 32 1 2\n0 refc counter refcount_blocks 5 1\n0 refc faulty 2\n";
     expect_check(&rt, small_with(rt.alloc(), &blocks)?, 1, report)
 }
 
 #[test]
 fn a_group_without_free_blocks_is_good(rt: HostRuntime) -> Result<(), Fail> {
+    // A file has all that would be free.
     let group = Group {
         freeblks: 0,
         longest: 0,
         ..small_group()
     };
+    let file = file_core(&[written(0, 19, 5), written(5, 32, 224)]);
+    let [a, b, c, d, e, list, chunk] = small_owned();
+    let (low, high) = (mapped(19, 5, 195, 0), mapped(32, 224, 195, 5));
     let blocks = [
-        (0, heads_of(&group)),
+        (0, file_heads(&group)),
         (1, bno_leaf(at(1), &[])),
         (2, cnt_leaf(at(2), &[])),
-        (5, rmap_leaf(at(5), &[owned(0, 256, 3)])),
+        (3, with_file(fresh_block(1, 256, 3))),
+        (4, with_file(fresh_block(1, 256, 4))),
+        (5, rmap_leaf(at(5), &[a, b, c, d, e, list, low, chunk, high])),
+        (24, chunk_with(&file)),
     ];
-    expect_check(&rt, small_with(rt.alloc(), &blocks)?, 0, ALL_GOOD)?;
-    // And where no block has an owner, all are free.
-    let report = "0 bno missing 0 256\n0 bno extra 19 5\n0 bno extra 32 224\n\
-        0 cnt extra 19 5\n0 cnt extra 32 224\n0 cnt missing 0 256\n\
-        0 free counter freeblks 229 256\n0 free counter longest 224 256\n\
-        0 free faulty 8\n0 refc good\n";
-    let image = small_with(rt.alloc(), &[(5, rmap_leaf(at(5), &[]))])?;
-    expect_check(&rt, image, 1, report)
+    expect_check(&rt, small_with(rt.alloc(), &blocks)?, 0, ALL_GOOD)
 }
 
-// Block 0 of the image of full leaves.
-fn full_heads() -> Block {
-    heads_of(&Group {
+// Runs of one block each: of every second block from block 2 on those of these numbers.
+fn scattered(alloc: Global, from: u32, to: u32) -> Result<Vec<SpanRec>, AllocError> {
+    let mut runs = Vec::new(alloc);
+    for i in from..to {
+        runs.push(run(i.wrapping_mul(2).wrapping_add(2), 1))?;
+    }
+    Ok(runs)
+}
+
+// A group of 2048 blocks whose free runs by both trees are 505 of these, up to block 1010.
+fn full_leaves(alloc: Global) -> Result<MemImage, AllocError> {
+    let group = Group {
         len: 2048,
         agblklog: 11,
-        freeblks: 1880,
-        longest: 1712,
+        freeblks: 2021,
+        longest: 2016,
         ..small_group()
-    })
-}
-
-// An image of full leaves: 168 mappings, of block 1 and each second one after it up to 335; and by
-// both trees 505 free runs, of block 2 and each second one after it up to 1010.
-fn full_leaves(alloc: Global) -> Result<MemImage, AllocError> {
-    let mut mappings = Vec::new(alloc);
-    for i in 0..168u32 {
-        mappings.push(owned(2 * i + 1, 1, 5))?;
-    }
-    let mut free = Vec::new(alloc);
-    for i in 0..505u32 {
-        free.push(run(2 * i + 2, 1))?;
-    }
+    };
+    let runs = scattered(alloc, 0, 505)?;
     let blocks = [
-        (0, full_heads()),
-        (1, bno_leaf(at(1), free.as_slice())),
-        (2, cnt_leaf(at(2), free.as_slice())),
-        (5, rmap_leaf(at(5), mappings.as_slice())),
+        (0, heads_of(&group)),
+        (1, bno_leaf(at(1), runs.as_slice())),
+        (2, cnt_leaf(at(2), runs.as_slice())),
+        (5, rmap_leaf(at(5), &small_owned())),
         (6, refc_leaf(at(6), &[])),
     ];
     image_of(alloc, 2048, &blocks)
 }
 
 #[test]
-fn leaves_may_be_full(rt: HostRuntime) -> Result<(), Fail> {
+fn leaves_of_free_space_may_be_full(rt: HostRuntime) -> Result<(), Fail> {
     let alloc = rt.alloc();
     let words = ["check", "a.img"];
     let (end, host) = run_words(alloc, &words, full_leaves(alloc)?, Vec::new(alloc))?;
-    // Without an owner are 0, 2 to 334 and all from 336 on. So each tree lacks (0, 1) and
-    // (336, 1712), and has the 338 runs (336, 1) to (1010, 1) that aren't derived.
+    // Each tree lacks both free runs, and none of its 505 runs is derived. By count the derived ones
+    // come last.
     let report = str::from_utf8(host.report.as_slice())?;
-    let first = "0 bno missing 0 1\n0 bno missing 336 1712\n0 bno extra 336 1\n0 bno extra 338 1\n";
-    let middle = "0 bno extra 1010 1\n0 cnt missing 0 1\n0 cnt extra 336 1\n0 cnt extra 338 1\n";
-    let last = "0 cnt extra 1010 1\n0 cnt missing 336 1712\n0 free faulty 680\n0 refc good\n";
+    let first = "0 inode good\n0 rmap good\n0 bno extra 2 1\n0 bno extra 4 1\n";
+    let list = "0 bno extra 18 1\n0 bno missing 19 5\n0 bno extra 20 1\n";
+    let rest = "0 bno extra 30 1\n0 bno missing 32 2016\n0 bno extra 32 1\n";
+    let middle = "0 bno extra 1010 1\n0 cnt extra 2 1\n0 cnt extra 4 1\n";
+    let last = "0 cnt extra 1010 1\n0 cnt missing 19 5\n0 cnt missing 32 2016\n\
+        0 free faulty 1014\n0 refc good\n";
     assert!(rt; report.starts_with(first));
-    assert!(rt; report.contains(middle));
+    for lines in [list, rest, middle] {
+        assert!(rt; report.contains(lines));
+    }
     assert!(rt; report.ends_with(last));
     assert_eq!(rt; end.status, 1);
-    assert_eq!(rt; end.starts, [0, 682, 682]);
+    assert_eq!(rt; end.starts, [0, 1018, 1018]);
+    Ok(())
+}
+
+#[test]
+fn a_leaf_of_reverse_mappings_may_be_full(rt: HostRuntime) -> Result<(), Fail> {
+    let alloc = rt.alloc();
+    // 168 blocks of the group's own: block 1 and each second one after it up to 335. One of these
+    // mappings is derived, and six are that it lacks.
+    let mut mappings = Vec::new(alloc);
+    for i in 0..168u32 {
+        mappings.push(owned(2 * i + 1, 1, 5))?;
+    }
+    let mut image = full_leaves(alloc)?;
+    let leaf = rmap_leaf(at(5), mappings.as_slice());
+    image.blocks.insert(5, leaf)?;
+    let (end, host) = run_words(alloc, &["check", "a.img"], image, Vec::new(alloc))?;
+    let report = str::from_utf8(host.report.as_slice())?;
+    let first = "0 inode good\n0 rmap missing 0 1 fs 0 -\n0 rmap missing 1 2 ag 0 -\n\
+        0 rmap extra 1 1 ag 0 -\n0 rmap missing 3 2 inobt 0 -\n0 rmap extra 3 1 ag 0 -\n\
+        0 rmap missing 6 1 refc 0 -\n0 rmap missing 7 12 ag 0 -\n0 rmap extra 7 1 ag 0 -\n\
+        0 rmap extra 9 1 ag 0 -\n";
+    let last = "0 rmap extra 335 1 ag 0 -\n0 rmap faulty 173\n0 free skipped 0 rmap\n\
+        0 refc skipped 0 rmap\n";
+    assert!(rt; report.starts_with(first));
+    assert!(rt; report.contains("0 rmap extra 23 1 ag 0 -\n0 rmap missing 24 8 inodes 0 -\n"));
+    assert!(rt; report.ends_with(last));
+    assert_eq!(rt; end.status, 1);
+    assert_eq!(rt; end.starts, [0, 177, 177]);
     Ok(())
 }
 
 #[test]
 fn blocks_are_counted_where_the_trees_can_be_read(rt: HostRuntime) -> Result<(), Fail> {
     let alloc = rt.alloc();
-    // The free runs of the full leaf in two leaves, the blocks 3 and 4, below a root: the root and
-    // two blocks beside it, where the head counts five.
-    let mut low = Vec::new(alloc);
-    for i in 0..253u32 {
-        low.push(run(2 * i + 2, 1))?;
-    }
-    let mut high = Vec::new(alloc);
-    for i in 253..505u32 {
-        high.push(run(2 * i + 2, 1))?;
-    }
-    let mut image = full_leaves(alloc)?;
-    let heads = altered(altered(full_heads(), 540, 2), 572, 5);
-    image.blocks.insert(0, mended_heads(heads))?;
-    image
-        .blocks
-        .insert(1, bno_root(at(1), &[(run(2, 1), 3), (run(508, 1), 4)]))?;
-    image
-        .blocks
-        .insert(3, bno_part(at(3), low.as_slice(), NONE, 4))?;
-    image
-        .blocks
-        .insert(4, bno_part(at(4), high.as_slice(), 3, NONE))?;
+    // The scattered runs in two leaves, the blocks 19 and 20, below a root: two blocks beside it, where
+    // the head counts five. By count free space is right.
+    let low = scattered(alloc, 0, 253)?;
+    let high = scattered(alloc, 253, 505)?;
+    let group = Group {
+        len: 2048,
+        agblklog: 11,
+        freeblks: 2019,
+        longest: 2016,
+        ..small_group()
+    };
+    let heads = altered(altered(heads_of(&group), 540, 2), 572, 5);
+    let [a, b, c, d, e, _, chunk] = small_owned();
+    let blocks = [
+        (0, mended_heads(heads)),
+        (1, bno_root(at(1), &[(run(2, 1), 19), (run(508, 1), 20)])),
+        (2, cnt_leaf(at(2), &[run(21, 3), run(32, 2016)])),
+        (5, rmap_leaf(at(5), &[a, b, c, d, e, owned(7, 14, 5), chunk])),
+        (6, refc_leaf(at(6), &[])),
+        (19, bno_part(at(19), low.as_slice(), NONE, 20)),
+        (20, bno_part(at(20), high.as_slice(), 19, NONE)),
+    ];
+    let image = image_of(alloc, 2048, &blocks)?;
     let (end, host) = run_words(alloc, &["check", "a.img"], image, Vec::new(alloc))?;
     let report = str::from_utf8(host.report.as_slice())?;
-    assert!(rt; report.starts_with("0 bno missing 0 1\n0 bno missing 336 1712\n"));
-    assert!(rt; report.ends_with("0 free counter btreeblks 5 2\n0 free faulty 681\n0 refc good\n"));
-    assert_eq!(rt; end.starts, [0, 683, 683]);
+    let last = "0 bno extra 1010 1\n0 free counter btreeblks 5 2\n0 free faulty 508\n0 refc good\n";
+    assert!(rt; report.starts_with("0 inode good\n0 rmap good\n0 bno extra 2 1\n"));
+    assert!(rt; report.contains("0 bno extra 20 1\n0 bno missing 21 3\n0 bno extra 22 1\n"));
+    assert!(rt; report.ends_with(last));
+    assert_eq!(rt; end.starts, [0, 512, 512]);
     Ok(())
 }

@@ -5,13 +5,13 @@ use Rattle.blk_device.specs.Causes.{Rose}
 use Rattle.blk_device.specs.Taken.{Takes, TakesFront, IsFront}
 use Rattle.blk_device.proofs.TakenLemmas.{then, whole_front, takes_nothing}
 use Rattle.xscrub.proofs.ShownLemmas.{told_nothing}
-use Rattle.std.specs.List.{list_all}
+use Rattle.std.specs.List.{list_all, list_any}
 use Rattle.xscrub.specs.Ending.{IsShown, IsToldOf, IsFoundBy, Decides, EndsFor, HasOutcomeCause, IsSettled, IsOutcome, IsAsked, IsShort, IsOfImage, IsOfMake, IsWorded, IsImageLine, IsToldOrShort, NeedsMemory, EndsByWords, HasUnitsOf}
 use Rattle.xscrub.specs.Command.{Job, check_of, make_of, unbuilt, usage}
 use Rattle.xscrub.specs.Stored.{Request}
 use Rattle.xscrub.specs.Units.{HasAllUnits, HasFirstUnits, HasUnits}
 use Rattle.xscrub.proofs.UnitLemmas.{no_units, all_are_first, most_are_first}
-use Rattle.xscrub.specs.Outcome.{Outcome, is_calm, is_refusal, judged_status, judged_outcome, filled_outcome, made_outcome, stopped_outcome, ended_outcome, outcome_of}
+use Rattle.xscrub.specs.Outcome.{Outcome, is_calm, is_given_up, is_refusal, judged_status, judged_outcome, filled_outcome, made_outcome, stopped_outcome, ended_outcome, outcome_of}
 use Rattle.xscrub.specs.declared.ending.Finding.{Finding}
 use Rattle.xscrub.specs.declared.ending.Finding.TheVariants as findings
 use Rattle.run_text.specs.Report.{report_of}
@@ -117,16 +117,29 @@ told_memory found told journal cut n f g of lt is ends =
 at_status : (told : Outcome) (s : Status) (h h' d d' k k' : ℕ) → told.status ≡ s → EndsFor s told h h' d d' k k' → HasOutcomeCause told h h' d d' k k'
 at_status told s h h' d d' k k' is ends = subst (λ (t : Status). EndsFor t told h h' d d' k k') (sym is) ends
 
+both_ways : (b : Bool) → (b ≡ true) ⊎ (b ≡ false)
+both_ways true = inl refl
+both_ways false = inr refl
+
+-- the status of a journal, by both of its tests
+abbrev status_by : Bool → Bool → Status
+status_by calm given_up = cond calm statuses.Clean (cond given_up statuses.GaveUp statuses.Faulty)
+
 judged_ends : (journal : List Entry) (h h' d d' k k' : ℕ) → h' ≡ h → d' ≡ d → k' ≡ k → HasOutcomeCause (judged_outcome journal) h h' d d' k k'
-judged_ends journal h h' d d' k k' i j l =
-    elim (both_ways (list_all is_calm journal)) [
-      | inl calm ↦ at_status (judged_outcome journal) statuses.Clean h h' d d' k k' (ap (λ (b : Bool). cond b statuses.Clean statuses.Faulty) calm) (calm, refl, i, j, l)
-      | inr loud ↦ at_status (judged_outcome journal) statuses.Faulty h h' d d' k k' (ap (λ (b : Bool). cond b statuses.Clean statuses.Faulty) loud) (loud, refl, i, j, l)
-    ]
+judged_ends journal h h' d d' k k' i j l = by_calm (both_ways (list_all is_calm journal))
   where
-    both_ways : (b : Bool) → (b ≡ true) ⊎ (b ≡ false)
-    both_ways true = inl refl
-    both_ways false = inr refl
+    by_given_up : list_all is_calm journal ≡ false → (list_any is_given_up journal ≡ true) ⊎ (list_any is_given_up journal ≡ false) → HasOutcomeCause (judged_outcome journal) h h' d d' k k'
+    by_given_up loud (inl given) =
+        at_status (judged_outcome journal) statuses.GaveUp h h' d d' k k'
+        (ap (λ (b : Bool). status_by b (list_any is_given_up journal)) loud ∙ ap (λ (b : Bool). status_by false b) given) (given, refl, i, j, l)
+    by_given_up loud (inr none) =
+        at_status (judged_outcome journal) statuses.Faulty h h' d d' k k'
+        (ap (λ (b : Bool). status_by b (list_any is_given_up journal)) loud ∙ ap (λ (b : Bool). status_by false b) none) (loud, none, refl, i, j, l)
+
+    by_calm : (list_all is_calm journal ≡ true) ⊎ (list_all is_calm journal ≡ false) → HasOutcomeCause (judged_outcome journal) h h' d d' k k'
+    by_calm (inl calm) =
+        at_status (judged_outcome journal) statuses.Clean h h' d d' k k' (ap (λ (b : Bool). status_by b (list_any is_given_up journal)) calm) (calm, refl, i, j, l)
+    by_calm (inr loud) = by_given_up loud (both_ways (list_any is_given_up journal))
 
 found_ends : (finding : Finding) (h h' d d' k k' : ℕ) → IsFoundBy finding h h' d d' → ((outcome_of finding).last ≡ None → k' ≡ k) → HasOutcomeCause (outcome_of finding) h h' d d' k k'
 found_ends (findings.Judged journal) h h' d d' k k' cause calm = judged_ends journal.items h h' d d' k k' cause.0 cause.1 (calm refl)
@@ -235,11 +248,12 @@ full_not_refused : statuses.Full ≡ statuses.Refused → ⊥
 full_not_refused e = cc
 
 judged_not_usage : (journal : List Entry) → judged_status journal ≡ statuses.Usage → ⊥
-judged_not_usage journal e = either (list_all is_calm journal) e
+judged_not_usage journal e = either (list_all is_calm journal) (list_any is_given_up journal) e
   where
-    either : (b : Bool) → cond b statuses.Clean statuses.Faulty ≡ statuses.Usage → ⊥
-    either true e = cc
-    either false e = cc
+    either : (a b : Bool) → status_by a b ≡ statuses.Usage → ⊥
+    either true b e = cc
+    either false true e = cc
+    either false false e = cc
 
 found_not_usage : (given : Bool) (finding : Finding) → IsOfImage given finding → (outcome_of finding).status ≡ statuses.Usage → ⊥
 found_not_usage given (findings.Judged journal) of e = judged_not_usage journal.items e
@@ -278,11 +292,12 @@ told_not_unbuilt given finding told k k' of (inr (inl failed)) e = let clash : S
 told_not_unbuilt given finding told k k' of (inr (inr memory)) e = let clash : Some lines.Memory ≡ Some lines.Unbuilt = sym memory.1 ∙ e in cc
 
 judged_not_refused : (journal : List Entry) → judged_status journal ≡ statuses.Refused → ⊥
-judged_not_refused journal e = either (list_all is_calm journal) e
+judged_not_refused journal e = either (list_all is_calm journal) (list_any is_given_up journal) e
   where
-    either : (b : Bool) → cond b statuses.Clean statuses.Faulty ≡ statuses.Refused → ⊥
-    either true e = cc
-    either false e = cc
+    either : (a b : Bool) → status_by a b ≡ statuses.Refused → ⊥
+    either true b e = cc
+    either false true e = cc
+    either false false e = cc
 
 found_image : (given : Bool) (finding : Finding) → IsOfImage given finding → (outcome_of finding).status ≡ statuses.Refused → IsImageLine given (outcome_of finding).last
 found_image given (findings.Judged journal) of e = absurd (judged_not_refused journal.items e)
@@ -343,11 +358,12 @@ told_by_words (make_of name) finding told k k' worded ends = made_told finding t
 -- ---- the units of a journal
 
 judged_units : (journal : List Entry) → HasAllUnits journal → HasUnits (judged_status journal) journal
-judged_units journal all = either (list_all is_calm journal)
+judged_units journal all = either (list_all is_calm journal) (list_any is_given_up journal)
   where
-    either : (b : Bool) → HasUnits (cond b statuses.Clean statuses.Faulty) journal
-    either true = all
-    either false = all
+    either : (a b : Bool) → HasUnits (status_by a b) journal
+    either true b = all
+    either false true = all
+    either false false = all
 
 found_units : (given : Bool) (finding : Finding) → IsOfImage given finding → HasUnits (outcome_of finding).status (outcome_of finding).journal
 found_units given (findings.Judged journal) of = judged_units journal.items of

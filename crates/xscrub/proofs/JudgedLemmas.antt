@@ -9,10 +9,11 @@ use Rattle.geom.specs.declared.fault.ImageFault.{ImageFault}
 use Rattle.geom.specs.declared.fault.ImageFault.TheVariants.{DeviceShort}
 use Rattle.blk_device.specs.Taken.{IsFront}
 use Rattle.fs_model.specs.declared.entry.Entry.{Entry}
-use Rattle.space_check.specs.Checked.{checked, check_events, look}
+use Rattle.image_check.specs.Image.{IsKept, image_checked, image_events as groups_events}
+use Rattle.space_check.specs.Checked.{look}
 use Rattle.space_check.specs.Events.{Event}
 use Rattle.xscrub.specs.Image.{device_outcome, image_events, image_outcome, superblock_events, superblock_outcome, checked_outcome, refused}
-use Rattle.xscrub.specs.Judged.{HasDeviceFront, HasFrontOf, IsDeviceJudged, IsJudged, IsKept, Kept, journal_at, journal_in, judgement_outcome}
+use Rattle.xscrub.specs.Judged.{HasDeviceFront, HasFrontOf, IsDeviceJudged, IsJudged, Kept, journal_at, journal_in, judgement_outcome}
 use Rattle.xscrub.specs.Outcome.{Outcome}
 use Rattle.blk_device.specs.declared.device.Region.{Region}
 use Rattle.xscrub.specs.Ending.{stored_outcome}
@@ -48,17 +49,17 @@ module _ (size : ℕ) (image : ℕ → List ℕ) (bytes : List ℕ) (held : imag
   bad_superblock : (fault : ImageFault) → first_fault bytes size ≡ Some fault → image_outcome size image ≡ refused (lines.Image fault)
   bad_superblock fault bad = at_superblock ∙ ap (superblock_outcome (layout_of bytes) image) bad
 
-  good_superblock : (at : Layout) → first_fault bytes size ≡ None → at ≡ layout_of bytes → image_outcome size image ≡ checked_outcome (checked at image)
+  good_superblock : (at : Layout) → first_fault bytes size ≡ None → at ≡ layout_of bytes → image_outcome size image ≡ checked_outcome (image_checked at image)
   good_superblock at good same =
-      at_superblock ∙ ap (superblock_outcome (layout_of bytes) image) good ∙ ap (λ (l : Layout). checked_outcome (checked l image)) (sym same)
+      at_superblock ∙ ap (superblock_outcome (layout_of bytes) image) good ∙ ap (λ (l : Layout). checked_outcome (image_checked l image)) (sym same)
 
   at_events : image_events size image ≡ look ∷ superblock_events (layout_of bytes) image (first_fault bytes size)
   unfolding image_events
   at_events = ap (λ (b : List ℕ). look ∷ superblock_events (layout_of b) image (first_fault b size)) held
 
-  good_events : (at : Layout) → first_fault bytes size ≡ None → at ≡ layout_of bytes → image_events size image ≡ look ∷ check_events at image
+  good_events : (at : Layout) → first_fault bytes size ≡ None → at ≡ layout_of bytes → image_events size image ≡ look ∷ groups_events at image
   good_events at good same =
-      at_events ∙ ap (λ f. look ∷ superblock_events (layout_of bytes) image f) good ∙ ap (λ (l : Layout). look ∷ check_events l image) (sym same)
+      at_events ∙ ap (λ f. look ∷ superblock_events (layout_of bytes) image f) good ∙ ap (λ (l : Layout). look ∷ groups_events l image) (sym same)
 
 -- an image with a fault in its superblock
 pub judged_bad : (told : Option Contents) (size n : ℕ) (bytes : List ℕ) (fault : ImageFault) → n ≡ size → Holds Image 0 bytes told → first_fault bytes n ≡ Some fault
@@ -69,7 +70,7 @@ judged_bad (Some m) size n bytes fault same holds bad =
 
 -- an image whose superblock passes its tests, from what is found of its groups
 pub judged_groups : (told : Option Contents) (size n : ℕ) (bytes : List ℕ) (at : Layout) (found : Judgement) → n ≡ size → Holds Image 0 bytes told → first_fault bytes n ≡ None → at ≡ layout_of bytes
-    → IfSome told (λ m. judgement_outcome found ≡ checked_outcome (checked at (m Image))) → IsJudged told size found
+    → IfSome told (λ m. judgement_outcome found ≡ checked_outcome (image_checked at (m Image))) → IsJudged told size found
 judged_groups None size n bytes at found same holds good is groups = tt
 judged_groups (Some m) size n bytes at found same holds good is groups =
     groups ∙ sym (good_superblock n (m Image) bytes holds at good is) ∙ ap (λ (k : ℕ). image_outcome k (m Image)) same
@@ -113,18 +114,18 @@ kept_short (Some m) size line n = kept_unread (image_events size (m Image)) n
 
 -- its groups were checked, and that was stopped
 pub front_groups : (told : Option Contents) (size n : ℕ) (bytes : List ℕ) (at : Layout) (fault : JudgeFault) → n ≡ size → Holds Image 0 bytes told → first_fault bytes n ≡ None → at ≡ layout_of bytes
-    → IfSome told (λ m. IsFront (journal_at fault) (checked_outcome (checked at (m Image))).journal) → HasFrontOf told size fault
+    → IfSome told (λ m. IsFront (journal_at fault) (checked_outcome (image_checked at (m Image))).journal) → HasFrontOf told size fault
 front_groups None size n bytes at fault same holds good is front = tt
 front_groups (Some m) size n bytes at fault same holds good is front =
     let whole = sym (good_superblock n (m Image) bytes holds at good is) ∙ ap (λ (k : ℕ). image_outcome k (m Image)) same in
     subst (λ (o : Outcome). IsFront (journal_at fault) o.journal) whole front
 
 pub kept_groups : (told : Option Contents) (size n : ℕ) (bytes : List ℕ) (at : Layout) (result : Result Judgement JudgeFault) (before mid now : ℕ) → n ≡ size → Holds Image 0 bytes told → first_fault bytes n ≡ None → at ≡ layout_of bytes → mid ≤ before + 1
-    → IfSome told (λ m. IsKept (check_events at (m Image)) mid now (journal_in result)) → Kept told size before now result
+    → IfSome told (λ m. IsKept (groups_events at (m Image)) mid now (journal_in result)) → Kept told size before now result
 kept_groups None size n bytes at result before mid now same holds good is one kept = tt
 kept_groups (Some m) size n bytes at result before mid now same holds good is one kept =
     let whole = sym (good_events n (m Image) bytes holds at good is) ∙ ap (λ (k : ℕ). image_events k (m Image)) same in
-    subst (λ (es : List Event). IsKept es before now (journal_in result)) whole (kept_behind (check_events at (m Image)) before mid now (journal_in result) one kept)
+    subst (λ (es : List Event). IsKept es before now (journal_in result)) whole (kept_behind (groups_events at (m Image)) before mid now (journal_in result) one kept)
 
 pub units_none : (fault : JudgeFault) → journal_at fault ≡ [] → HasFirstUnits (journal_at fault)
 units_none fault none = subst HasFirstUnits (sym none) no_units

@@ -15,11 +15,12 @@ use Rattle.blk_device.specs.declared.device.Device.{Ghosts}
 use Rattle.blk_device.specs.declared.device.Region.TheVariants.{Image, Redo}
 use Rattle.fs_model.specs.declared.entry.Entry.{Entry}
 use Rattle.fresh_image.specs.Written.{AllButFresh, BecomesFresh, OthersStay}
+use Rattle.image_check.specs.Image.{IsKept}
 use Rattle.xscrub.specs.Command.{Job, check_of, make_of, unbuilt, usage}
 use Rattle.xscrub.specs.Ending.{CameBack, EndsUnopened, IsFreshFile, IsWorded, FindsBy, IsOfMake, IsSettled, IsToldOf, IsUnopened, LeavesStored, MakesImage, TellsBy, WasMade}
 use Rattle.xscrub.proofs.EndingLemmas.{told_none}
 use Rattle.xscrub.specs.Image.{device_events}
-use Rattle.xscrub.specs.Judged.{IsKept, KeptOfDevice, journal_in}
+use Rattle.xscrub.specs.Judged.{KeptOfDevice, journal_in}
 use Rattle.xscrub.specs.Outcome.{Outcome, outcome_of}
 use Rattle.xscrub.specs.Stored.{Stored, Loan, Out, Back, Lends, HasRoomFor, IsLent, IsNew, IsOpened, redo_named, stored_image, stored_with}
 use Rattle.xscrub.specs.declared.ending.Finding.{Finding}

@@ -1,21 +1,24 @@
 -- A redo file that a check looks at, and the blocks of one that are put on a device.
-use Rattle.std.proofs.Common.{◌≡◌, ◌<◌, ◌≤◌, ◌+◌, ℕ, zero, suc, List, [], ◌∷◌, Bool, true, false, cond, Option, Some, None, Result, Ok, Err, IfSome, ◌⊎◌, inl, inr, refl, sym, ◌∙◌, ap, subst, arith}
-use Rattle.std.specs.Prelude.{nat_lt, ◌==◌, if◌then◌else◌}
+use Rattle.std.proofs.Common.{◌≡◌, ◌<◌, ◌≤◌, ◌+◌, ◌-◌, ◌^◌, ℕ, zero, suc, List, [], ◌∷◌, Bool, true, false, cond, Option, Some, None, Result, Ok, Err, IfSome, ◌⊎◌, inl, inr, refl, sym, ◌∙◌, ap, subst, arith}
+use Rattle.std.specs.Prelude.{min, nat_lt, ◌==◌, if◌then◌else◌}
 use Rattle.std.proofs.lemmas.Bool.Decides.{nat_tests}
 use Rattle.byte_fields.specs.Zeros.{zeros}
 use Rattle.byte_fields.specs.declared.block.Block.{Block}
 use Rattle.std.specs.BTreeMap.{BTreeMap}
+use Rattle.blk_device.specs.Causes.{one_more}
 use Rattle.blk_device.specs.Contents.{Contents, map_told, put}
 use Rattle.blk_device.specs.Stored.{stored, with_stored}
 use Rattle.blk_device.specs.Taken.{IsFront}
 use Rattle.blk_device.specs.declared.device.Region.{Region}
 use Rattle.blk_device.specs.declared.device.Region.TheVariants.{Image, Redo}
 use Rattle.fs_model.specs.declared.entry.Entry.{Entry}
+use Rattle.image_check.specs.Image.{IsKept}
 use Rattle.redo_area.specs.Area.{is_open}
+use Rattle.redo_area.specs.Counts.{raised}
 use Rattle.redo_area.specs.declared.TheConstants.{REDO_BLOCKS}
 use Rattle.space_check.specs.Events.{Event}
 use Rattle.xscrub.specs.Image.{behind_gate, behind_redo, device_events, device_outcome, image_events, image_outcome, redo_refusal}
-use Rattle.xscrub.specs.Judged.{HasDeviceFront, HasFrontOf, IsDeviceJudged, IsJudged, IsKept, Kept, KeptOfDevice, TellsOfDevice, TellsOfImage, journal_at, journal_in, judgement_outcome}
+use Rattle.xscrub.specs.Judged.{HasDeviceFront, HasFrontOf, IsDeviceJudged, IsJudged, Kept, KeptOfDevice, TellsOfDevice, TellsOfImage, journal_at, journal_in, judgement_outcome}
 use Rattle.xscrub.specs.MemFiles.{redo_of, with_redo}
 use Rattle.xscrub.specs.Outcome.{Outcome, is_image_line, is_refusal}
 use Rattle.xscrub.specs.Stored.{Stored, opened}
@@ -156,6 +159,15 @@ module _ (held : ℕ → List ℕ) where
         twice : (told : Option Contents) → map_told (put Redo k (held k)) (map_told (with_redo held k) told) ≡ map_told (with_redo held (suc k)) told
         twice None = refl
         twice (Some c) = refl
+
+-- the number of a call behind others, as one sum
+pub raised_by : (call n : ℕ) → call ≤ 2 ^ 64 - 1 → min (call + n) (2 ^ 64 - 1) ≡ raised call n
+raised_by call zero small = omega (arith, small)
+raised_by call (suc n) small = let before = raised_by call n small in omega (arith, small, before)
+
+-- one call more was asked, of so many
+pub next_call : (at most before now : ℕ) → at < most → most ≤ 2 ^ 64 - 1 → before ≡ at → now ≡ one_more before → now ≡ at + 1
+next_call at most before now lt small same more = omega (arith, lt, small, same, more)
 
 -- a device over a copy of an image, with all of a redo file put there, has both
 pub opened_beside : (size : ℕ) (a b : BTreeMap ℕ Block) (redo : MemRedo) → ((n : ℕ) → stored b n ≡ stored a n)

@@ -8,15 +8,16 @@ use Rattle.blk_device.specs.Taken.{IsFront}
 use Rattle.blk_device.specs.declared.device.Region.TheVariants.{Image}
 use Rattle.fs_model.specs.declared.entry.Entry.{Entry}
 use Rattle.geom.specs.Layout.{Layout}
-use Rattle.space_check.specs.Checked.{Checked, RefusedHead, Judged as JudgedBy, Filled, checked as checked_image, look, check_events, IsCheck, MeetsHalt, MeetsCheck, CheckCause, StopsFor, journal_of}
+use Rattle.image_check.specs.Image.{IsKept, begun_of, image_checked, image_events as groups_events, journal_in as checked_journal}
+use Rattle.image_check.specs.Units.{HaltsInSession, IsSession}
+use Rattle.space_check.specs.Checked.{Checked, RefusedHead, Judged as JudgedBy, Filled, look, MeetsHalt, MeetsCheck, CheckCause, journal_of}
 use Rattle.space_check.proofs.EndLemmas.{empty_room}
-use Rattle.space_check.specs.Events.{Event, Moment, moment, most_entries, AreDone, IsCutOff, StopsIn}
-use Rattle.space_check.specs.Session.{HaltsInSession, IsSession}
+use Rattle.space_check.specs.Events.{Event, most_entries}
 use Rattle.space_check.specs.declared.halt.Halt.{Halt}
 use Rattle.space_check.specs.declared.halt.Halt.TheVariants as halts
 use Rattle.space_check.specs.declared.stop.CheckStop.{CheckStop}
 use Rattle.xscrub.specs.Image.{checked_outcome}
-use Rattle.xscrub.specs.Judged.{judgement_outcome, journal_at, journal_in, begun_of, JudgeCause, IsKept, Says, SaysStop, TellsOfImage}
+use Rattle.xscrub.specs.Judged.{judgement_outcome, journal_at, journal_in, JudgeCause, Says, SaysStop, TellsOfImage}
 use Rattle.xscrub.specs.Outcome.{is_image_line}
 use Rattle.xscrub.specs.Units.{HasAllUnits, HasItsMost, HasFirstUnits}
 use Rattle.xscrub.specs.declared.judging.JudgeFault.{JudgeFault}
@@ -102,109 +103,62 @@ says_units n (Err stop) fault says session = halt_units n stop fault says sessio
 
 -- ---- and how far the device was read for it
 
-has_room : (n most : ℕ) → n < most → nat_lt n most ≡ true
-has_room n most h = grind (arith, nat_tests)
+halt_journal : (n : ℕ) (stop : CheckStop) (result : Result Judgement JudgeFault) → SaysStop stop result → HaltsInSession n stop.cause stop.journal.items → journal_in result ≡ stop.journal.items
+halt_journal n stop (Ok (Judged journal)) says session = absurd says
+halt_journal n stop (Ok (Full journal)) says session = ap (λ (v : Vec Entry). v.items) says.1
+halt_journal n stop (Ok (Refused line)) says session = sym (subst (λ (h : Halt). HaltsInSession n h stop.journal.items) says.3 session)
+halt_journal n stop (Err (Device journal)) says session = ap (λ (v : Vec Entry). v.items) says.1
+halt_journal n stop (Err (Memory journal)) says session = ap (λ (v : Vec Entry). v.items) says.1
 
-has_none : (n most : ℕ) → most ≤ n → nat_lt n most ≡ false
-has_none n most h = grind (arith, nat_tests)
+-- the judgement has the journal of the check
+says_journal : (n : ℕ) (checked : Result (Vec Entry) CheckStop) (result : Result Judgement JudgeFault) → Says checked result → IsSession n checked → journal_in result ≡ checked_journal checked
+says_journal n (Ok journal) (Ok (Judged told)) says session = ap (λ (v : Vec Entry). v.items) says
+says_journal n (Ok journal) (Ok (Full told)) says session = absurd says
+says_journal n (Ok journal) (Ok (Refused line)) says session = absurd says
+says_journal n (Ok journal) (Err fault) says session = absurd says
+says_journal n (Err stop) result says session = halt_journal n stop result says session
 
-begun_next : (journal : List Entry) (next : Event) (rest : List Event) → length journal < most_entries → begun_of journal (next ∷ rest) ≡ next.reads
-begun_next journal next rest room = ap (λ (b : Bool). cond b next.reads 0) (has_room (length journal) most_entries room)
-
-begun_none : (journal : List Entry) (next : Event) (rest : List Event) → most_entries ≤ length journal → begun_of journal (next ∷ rest) ≡ 0
-begun_none journal next rest full = ap (λ (b : Bool). cond b next.reads 0) (has_none (length journal) most_entries full)
-
-module _ (at : Layout) (image : ℕ → List ℕ) (from after before now : ℕ) (counted : now + from ≤ before + after) where
-  -- all events were done
-  kept_whole : (journal : List Entry) → AreDone (check_events at image) (moment [] from) (moment journal after) → IsKept (check_events at image) before now journal
-  kept_whole journal d = record {
-    done = check_events at image;
-    rest = [];
-    whole = sym (append-nil (check_events at image));
-    entries = d.added;
-    read = omega (arith, counted, d.read);
-  }
-
-  -- the next one was cut off
-  kept_begun : (halt : Halt) (journal : List Entry) (s : StopsIn halt (check_events at image) (moment [] from) (moment journal after)) → IsCutOff s.next s.reached (moment journal after) → IsKept (check_events at image) before now journal
-  kept_begun halt journal s cut =
-      let room : length journal < most_entries = subst (λ (js : List Entry). length js < most_entries) (sym cut.none) cut.room in
-      record {
-        done = s.done;
-        rest = s.next ∷ s.rest;
-        whole = s.whole;
-        entries = cut.none ∙ s.front.added;
-        read = omega (arith, counted, cut.read, s.front.read, begun_next journal s.next s.rest room);
-      }
-
-  -- the next one found the journal full
-  kept_full : (journal : List Entry) (s : StopsIn halts.Full (check_events at image) (moment [] from) (moment journal after)) → IsKept (check_events at image) before now journal
-  kept_full journal s =
-      let same : journal ≡ s.reached.journal = ap (λ (m : Moment). m.journal) s.ended.1 in
-      let still : after ≡ s.reached.reads = ap (λ (m : Moment). m.reads) s.ended.1 in
-      let full : most_entries ≤ length journal = subst (λ (js : List Entry). most_entries ≤ length js) (sym same) s.ended.0 in
-      record {
-        done = s.done;
-        rest = s.next ∷ s.rest;
-        whole = s.whole;
-        entries = same ∙ s.front.added;
-        read = omega (arith, counted, still, s.front.read, begun_none journal s.next s.rest full);
-      }
-
-  halt_kept : (n : ℕ) (stop : CheckStop) (result : Result Judgement JudgeFault) → SaysStop stop result → HaltsInSession n stop.cause stop.journal.items → StopsFor at image stop.cause (moment [] from) (moment stop.journal.items after)
-      → IsKept (check_events at image) before now (journal_in result)
-  halt_kept n stop (Ok (Judged journal)) says session is = absurd says
-  halt_kept n stop (Ok (Full journal)) says session is =
-      let s = subst (λ (h : Halt). StopsFor at image h (moment [] from) (moment stop.journal.items after)) says.0 is in
-      subst (λ (v : Vec Entry). IsKept (check_events at image) before now v.items) (sym says.1) (kept_full stop.journal.items s)
-  halt_kept n stop (Ok (Refused line)) says session is =
-      let s = subst (λ (h : Halt). StopsFor at image h (moment [] from) (moment stop.journal.items after)) says.3 is in
-      let none = subst (λ (h : Halt). HaltsInSession n h stop.journal.items) says.3 session in
-      subst (λ (js : List Entry). IsKept (check_events at image) before now js) none (kept_whole stop.journal.items s.1)
-  halt_kept n stop (Err (Device journal)) says session is =
-      let s = subst (λ (h : Halt). StopsFor at image h (moment [] from) (moment stop.journal.items after)) says.0 is in
-      subst (λ (v : Vec Entry). IsKept (check_events at image) before now v.items) (sym says.1) (kept_begun halts.Failed stop.journal.items s s.ended)
-  halt_kept n stop (Err (Memory journal)) says session is =
-      let s = subst (λ (h : Halt). StopsFor at image h (moment [] from) (moment stop.journal.items after)) says.0 is in
-      subst (λ (v : Vec Entry). IsKept (check_events at image) before now v.items) (sym says.1) (kept_begun halts.Memory stop.journal.items s s.ended)
-
-  pub says_kept : (n : ℕ) (checked : Result (Vec Entry) CheckStop) (result : Result Judgement JudgeFault) → Says checked result → IsSession n checked → IsCheck at image from after checked
-      → IsKept (check_events at image) before now (journal_in result)
-  says_kept n (Ok journal) (Ok (Judged told)) says session is =
-      subst (λ (v : Vec Entry). IsKept (check_events at image) before now v.items) (sym says) (kept_whole journal.items is.1)
-  says_kept n (Ok journal) (Ok (Full told)) says session is = absurd says
-  says_kept n (Ok journal) (Ok (Refused line)) says session is = absurd says
-  says_kept n (Ok journal) (Err fault) says session is = absurd says
-  says_kept n (Err stop) result says session is = halt_kept n stop result says session is
+-- what was counted is what was read
+kept_as_counted : (events : List Event) (from after before now : ℕ) (journal journal' : List Entry) → now + from ≤ before + after → journal' ≡ journal → IsKept events from after journal → IsKept events before now journal'
+kept_as_counted events from after before now journal journal' counted same kept =
+    subst (λ (js : List Entry). IsKept events before now js) (sym same)
+    (record { done = kept.done; rest = kept.rest; whole = kept.whole; entries = kept.entries; read = omega (arith, counted, kept.read) })
 
 -- ---- the same of the answer
 
-pub told_if_ok : (content : Option Contents) (at : Layout) (checked : Result (Vec Entry) CheckStop) (result : Result Judgement JudgeFault) → Says checked result → IfSome content (λ m. MeetsCheck (checked_image at (m Image)) checked)
-    → IfOk result (λ found. IfSome content (λ m. judgement_outcome found ≡ checked_outcome (checked_image at (m Image))))
+pub told_if_ok : (content : Option Contents) (at : Layout) (checked : Result (Vec Entry) CheckStop) (result : Result Judgement JudgeFault) → Says checked result → IfSome content (λ m. MeetsCheck (image_checked at (m Image)) checked)
+    → IfOk result (λ found. IfSome content (λ m. judgement_outcome found ≡ checked_outcome (image_checked at (m Image))))
 told_if_ok None at checked (Ok found) says meets = tt
-told_if_ok (Some m) at checked (Ok found) says meets = says_outcome (checked_image at (m Image)) checked found says meets
+told_if_ok (Some m) at checked (Ok found) says meets = says_outcome (image_checked at (m Image)) checked found says meets
 told_if_ok content at checked (Err fault) says meets = tt
 
 pub line_if_ok : (n : ℕ) (checked : Result (Vec Entry) CheckStop) (result : Result Judgement JudgeFault) → 1 ≤ n → Says checked result → IsSession n checked → IfOk result TellsOfImage
 line_if_ok n checked (Ok found) some says session = says_line n checked found some says session
 line_if_ok n checked (Err fault) some says session = tt
 
-pub front_if_err : (content : Option Contents) (at : Layout) (checked : Result (Vec Entry) CheckStop) (result : Result Judgement JudgeFault) → Says checked result → IfSome content (λ m. MeetsCheck (checked_image at (m Image)) checked)
-    → IfErr result (λ fault. IfSome content (λ m. IsFront (journal_at fault) (checked_outcome (checked_image at (m Image))).journal))
+pub front_if_err : (content : Option Contents) (at : Layout) (checked : Result (Vec Entry) CheckStop) (result : Result Judgement JudgeFault) → Says checked result → IfSome content (λ m. MeetsCheck (image_checked at (m Image)) checked)
+    → IfErr result (λ fault. IfSome content (λ m. IsFront (journal_at fault) (checked_outcome (image_checked at (m Image))).journal))
 front_if_err content at checked (Ok found) says meets = tt
 front_if_err None at checked (Err fault) says meets = tt
-front_if_err (Some m) at checked (Err fault) says meets = says_front (checked_image at (m Image)) checked fault says meets
+front_if_err (Some m) at checked (Err fault) says meets = says_front (image_checked at (m Image)) checked fault says meets
 
-pub kept_if_told : (content : Option Contents) (at : Layout) (n from after before now : ℕ) (checked : Result (Vec Entry) CheckStop) (result : Result Judgement JudgeFault) → now + from ≤ before + after → Says checked result → IsSession n checked → IfSome content (λ m. IsCheck at (m Image) from after checked)
-    → IfSome content (λ m. IsKept (check_events at (m Image)) before now (journal_in result))
-kept_if_told None at n from after before now checked result counted says session is = tt
-kept_if_told (Some m) at n from after before now checked result counted says session is = says_kept at (m Image) from after before now counted n checked result says session is
+pub kept_if_told : (content : Option Contents) (at : Layout) (n from after before now : ℕ) (checked : Result (Vec Entry) CheckStop) (result : Result Judgement JudgeFault) → now + from ≤ before + after → Says checked result → IsSession n checked
+    → IfSome content (λ m. IsKept (groups_events at (m Image)) from after (checked_journal checked)) → IfSome content (λ m. IsKept (groups_events at (m Image)) before now (journal_in result))
+kept_if_told None at n from after before now checked result counted says session kept = tt
+kept_if_told (Some m) at n from after before now checked result counted says session kept =
+    kept_as_counted (groups_events at (m Image)) from after before now (checked_journal checked) (journal_in result) counted (says_journal n checked result says session) kept
 
 pub units_if_err : (n : ℕ) (checked : Result (Vec Entry) CheckStop) (result : Result Judgement JudgeFault) → Says checked result → IsSession n checked → IfErr result (λ fault. HasFirstUnits (journal_at fault))
 units_if_err n checked (Ok found) says session = tt
 units_if_err n checked (Err fault) says session = says_units n checked fault says session
 
 -- ---- with block 0
+
+has_room : (n most : ℕ) → n < most → nat_lt n most ≡ true
+has_room n most h = grind (arith, nat_tests)
+
+begun_next : (journal : List Entry) (next : Event) (rest : List Event) → length journal < most_entries → begun_of journal (next ∷ rest) ≡ next.reads
+begun_next journal next rest room = ap (λ (b : Bool). cond b next.reads 0) (has_room (length journal) most_entries room)
 
 -- block 0 was read before
 pub kept_behind : (events : List Event) (before mid now : ℕ) (journal : List Entry) → mid ≤ before + 1 → IsKept events mid now journal → IsKept (look ∷ events) before now journal

@@ -1,7 +1,7 @@
 -- What a whole run owes to whoever called it.
 use Rattle.std.specs.Prelude.{◌≡◌, ◌<◌, ◌≤◌, ◌⊎◌, ℕ, Bool, true, false, List, [], ◌∷◌, ◌++◌, length, Option, Some, None, IfSome, is_some, ⊤}
 use Rattle.std.specs.Str.{bytes_eq}
-use Rattle.std.specs.List.{list_all}
+use Rattle.std.specs.List.{list_all, list_any}
 use Rattle.blk_device.specs.Causes.{Rose}
 use Rattle.blk_device.specs.Contents.{Becomes}
 use Rattle.blk_device.specs.Crash.{IsDurable}
@@ -12,12 +12,12 @@ use Rattle.fresh_image.specs.Written.{AllButFresh, BecomesFresh, OthersStay}
 use Rattle.xscrub.specs.Command.{Job, check_of, make_of, unbuilt, usage}
 use Rattle.blk_device.specs.declared.device.Device.{Ghosts}
 use Rattle.blk_device.specs.declared.device.Region.TheVariants.{Image, Redo}
+use Rattle.blk_device.specs.declared.sink.Sink.{Ghosts as SinkGhosts}
 use Rattle.xscrub.specs.Image.{device_events, device_outcome}
-use Rattle.xscrub.specs.Outcome.{Outcome, outcome_of, code_of, is_calm, is_refusal, judged_outcome, made_outcome, filled_outcome, stopped_outcome, ended_outcome}
+use Rattle.xscrub.specs.Outcome.{Outcome, outcome_of, code_of, is_given_up, is_calm, is_refusal, judged_outcome, made_outcome, filled_outcome, stopped_outcome, ended_outcome}
 use Rattle.run_text.specs.Report.{report_of}
 use Rattle.xscrub.specs.LastLines.{is_fixed}
-use Rattle.xscrub.specs.Shown.{TakesFronts, last_text}
-use Rattle.xscrub.specs.Judged.{IsKept}
+use Rattle.xscrub.specs.Shown.{StopsAt, TakesFronts, last_text}
 use Rattle.xscrub.specs.Stored.{Stored, Request, Loan, Out, Back, Lends, IsOpened, asks, opened, redo_named}
 use Rattle.xscrub.specs.Units.{HasAllUnits, HasItsMost, HasFirstUnits, HasUnits}
 use Rattle.xscrub.specs.declared.ending.Finding.{Finding}
@@ -26,10 +26,12 @@ use Rattle.xscrub.specs.declared.ending.Status.{Status}
 use Rattle.xscrub.specs.declared.ending.Status.TheVariants as statuses
 use Rattle.xscrub.specs.declared.ending.Told.{Told}
 use Rattle.fs_model.specs.declared.entry.Entry.{Entry}
+use Rattle.image_check.specs.Image.{IsKept}
+use Rattle.xscrub.specs.declared.host.Host.{Ghosts as HostGhosts}
 use Rattle.xscrub.specs.declared.host.Purpose.TheVariants.{Check as ForCheck, Make as ForMake}
 use Rattle.xscrub.specs.declared.last_lines.LastLine.{LastLine}
 use Rattle.xscrub.specs.declared.last_lines.LastLine.TheVariants as lines
-use Rattle.xscrub.specs.declared.top.RunEnd.{RunEnd}
+use Rattle.xscrub.specs.declared.telling.TellStop.{TellStop}
 
 -- ---- what words and bytes decide
 
@@ -179,6 +181,10 @@ pub record IsFound (decided : Option Outcome) (host host' devices devices' : ℕ
   pub decides : Decides decided finding
   pub cause : IsFoundBy finding host host' devices devices'
 
+-- what is found where this is decided, by the counts of a host before and after it
+abbrev pub Finds : {H D : Type 0} → HostGhosts H D → Option Outcome → (old new : H) → Finding → Type 0
+Finds g decided old new finding = IsFound decided (g.host_faults old) (g.host_faults new) (g.dev_faults old) (g.dev_faults new) finding
+
 -- ---- how it is told
 
 abbrev pub told_outcome : Told → Outcome
@@ -204,6 +210,19 @@ IsToldOf found faults faults' told =
     ⊎ ((told.status ≡ statuses.Memory) × (told.last ≡ Some lines.Memory) × IsFront told.journal found.journal
     × (found.journal ≡ [] → NeedsMemory found.last)))
 
+-- Where the telling of a journal stopped, this is what is told after all, by the sink behind that stop and after the run:
+-- whatever the sink was before the journal, it took these lines since.
+abbrev pub ShowsStopped : {K : Type 0} → SinkGhosts K → (journal : List Entry) → TellStop → (old new : K) → Told → Type 0
+ShowsStopped k journal stop old new told =
+    (f : ℕ) (a : Option (List ℕ)) → f ≤ k.sink_faults old → StopsAt journal f (k.sink_faults old) a (k.taken old) stop
+    → IsShown told.journal.items told.last f (k.sink_faults new) a (k.taken new)
+
+-- and whatever was found with this journal, it is what is told of that
+abbrev pub TellsStopped : {K : Type 0} → SinkGhosts K → (journal : List Entry) → TellStop → (old new : K) → Told → Type 0
+TellsStopped k journal stop old new told =
+    (found : Outcome) (f : ℕ) (a : Option (List ℕ)) → found.journal ≡ journal → StopsAt journal f (k.sink_faults old) a (k.taken old) stop
+    → IsToldOf found f (k.sink_faults new) (told_outcome told)
+
 -- ---- the whole run
 
 -- why a run ends with a status, by the counts of host, devices and sink before and after it
@@ -211,7 +230,9 @@ abbrev pub EndsFor : Status → Outcome → (host host' devices devices' sink si
 EndsFor statuses.Clean told host host' devices devices' sink sink' =
     (list_all is_calm told.journal ≡ true) × (told.last ≡ None) × (host' ≡ host) × (devices' ≡ devices) × (sink' ≡ sink)
 EndsFor statuses.Faulty told host host' devices devices' sink sink' =
-    (list_all is_calm told.journal ≡ false) × (told.last ≡ None) × (host' ≡ host) × (devices' ≡ devices) × (sink' ≡ sink)
+    (list_all is_calm told.journal ≡ false) × (list_any is_given_up told.journal ≡ false) × (told.last ≡ None) × (host' ≡ host) × (devices' ≡ devices) × (sink' ≡ sink)
+EndsFor statuses.GaveUp told host host' devices devices' sink sink' =
+    (list_any is_given_up told.journal ≡ true) × (told.last ≡ None) × (host' ≡ host) × (devices' ≡ devices) × (sink' ≡ sink)
 EndsFor statuses.Usage told host host' devices devices' sink sink' = told ≡ ended_outcome statuses.Usage lines.Usage
 EndsFor statuses.Refused told host host' devices devices' sink sink' = (line : LastLine) × (told ≡ ended_outcome statuses.Refused line)
 EndsFor statuses.Failed told host host' devices devices' sink sink' =
@@ -227,6 +248,7 @@ HasOutcomeCause told host host' devices devices' sink sink' = EndsFor told.statu
 abbrev pub IsSettled : Status → Type 0
 IsSettled statuses.Clean = ⊤
 IsSettled statuses.Faulty = ⊤
+IsSettled statuses.GaveUp = ⊤
 IsSettled statuses.Usage = ⊤
 IsSettled statuses.Refused = ⊤
 IsSettled statuses.Full = ⊤

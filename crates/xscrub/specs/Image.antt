@@ -1,14 +1,15 @@
--- How the check of an image ends, as its bytes decide it: the superblock, the heads of all groups,
--- and then the units of each group.
+-- How the check of an image ends, as its bytes decide it: the superblock, the heads of all groups, and then the units of
+-- all groups in the order of a session.
 use Rattle.std.specs.Prelude.{ℕ, Bool, true, false, nat_lt, if◌then◌else◌, List, [], ◌∷◌, Option, Some, None}
 use Rattle.blk_device.specs.Contents.{Contents}
 use Rattle.blk_device.specs.declared.device.Region.TheVariants.{Image}
 use Rattle.geom.specs.Layout.{Layout, layout_of}
 use Rattle.geom.specs.Superblock.{first_fault}
 use Rattle.geom.specs.declared.fault.ImageFault.{ImageFault}
+use Rattle.image_check.specs.Image.{image_checked, image_events as groups_events}
 use Rattle.redo_area.specs.Area.{is_open}
 use Rattle.redo_area.specs.declared.TheConstants.{REDO_BLOCKS}
-use Rattle.space_check.specs.Checked.{Checked, RefusedHead, Judged, Filled, look, check_events, checked}
+use Rattle.space_check.specs.Checked.{Checked, RefusedHead, Judged, Filled, look}
 use Rattle.space_check.specs.Events.{Event}
 use Rattle.xscrub.specs.Outcome.{Outcome, judged_outcome, filled_outcome, ended_outcome}
 use Rattle.xscrub.specs.declared.ending.Status.TheVariants as statuses
@@ -28,7 +29,7 @@ checked_outcome (Filled entries) = filled_outcome entries
 
 abbrev pub superblock_outcome : Layout → (ℕ → List ℕ) → Option ImageFault → Outcome
 superblock_outcome at image (Some fault) = refused (lines.Image fault)
-superblock_outcome at image None = checked_outcome (checked at image)
+superblock_outcome at image None = checked_outcome (image_checked at image)
 
 -- an image of so many blocks
 unfoldable pub image_outcome : ℕ → (ℕ → List ℕ) → Outcome
@@ -39,7 +40,7 @@ image_outcome size image = superblock_outcome (layout_of (image 0)) image (first
 -- the check of the groups, where the superblock passes
 abbrev pub superblock_events : Layout → (ℕ → List ℕ) → Option ImageFault → List Event
 superblock_events at image (Some fault) = []
-superblock_events at image None = check_events at image
+superblock_events at image None = groups_events at image
 
 -- block 0 is read first
 unfoldable pub image_events : ℕ → (ℕ → List ℕ) → List Event

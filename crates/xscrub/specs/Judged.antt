@@ -1,5 +1,5 @@
 -- What is found of a device, by the image that it holds.
-use Rattle.std.specs.Prelude.{◌≡◌, ◌≤◌, ℕ, ◌+◌, nat_lt, if◌then◌else◌, List, [], ◌∷◌, ◌++◌, length, Bool, true, false, Option, Result, Ok, Err, IfSome}
+use Rattle.std.specs.Prelude.{◌≡◌, ℕ, List, Bool, true, false, Option, Result, Ok, Err, IfSome}
 use Rattle.std.specs.Global.{Vec}
 use Rattle.ag_headers.specs.declared.fault.HeadFault.{HeadFault}
 use Rattle.blk_device.specs.Causes.{HasCause}
@@ -9,7 +9,7 @@ use Rattle.blk_device.specs.declared.device.Region.TheVariants.{Image, Redo}
 use Rattle.blk_device.specs.Taken.{IsFront}
 use Rattle.fs_model.specs.declared.entry.Entry.{Entry}
 use Rattle.fs_model.specs.declared.unit.Head.{Head}
-use Rattle.space_check.specs.Events.{Event, entries_of, reads_of, most_entries}
+use Rattle.image_check.specs.Image.{IsKept}
 use Rattle.space_check.specs.declared.halt.Halt.TheVariants as halts
 use Rattle.space_check.specs.declared.stop.CheckStop.{CheckStop}
 use Rattle.xscrub.specs.Image.{device_events, device_outcome, image_events, image_outcome}
@@ -55,20 +55,6 @@ is_device (Memory journal) = false
 -- a failed device is told only where its count rose, and no other answer moves the count
 abbrev pub JudgeCause : {T : Type 0} → ℕ → ℕ → Result T JudgeFault → Type 0
 JudgeCause before now result = HasCause is_device before now result
-
--- what the next of these events reads, where the journal has room for it
-abbrev pub begun_of : List Entry → List Event → ℕ
-begun_of journal [] = 0
-begun_of journal (next ∷ rest) = if nat_lt (length journal) most_entries then next.reads else 0
-
--- Of these events the first were done, with these entries, and the device was read no more than for
--- them and for the next one, which begins only where the journal has room.
-pub record IsKept (events : List Event) (before now : ℕ) (journal : List Entry) : Type 0 where
-  pub done : List Event
-  pub rest : List Event
-  pub whole : events ≡ done ++ rest
-  pub entries : journal ≡ entries_of done
-  pub read : now ≤ before + (reads_of done + begun_of journal rest)
 
 -- an answer has what was judged by all that was read, where the device tells its content
 abbrev pub Kept : Option Contents → ℕ → (before now : ℕ) → Result Judgement JudgeFault → Type 0

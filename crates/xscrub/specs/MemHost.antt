@@ -1,6 +1,8 @@
 -- What a host in memory stands for.
 use Rattle.std.specs.Prelude.{◌≡◌, ℕ, List, map, Option, None, IsSome}
 use Rattle.std.specs.BTreeMap.{get_by_text}
+use Rattle.std.specs.Option.{option_map}
+use Rattle.redo_area.specs.Counts.{raised}
 use Rattle.xscrub.specs.Asked.{request_of}
 use Rattle.xscrub.specs.MemFiles.{file_named, failing_named, redo_file_named}
 use Rattle.blk_device.specs.declared.memory.MemDevice.{MemDevice}
@@ -13,6 +15,10 @@ stored_by host name = file_named host.images name
 -- the numbers of the device calls that are to fail on the image of that name
 abbrev pub failing_by : MemHost → List ℕ → Option (List ℕ)
 failing_by host name = failing_named host.images name
+
+-- behind so many others
+abbrev pub failing_behind : (others : ℕ) → MemHost → List ℕ → Option (List ℕ)
+failing_behind others host name = option_map (map (λ call. raised call others)) (failing_by host name)
 
 abbrev pub redo_files_by : MemHost → List ℕ → Option Stored
 redo_files_by host name = redo_file_named host.redos name

@@ -1,6 +1,6 @@
 -- How a run ends: its status, its journal, and the line that comes last.
 use Rattle.std.specs.Prelude.{ℕ, Bool, true, false, if◌then◌else◌, List, [], Option, Some, None}
-use Rattle.std.specs.List.{list_all}
+use Rattle.std.specs.List.{list_all, list_any}
 use Rattle.fs_model.specs.declared.entry.Entry.{Entry}
 use Rattle.fs_model.specs.declared.entry.Entry.TheVariants as entries
 use Rattle.fs_model.specs.declared.verdict.Verdict.{Verdict}
@@ -24,6 +24,7 @@ code_of statuses.Faulty = 1
 code_of statuses.Usage = 2
 code_of statuses.Refused = 4
 code_of statuses.Failed = 5
+code_of statuses.GaveUp = 6
 code_of statuses.Full = 7
 code_of statuses.Memory = 8
 
@@ -40,9 +41,24 @@ abbrev pub is_calm : Entry → Bool
 is_calm (entries.Verdict group unit verdict) = is_calm_verdict verdict
 is_calm entry = true
 
--- clean where no verdict speaks against the image, else faulty
+-- the verdict gives its unit up
+abbrev pub is_given_up_verdict : Verdict → Bool
+is_given_up_verdict verdicts.Good = false
+is_given_up_verdict (verdicts.Faulty n) = false
+is_given_up_verdict verdicts.Rebuilt = false
+is_given_up_verdict (verdicts.Skipped of cause) = false
+is_given_up_verdict (verdicts.GaveUp reason) = true
+
+-- the entry is a verdict that gives its unit up
+abbrev pub is_given_up : Entry → Bool
+is_given_up (entries.Verdict group unit verdict) = is_given_up_verdict verdict
+is_given_up entry = false
+
+-- clean where no verdict speaks against the image; else given up where a unit was, and faulty where none was
 abbrev pub judged_status : List Entry → Status
-judged_status journal = if list_all is_calm journal then statuses.Clean else statuses.Faulty
+judged_status journal =
+    if list_all is_calm journal then statuses.Clean
+    else (if list_any is_given_up journal then statuses.GaveUp else statuses.Faulty)
 
 abbrev pub judged_outcome : List Entry → Outcome
 judged_outcome journal = record { status = judged_status journal; journal = journal; last = None }

@@ -64,6 +64,10 @@ IsOpened None redo content blocks = content ≡ None
 IsOpened (Some file) None content blocks = ⊥
 IsOpened (Some file) (Some redo) content blocks = (content ≡ Some (opened file redo)) × (blocks Image ≡ file.size) × (blocks Redo ≡ redo.size)
 
+-- of the device itself
+abbrev pub Opened : {D : Type 0} → Ghosts D → (image redo : Option Stored) → D → Type 0
+Opened g file redo dev = IsOpened file redo (g.content dev) (g.blocks dev)
+
 -- a device over a new image of so many blocks: zeros, where the host tells what its images hold
 abbrev pub IsNew : Bool → ℕ → Option Contents → (Region → ℕ) → Type 0
 IsNew tells n content blocks = (content ≡ (if tells then Some blank else None)) × (blocks Image ≡ n)
@@ -74,7 +78,7 @@ abbrev pub IsLent : Purpose → Bool → (image redo : Option Stored) → Option
 IsLent (Make n) tells file redo content blocks = IsNew tells n content blocks
 IsLent other tells file redo content blocks = IsOpened file redo content blocks
 
--- of the device itself
+-- the device itself
 abbrev pub Lent : {D : Type 0} → Ghosts D → Purpose → Bool → (image redo : Option Stored) → D → Type 0
 Lent g purpose tells file redo dev = IsLent purpose tells file redo (g.content dev) (g.blocks dev)
 

@@ -1,10 +1,10 @@
--- What a journal has, whether or not the host tells the image: the units of all groups in order,
--- each with its faults and then its verdict; or the first of them.
+-- What a journal has, whether or not the host tells the image: the units of all groups in the order of a session, each
+-- with its faults and its verdict, given up, or skipped for a unit that it needs; or the first of them.
 use Rattle.std.specs.Prelude.{◌≡◌, ⊤, ℕ, ◌≤◌, ◌++◌, List, []}
 use Rattle.blk_device.specs.Taken.{IsFront}
 use Rattle.fs_model.specs.declared.entry.Entry.{Entry}
+use Rattle.image_check.specs.Units.{AreUnits, HasUnits as HasUnitsOfGroups, StopsInUnits}
 use Rattle.space_check.specs.Events.{Event, entries_of}
-use Rattle.space_check.specs.Session.{AreOfGroups, HasGroups, StopsInGroups}
 use Rattle.space_check.specs.declared.halt.Halt.TheVariants.{Full}
 use Rattle.xscrub.specs.declared.ending.Status.{Status}
 use Rattle.xscrub.specs.declared.ending.Status.TheVariants as statuses
@@ -12,19 +12,19 @@ use Rattle.xscrub.specs.declared.ending.Status.TheVariants as statuses
 pub record HasAllUnits (journal : List Entry) : Type 0 where
   pub groups : ℕ
   pub some : 1 ≤ groups
-  pub units : HasGroups groups [] journal
+  pub units : HasUnitsOfGroups groups [] journal
 
 -- those before one that found the journal full
 pub record HasItsMost (journal : List Entry) : Type 0 where
   pub groups : ℕ
-  pub full : StopsInGroups groups Full [] journal
+  pub full : StopsInUnits groups Full [] journal
 
 -- the first units, each with all its entries; the rest isn't there
 pub record HasFirstUnits (journal : List Entry) : Type 0 where
   pub groups : ℕ
   pub done : List Event
   pub rest : List Event
-  pub units : AreOfGroups groups (done ++ rest)
+  pub units : AreUnits groups (done ++ rest)
   pub entries : journal ≡ entries_of done
 
 -- a front of such entries, as far as there was memory to tell them
@@ -34,6 +34,7 @@ HasFront journal = (whole : List Entry) × HasFirstUnits whole × IsFront journa
 abbrev pub HasUnits : Status → List Entry → Type 0
 HasUnits statuses.Clean journal = HasAllUnits journal
 HasUnits statuses.Faulty journal = HasAllUnits journal
+HasUnits statuses.GaveUp journal = HasAllUnits journal
 HasUnits statuses.Full journal = HasItsMost journal
 HasUnits statuses.Usage journal = ⊤
 HasUnits statuses.Refused journal = ⊤

@@ -18,6 +18,17 @@ static JOBS: [&str; 7] = [
     "A name that begins with a dash goes behind --, as in: xscrub check -- -disk.img",
 ];
 
+// What the evidence means for which a unit is given up, and what to do.
+static EVIDENCE: [&str; 7] = [
+    "A unit was given up: what it is judged by contradicts itself. Its line says how:",
+    "  overlap BLOCK FIRST SECOND: two owners claim the block, and one of them is wrong.",
+    "  badfork INODE ..: what the inode says of its own blocks can't be right.",
+    "  badchunk BLOCK ..: an inode in the block is damaged, where both btrees list it.",
+    "  badtree rmap BLOCK: neither of the two btrees that list inodes can be read.",
+    "  later KIND BLOCK: the btree has a form that isn't supported yet.",
+    "Look with xfs_repair -n, and make a backup before anything is repaired.",
+];
+
 // What a line of a refused image means, and what to do.
 static REFUSALS: [(&str, &str); 15] = [
     (
@@ -129,11 +140,21 @@ pub fn tell_failure<R: Eprint>(rt: &R, name: &str, fault: &io::Error) {
     }
 }
 
-/// Says at the end of a check that found something what wasn't looked at.
-pub fn tell_unlooked<R: Eprint>(rt: &R, status: u8) {
-    if status == 1 {
+fn tell_evidence<R: Eprint>(rt: &R) {
+    for line in EVIDENCE.iter() {
+        let _ = rt.eprintln(*line);
+    }
+}
+
+/// Says at the end of a check that found something what wasn't looked at, and where a unit was given up
+/// what its evidence means and what to do.
+pub fn tell_status<R: Eprint>(rt: &R, status: u8) {
+    if status == 6 {
+        tell_evidence(rt);
+    }
+    if status == 1 || status == 6 {
         let _ = rt.eprintln(
-            "Not looked at: inodes, directories, superblock counters, later superblocks, the log. \
+            "Not looked at: directories, superblock counters, later superblocks, the log. \
             An image that wasn't unmounted gives false faults: mount and unmount it first.",
         );
     }

@@ -4,7 +4,9 @@ ghost use Rattle.std.specs.List.{list_all};
 use crate::last_lines::LastLine;
 use fs_model::{Entry, Verdict};
 
-/// How a run ended; its number is the status of the process.
+/// How a run ended; its number is the status of the process. Clean, faulty and given up are those of
+/// an image whose units all have a verdict: none speaks against it; one is faulty or skipped; or one
+/// couldn't be judged, since what it would be judged by contradicts itself.
 #[derive(Clone, Copy, Debug, PartialEq, Eq)]
 pub enum Status {
     Clean = 0,
@@ -12,6 +14,7 @@ pub enum Status {
     Usage = 2,
     Refused = 4,
     Failed = 5,
+    GaveUp = 6,
     Full = 7,
     Memory = 8,
 }

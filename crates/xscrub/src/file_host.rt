@@ -1,7 +1,6 @@
 //! The host of the program: images are files, and the report goes to standard output.
 ghost use Rattle.std.specs.Prelude.{◌≡◌, ◌/◌, [], None, IsNone, IfOk, false};
-ghost use Rattle.std.specs.Option.{option_map};
-ghost use Rattle.xscrub.specs.Stored.{HasRoomFor, IsLent, redo_named};
+ghost use Rattle.xscrub.specs.Stored.{HasRoomFor, Lent, redo_asked};
 
 use crate::advice::{NamedFile, explain, tell_failure};
 use crate::asked::{DeviceAsked, count_failed, count_fault, keep_request};
@@ -157,8 +156,7 @@ fn open_device<'a, R: Files + Eprint>(
     ensures redo_blocks { IsNone redo.entry →
         IfOk result (λ d. ⟦<FileDevice<NamedFile<'a, R>> as Device>⟧.blocks d Region.Redo ≡ 162) }
     ensures fresh { IfOk result (λ d. ⟦<FileDevice<NamedFile<'a, R>> as Device>⟧.faults d ≡ 0) }
-    ensures told { IfOk result (λ d. IsLent purpose false None (redo_named (λ n. None) (option_map (λ s. s.now) redo.entry))
-        (⟦<FileDevice<NamedFile<'a, R>> as Device>⟧.content d) (⟦<FileDevice<NamedFile<'a, R>> as Device>⟧.blocks d)) }
+    ensures told { IfOk result (Lent ⟦<FileDevice<NamedFile<'a, R>> as Device>⟧ purpose false None (redo_asked (λ n. None) redo.entry)) }
 {
     let mut image = named(alloc, rt, image, open_image(rt, image, purpose))?;
     let image_blocks = blocks_for(&mut image, purpose)?;
@@ -235,9 +233,7 @@ where
         purpose: Purpose,
     ) -> Result<FileDevice<NamedFile<'a, R>>, OpenFault> {
         let alloc = *self.asked.allocator();
-        if keep_request(alloc, &mut self.asked, image, redo, purpose).is_err() {
-            return Err(OpenFault::Memory);
-        }
+        keep_request(alloc, &mut self.asked, image, redo, purpose)?;
         match open_device(alloc, self.rt, image, redo, purpose) {
             Ok(dev) => Ok(dev),
             Err(fault) if fault.kind() == ErrorKind::OutOfMemory => Err(OpenFault::Memory),

@@ -4,6 +4,7 @@ ghost use Rattle.blk_device.specs.Causes.{Rose, one_more};
 ghost use Rattle.xscrub.specs.Stored.{Stored, Request, Loan, Out, Back, Lends, IsAskedFor, Lent, asks, name_of, redo_asked, stored_image, stored_with};
 
 use blk_device::{Device, Region, Sink};
+use std::alloc::AllocError;
 use thiserror::Error;
 
 /// What a device is opened for: to be read alone, to be changed, or to be made anew with so many
@@ -23,6 +24,16 @@ pub enum OpenFault {
     Failed,
     #[error("memory")]
     Memory,
+}
+
+impl From<AllocError> for OpenFault {
+    ghost use Rattle.xscrub.specs.declared.host.OpenFault.TheVariants.{Memory};
+
+    ghost from_gives = { λ _ e. e ≡ Memory };
+
+    fn from(_: AllocError) -> Self {
+        OpenFault::Memory
+    }
 }
 
 /// What hands out devices by name and takes the report. A device can't be dropped: whoever is

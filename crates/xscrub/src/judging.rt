@@ -3,9 +3,9 @@ ghost use Rattle.blk_device.specs.Contents.{Holds};
 ghost use Rattle.blk_device.specs.Reading.{EachBlock, Keeps};
 ghost use Rattle.blk_device.specs.Taken.{IsFront};
 ghost use Rattle.geom.specs.Places.{layout};
-ghost use Rattle.space_check.specs.Checked.{check_events, checked as checked_image};
+ghost use Rattle.image_check.specs.Image.{IsKept, image_checked, image_events as groups_events};
 ghost use Rattle.xscrub.specs.Image.{checked_outcome};
-ghost use Rattle.xscrub.specs.Judged.{HasFrontOf, IsJudged, IsKept, JudgeCause, Kept, Says, SaysStop, TellsOfImage, journal_at, journal_in, judgement_outcome};
+ghost use Rattle.xscrub.specs.Judged.{HasFrontOf, IsJudged, JudgeCause, Kept, Says, SaysStop, TellsOfImage, journal_at, journal_in, judgement_outcome};
 ghost use Rattle.xscrub.specs.Units.{HasFirstUnits};
 
 use crate::last_lines::LastLine;
@@ -13,7 +13,8 @@ use blk_device::{Device, Region};
 use byte_fields::{Block, Steps};
 use fs_model::Entry;
 use geom::{Geometry, ImageFault, try_geometry};
-use space_check::{CheckStop, Halt, check_space};
+use image_check::check_image;
+use space_check::{CheckStop, Halt};
 use std::alloc::Global;
 use std::marker::Brand;
 use std::sync::ledger::{Blank, Ledger};
@@ -76,12 +77,12 @@ fn judge_counted<D: Device, L: Ledger>(
     requires parts { blank.parts ≡ L.parts }
     requires three { blank.parts ≡ 3 }
     ensures told { IfOk result (λ found. IfSome (D.content dev.old)
-        (λ m. judgement_outcome found ≡ checked_outcome (checked_image (layout geo.now) (m Region.Image)))) }
+        (λ m. judgement_outcome found ≡ checked_outcome (image_checked (layout geo.now) (m Region.Image)))) }
     ensures line { IfOk result TellsOfImage }
     ensures front { IfErr result (λ fault. IfSome (D.content dev.old)
-        (λ m. IsFront (journal_at fault) (checked_outcome (checked_image (layout geo.now) (m Region.Image))).journal)) }
+        (λ m. IsFront (journal_at fault) (checked_outcome (image_checked (layout geo.now) (m Region.Image))).journal)) }
     ensures kept { IfSome (D.content dev.old)
-        (λ m. IsKept (check_events (layout geo.now) (m Region.Image)) (D.reads dev.old) (D.reads dev.new) (journal_in result)) }
+        (λ m. IsKept (groups_events (layout geo.now) (m Region.Image)) (D.reads dev.old) (D.reads dev.new) (journal_in result)) }
     ensures units { IfErr result (λ fault. HasFirstUnits (journal_at fault)) }
     ensures same { D.content dev.new ≡ D.content dev.old }
     ensures sizes { D.blocks dev.new ≡ D.blocks dev.old }
@@ -89,7 +90,7 @@ fn judge_counted<D: Device, L: Ledger>(
     ensures cause { JudgeCause (D.faults dev.old) (D.faults dev.new) result }
 {
     let mut steps = Steps::<L>::new(blank);
-    let checked = check_space(alloc, dev, geo, &mut steps);
+    let checked = check_image(alloc, dev, geo, &mut steps);
     judgement_of(checked)
 }
 
@@ -101,12 +102,12 @@ fn judge_groups<D: Device>(
 ) -> Result<Judgement, JudgeFault>
     requires room { geo.now.dblocks ≤ D.blocks dev.old Region.Image }
     ensures told { IfOk result (λ found. IfSome (D.content dev.old)
-        (λ m. judgement_outcome found ≡ checked_outcome (checked_image (layout geo.now) (m Region.Image)))) }
+        (λ m. judgement_outcome found ≡ checked_outcome (image_checked (layout geo.now) (m Region.Image)))) }
     ensures line { IfOk result TellsOfImage }
     ensures front { IfErr result (λ fault. IfSome (D.content dev.old)
-        (λ m. IsFront (journal_at fault) (checked_outcome (checked_image (layout geo.now) (m Region.Image))).journal)) }
+        (λ m. IsFront (journal_at fault) (checked_outcome (image_checked (layout geo.now) (m Region.Image))).journal)) }
     ensures kept { IfSome (D.content dev.old)
-        (λ m. IsKept (check_events (layout geo.now) (m Region.Image)) (D.reads dev.old) (D.reads dev.new) (journal_in result)) }
+        (λ m. IsKept (groups_events (layout geo.now) (m Region.Image)) (D.reads dev.old) (D.reads dev.new) (journal_in result)) }
     ensures units { IfErr result (λ fault. HasFirstUnits (journal_at fault)) }
     ensures same { D.content dev.new ≡ D.content dev.old }
     ensures sizes { D.blocks dev.new ≡ D.blocks dev.old }
@@ -135,11 +136,10 @@ fn first_block<D: Device>(alloc: Global, dev: &mut D) -> Result<Block, JudgeFaul
     }
 }
 
-/// Judges the image of a device: its superblock, the heads of all groups, and then the free space
-/// and the reference counts of each group. The first fault of a superblock or a head refuses the
-/// image, and a journal that was full is told as that. Where the device fails or memory is short,
-/// the units that were judged until then are kept. Nothing is written
-/// (XFS Online Fsck Design, "Cross-Referencing Space Metadata").
+/// Judges the image of a device: its superblock, the heads of all groups, and then all units of each
+/// group. The first fault of a superblock or a head refuses the image, and a full journal is told as
+/// that. Where the device fails or memory is short, what was judged until then is kept. Nothing is
+/// written (XFS Online Fsck Design, "Cross-Referencing Space Metadata").
 pub fn judge<D: Device>(alloc: Global, dev: &mut D) -> Result<Judgement, JudgeFault>
     ensures told { IfOk result (λ found. IsJudged (D.content dev.old) (D.blocks dev.old Region.Image) found) }
     ensures line { IfOk result TellsOfImage }

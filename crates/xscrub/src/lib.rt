@@ -1,6 +1,6 @@
-//! The top call over any host: checks an XFS version 5 image, which is the free space and the
-//! reference counts of each group against its reverse mapping btree, and reports what was found; or
-//! makes a new image.
+//! The top call over any host: checks an XFS version 5 image, and reports what was found; or makes a
+//! new image. Checked are the inodes of each group, its reverse mappings against all that has blocks of
+//! the group, its free space, its reference counts, and the counters of each.
 #![tactic(auto)]
 
 mod advice;
@@ -17,7 +17,7 @@ mod redo;
 mod telling;
 mod top;
 
-pub use crate::advice::{NamedFile, explain, tell_failure, tell_unlooked};
+pub use crate::advice::{NamedFile, explain, tell_failure, tell_status};
 pub use crate::asked::DeviceAsked;
 pub use crate::command::{Command, command_of};
 pub use crate::ending::{Finding, Status, Told};

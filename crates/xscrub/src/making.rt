@@ -1,6 +1,6 @@
 ghost use Rattle.std.specs.Prelude.{◌≡◌, ◌≤◌, ℕ, List, Some};
 ghost use Rattle.xscrub.specs.Command.{make_of};
-ghost use Rattle.xscrub.specs.Ending.{FindsBy, IsAsked, IsFound, IsOfMake, IsShort, IsUnopened, LeavesStored};
+ghost use Rattle.xscrub.specs.Ending.{Finds, FindsBy, IsAsked, IsOfMake, IsShort, IsUnopened, LeavesStored};
 ghost use Rattle.xscrub.specs.Outcome.{made_outcome};
 
 use crate::ending::Finding;
@@ -20,9 +20,7 @@ const NEW_BLOCKS: u64 = 256;
 /// Makes a new image under this name, and makes it durable. The device that is handed out for it is
 /// always given back.
 pub fn make<H: Host>(alloc: Global, host: &mut H, image: &str) -> Finding
-    ensures found { IsFound (Some made_outcome)
-        (H.host_faults host.old) (H.host_faults host.new)
-        (H.dev_faults host.old) (H.dev_faults host.new) result }
+    ensures found { Finds H.Host.own (Some made_outcome) host.old host.new result }
     ensures words { IsOfMake result }
     ensures device { FindsBy H.Dev.Device (make_of image.now) (H.stored host.old) (H.redo_files host.old)
         (H.loans host.old) (H.loans host.new) result }

@@ -1,13 +1,13 @@
 //! A host in memory, for tests.
-ghost use Rattle.std.specs.Prelude.{◌≡◌, ◌≤◌, ℕ, List, [], Some, IsSome, IsNone, IfOk, OnOk, true, if◌then◌else◌};
-ghost use Rattle.std.specs.Option.{option_map};
+ghost use Rattle.std.specs.Prelude.{◌≡◌, ◌≤◌, ℕ, List, [], Some, IsSome, IsNone, IfOk, OnOk, map, true, if◌then◌else◌};
 ghost use Rattle.std.specs.BTreeMap.{get_by_text};
 ghost use Rattle.std.specs.Str.{bytes_eq};
 ghost use Rattle.blk_device.specs.Contents.{map_told};
 ghost use Rattle.blk_device.specs.Memory.{calls_asked, failing_calls};
 ghost use Rattle.blk_device.specs.Stored.{stored};
-ghost use Rattle.xscrub.specs.MemFiles.{file_of, file_named, failing_named, redo_file_named, redo_of, with_redo};
-ghost use Rattle.xscrub.specs.Stored.{IsLent, IsNew, IsOpened, no_redo, redo_named, stored_with};
+ghost use Rattle.redo_area.specs.Counts.{raised};
+ghost use Rattle.xscrub.specs.MemFiles.{calls_for_redo, calls_to_open, file_of, file_named, failing_named, redo_file_named, redo_of, with_redo};
+ghost use Rattle.xscrub.specs.Stored.{IsNew, Lent, Opened, no_redo, redo_asked, stored_with};
 
 use crate::asked::{DeviceAsked, count_failed, count_fault, keep_request};
 use crate::host::{Host, OpenFault, Purpose};
@@ -152,8 +152,7 @@ fn replace_image(
 
 // A device over a copy of the image, of whose calls those that are chosen will fail.
 fn open_copy(alloc: Global, image: &MemImage) -> Result<MemDevice, AllocError>
-    ensures told { IfOk result (λ d. IsOpened (Some (file_of image.now)) (Some no_redo)
-        (⟦<MemDevice as Device>⟧.content d) (⟦<MemDevice as Device>⟧.blocks d)) }
+    ensures told { IfOk result (Opened ⟦<MemDevice as Device>⟧ (Some (file_of image.now)) (Some no_redo)) }
     ensures redo_blocks { IfOk result (λ d. ⟦<MemDevice as Device>⟧.blocks d Region.Redo ≡ 162) }
     ensures fresh { IfOk result (λ d. ⟦<MemDevice as Device>⟧.faults d ≡ 0) }
     ensures failing { IfOk result (λ d. failing_calls d ≡ image.now.failing.items) }
@@ -180,12 +179,15 @@ fn open_new(alloc: Global, image: &MemImage, blocks: u64) -> Result<MemDevice, A
     Ok(dev)
 }
 
-// Puts the blocks of a redo file on a device, one after the other.
-fn put_redo<D: Device>(dev: &mut D, redo: &MemRedo) -> Result<(), DeviceFailed>
-    requires { redo.now.size ≤ D.blocks dev.old Region.Redo }
-    ensures written { OnOk result (D.content dev.new ≡ map_told (with_redo (stored redo.now.blocks) redo.now.size) (D.content dev.old)) }
-    ensures sizes { D.blocks dev.new ≡ D.blocks dev.old }
-    ensures calm { OnOk result (D.faults dev.new ≡ D.faults dev.old) }
+// Puts the blocks of a redo file on a device, one after the other, by as many calls.
+fn put_redo(dev: &mut MemDevice, redo: &MemRedo) -> Result<(), DeviceFailed>
+    requires room { redo.now.size ≤ ⟦<MemDevice as Device>⟧.blocks dev.old Region.Redo }
+    requires unasked { calls_asked dev.old ≡ 0 }
+    ensures written { OnOk result (⟦<MemDevice as Device>⟧.content dev.new ≡ map_told (with_redo (stored redo.now.blocks) redo.now.size) (⟦<MemDevice as Device>⟧.content dev.old)) }
+    ensures sizes { ⟦<MemDevice as Device>⟧.blocks dev.new ≡ ⟦<MemDevice as Device>⟧.blocks dev.old }
+    ensures calm { OnOk result (⟦<MemDevice as Device>⟧.faults dev.new ≡ ⟦<MemDevice as Device>⟧.faults dev.old) }
+    ensures failing { failing_calls dev.new ≡ failing_calls dev.old }
+    ensures asked { OnOk result (calls_asked dev.new ≡ redo.now.size) }
 {
     let count = redo.size;
     for at in 0..count {
@@ -205,21 +207,30 @@ fn block_of(blocks: &BTreeMap<u64, Block>, at: u64) -> Block
     }
 }
 
+// The number of a call behind so many others. At 2^64 - 1 the count stays there.
+fn call_behind(call: u64, others: u64) -> u64
+    ensures { result ≡ raised call others }
+{
+    call.saturating_add(others)
+}
+
 // The numbers of these calls behind so many others.
-fn calls_behind(alloc: Global, calls: &[u64], others: u64) -> Result<Vec<u64>, AllocError> {
-    let mut behind = Vec::new(alloc);
-    for call in calls {
-        behind.push(call.saturating_add(others))?;
-    }
-    Ok(behind)
+fn calls_behind(alloc: Global, calls: &[u64], others: u64) -> Result<Vec<u64>, AllocError>
+    ensures { IfOk result (λ behind. behind.items ≡ map (λ call. raised call others) calls.now) }
+{
+    calls
+        .iter()
+        .map(|call| call_behind(*call, others))
+        .collect(alloc)
 }
 
 // A device over a copy of the image and of a redo file. Its first calls put the redo file there; of those
 // behind them the chosen ones will fail.
 fn open_beside(alloc: Global, image: &MemImage, redo: &MemRedo) -> Result<MemDevice, AllocError>
-    ensures told { IfOk result (λ d. IsOpened (Some (file_of image.now)) (Some (redo_of redo.now))
-        (⟦<MemDevice as Device>⟧.content d) (⟦<MemDevice as Device>⟧.blocks d)) }
+    ensures told { IfOk result (Opened ⟦<MemDevice as Device>⟧ (Some (file_of image.now)) (Some (redo_of redo.now))) }
     ensures fresh { IfOk result (λ d. ⟦<MemDevice as Device>⟧.faults d ≡ 0) }
+    ensures failing { IfOk result (λ d. failing_calls d ≡ map (λ call. raised call redo.now.size) image.now.failing.items) }
+    ensures asked { IfOk result (λ d. calls_asked d ≡ redo.now.size) }
 {
     let blocks = copy_of(&image.blocks)?;
     let failing = calls_behind(alloc, image.failing.as_slice(), redo.size)?;
@@ -237,13 +248,11 @@ fn open_stored(
     redos: &BTreeMap<String, MemRedo>,
     redo: Option<&str>,
 ) -> Result<MemDevice, AllocError>
-    ensures told { IfOk result (λ d. IsOpened (Some (file_of image.now))
-        (redo_named (redo_file_named redos.now) (option_map (λ s. s.now) redo.entry))
-        (⟦<MemDevice as Device>⟧.content d) (⟦<MemDevice as Device>⟧.blocks d)) }
+    ensures told { IfOk result (Opened ⟦<MemDevice as Device>⟧ (Some (file_of image.now)) (redo_asked (redo_file_named redos.now) redo.entry)) }
     ensures redo_blocks { IsNone redo.entry → IfOk result (λ d. ⟦<MemDevice as Device>⟧.blocks d Region.Redo ≡ 162) }
     ensures fresh { IfOk result (λ d. ⟦<MemDevice as Device>⟧.faults d ≡ 0) }
-    ensures failing { IsNone redo.entry → IfOk result (λ d. failing_calls d ≡ image.now.failing.items) }
-    ensures asked { IsNone redo.entry → IfOk result (λ d. calls_asked d ≡ 0) }
+    ensures failing { IfOk result (λ d. failing_calls d ≡ map (λ call. raised call (calls_for_redo redos.now redo.entry)) image.now.failing.items) }
+    ensures asked { IfOk result (λ d. calls_asked d ≡ calls_for_redo redos.now redo.entry) }
 {
     let Some(name) = redo else {
         return open_copy(alloc, image);
@@ -262,13 +271,11 @@ fn open_for(
     redo: Option<&str>,
     purpose: Purpose,
 ) -> Result<MemDevice, AllocError>
-    ensures told { IfOk result (λ d. IsLent purpose true (Some (file_of image.now))
-        (redo_named (redo_file_named redos.now) (option_map (λ s. s.now) redo.entry))
-        (⟦<MemDevice as Device>⟧.content d) (⟦<MemDevice as Device>⟧.blocks d)) }
+    ensures told { IfOk result (Lent ⟦<MemDevice as Device>⟧ purpose true (Some (file_of image.now)) (redo_asked (redo_file_named redos.now) redo.entry)) }
     ensures redo_blocks { IsNone redo.entry → IfOk result (λ d. ⟦<MemDevice as Device>⟧.blocks d Region.Redo ≡ 162) }
     ensures fresh { IfOk result (λ d. ⟦<MemDevice as Device>⟧.faults d ≡ 0) }
-    ensures failing { IsNone redo.entry → IfOk result (λ d. failing_calls d ≡ image.now.failing.items) }
-    ensures asked { IsNone redo.entry → IfOk result (λ d. calls_asked d ≡ 0) }
+    ensures failing { IfOk result (λ d. failing_calls d ≡ map (λ call. raised call (calls_to_open purpose redos.now redo.entry)) image.now.failing.items) }
+    ensures asked { IfOk result (λ d. calls_asked d ≡ calls_to_open purpose redos.now redo.entry) }
 {
     match purpose {
         Purpose::Check => open_stored(alloc, image, redos, redo),
@@ -282,8 +289,8 @@ impl Host for MemHost {
 
     ghost use Rattle.std.specs.Prelude.{◌==◌, ◌∷◌, IsErrOf, OnErr, IfSome, false};
     ghost use Rattle.blk_device.specs.Causes.{Rose, one_more};
-    ghost use Rattle.xscrub.specs.MemHost.{stored_by, redo_files_by, Awaits, asked_of, failing_by, loans_of};
-    ghost use Rattle.xscrub.specs.Stored.{Lent, Out, Back, Lends, IsAskedFor, asks, image_of, name_of, redo_asked};
+    ghost use Rattle.xscrub.specs.MemHost.{stored_by, redo_files_by, Awaits, asked_of, failing_behind, failing_by, loans_of};
+    ghost use Rattle.xscrub.specs.Stored.{Out, Back, Lends, IsAskedFor, asks, image_of, name_of};
 
     ghost tells = { λ h. true };
 
@@ -304,7 +311,8 @@ impl Host for MemHost {
     ghost report_keeps = { λ a b kept. kept };
 
     /// Opens a copy of the image, or a new one, on which the calls that are chosen for this image will
-    /// fail. The host fails exactly where there is no image of that name.
+    /// fail, counted behind those that put a redo file there, one for each of its blocks. The host
+    /// fails exactly where there is no image of that name.
     fn device(
         &mut self,
         image: &str,
@@ -332,22 +340,18 @@ impl Host for MemHost {
         ensures report { Some self.new.report.items ≡ Some self.old.report.items }
         ensures sink { self.new.sink_faults ≡ self.old.sink_faults }
         ensures missing { IsErrOf result OpenFault.Failed → IsNone (failing_by self.old image.now) }
-        ensures failing { IsNone redo.entry → IfOk result (λ dev. failing_by self.old image.now ≡ Some (failing_calls dev)) }
-        ensures first { IsNone redo.entry → IfOk result (λ dev. calls_asked dev ≡ 0) }
+        ensures failing { IfOk result (λ dev. failing_behind (calls_to_open purpose self.old.redos redo.entry) self.old image.now ≡ Some (failing_calls dev)) }
+        ensures first { IfOk result (λ dev. calls_asked dev ≡ calls_to_open purpose self.old.redos redo.entry) }
         ensures kept { (n : List ℕ) → failing_by self.new n ≡ failing_by self.old n }
     {
         let alloc = *self.asked.allocator();
-        if keep_request(alloc, &mut self.asked, image, redo, purpose).is_err() {
-            return Err(OpenFault::Memory);
-        }
+        keep_request(alloc, &mut self.asked, image, redo, purpose)?;
         let Some(file) = self.images.get(image) else {
             count_fault(&mut self.host_faults);
             return Err(OpenFault::Failed);
         };
-        match open_for(alloc, file, &self.redos, redo, purpose) {
-            Ok(dev) => Ok(dev),
-            Err(_) => Err(OpenFault::Memory),
-        }
+        let dev = open_for(alloc, file, &self.redos, redo, purpose)?;
+        Ok(dev)
     }
 
     /// Keeps the device's image under this name, and with it which calls are to fail.

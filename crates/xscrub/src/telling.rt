@@ -1,10 +1,10 @@
 ghost use Rattle.std.specs.Prelude.{◌≡◌, ◌≤◌, ℕ, List, Option, OnOk, IfErr, length, Some, true, false};
 ghost use Rattle.std.specs.Bool.{OnTrue, OnFalse};
-ghost use Rattle.std.specs.List.{list_all};
+ghost use Rattle.std.specs.List.{list_all, list_any};
 ghost use Rattle.blk_device.specs.Causes.{Rose};
 ghost use Rattle.blk_device.specs.Taken.{Takes};
-ghost use Rattle.xscrub.specs.Ending.{IsShown, IsToldOf, told_outcome};
-ghost use Rattle.xscrub.specs.Outcome.{is_calm as is_calm_entry, is_calm_verdict as is_calm_verdict_of, judged_status, judged_outcome, stopped_outcome, ended_outcome, Outcome, outcome_of};
+ghost use Rattle.xscrub.specs.Ending.{IsShown, IsToldOf, ShowsStopped, TellsStopped, told_outcome};
+ghost use Rattle.xscrub.specs.Outcome.{is_calm as is_calm_entry, is_calm_verdict as is_calm_verdict_of, is_given_up as is_given_up_entry, is_given_up_verdict as is_given_up_verdict_of, judged_status, judged_outcome, stopped_outcome, ended_outcome, outcome_of};
 ghost use Rattle.run_text.specs.Report.{report_of};
 ghost use Rattle.xscrub.specs.LastLines.{is_fixed, last_line_of};
 ghost use Rattle.xscrub.specs.Shown.{StopsAt, IsLineShown, EndsWith, last_text};
@@ -24,6 +24,16 @@ pub enum TellStop {
     Memory { told: usize },
 }
 
+impl From<SinkFailed> for TellStop {
+    ghost use Rattle.xscrub.specs.declared.telling.TellStop.TheVariants.{Sink};
+
+    ghost from_gives = { λ _ e. e ≡ Sink };
+
+    fn from(_: SinkFailed) -> Self {
+        TellStop::Sink
+    }
+}
+
 /// Puts the line of each entry into the sink, in the journal's order, up to the first that the
 /// sink or memory refuses.
 pub fn put_journal<K: Sink>(alloc: Global, sink: &mut K, journal: &[Entry]) -> Result<(), TellStop>
@@ -39,10 +49,7 @@ pub fn put_journal<K: Sink>(alloc: Global, sink: &mut K, journal: &[Entry]) -> R
         let Ok(text) = line(alloc, entry) else {
             return Err(TellStop::Memory { told });
         };
-        match put_all(sink, text.as_bytes()) {
-            Ok(()) => {}
-            Err(SinkFailed) => return Err(TellStop::Sink),
-        }
+        put_all(sink, text.as_bytes())?;
     }
     Ok(())
 }
@@ -126,26 +133,48 @@ fn are_all_calm(journal: &[Entry]) -> bool
     true
 }
 
+fn is_given_up(entry: &Entry) -> bool
+    ensures { result ≡ is_given_up_entry entry.now }
+{
+    match entry {
+        Entry::Verdict { verdict, .. } => is_given_up_verdict(verdict),
+        _ => false,
+    }
+}
+
+fn is_given_up_verdict(verdict: &Verdict) -> bool
+    ensures { result ≡ is_given_up_verdict_of verdict.now }
+{
+    match verdict {
+        Verdict::GaveUp(_) => true,
+        _ => false,
+    }
+}
+
+fn is_any_given_up(journal: &[Entry]) -> bool
+    ensures { result ≡ list_any is_given_up_entry journal.now }
+{
+    journal.iter().any(is_given_up)
+}
+
 fn status_of(journal: &[Entry]) -> Status
     ensures { result ≡ judged_status journal.now }
 {
     if are_all_calm(journal) {
-        Status::Clean
-    } else {
-        Status::Faulty
+        return Status::Clean;
     }
+    if is_any_given_up(journal) {
+        return Status::GaveUp;
+    }
+    Status::Faulty
 }
 
 // Ends a run whose journal wasn't told whole: the host has failed, or there was no memory, and the
 // journal is cut to what was told.
 fn end_early<K: Sink>(alloc: Global, sink: &mut K, journal: Vec<Entry>, stop: TellStop) -> Told
     ensures rest { K.kept sink.old sink.new }
-    ensures shown { (f : ℕ) (a : Option (List ℕ)) → f ≤ K.sink_faults sink.old
-        → StopsAt journal.items f (K.sink_faults sink.old) a (K.taken sink.old) stop
-        → IsShown result.journal.items result.last f (K.sink_faults sink.new) a (K.taken sink.new) }
-    ensures told { (found : Outcome) (f : ℕ) (a : Option (List ℕ)) → found.journal ≡ journal.items
-        → StopsAt journal.items f (K.sink_faults sink.old) a (K.taken sink.old) stop
-        → IsToldOf found f (K.sink_faults sink.new) (told_outcome result) }
+    ensures shown { ShowsStopped K.Sink journal.items stop sink.old sink.new result }
+    ensures told { TellsStopped K.Sink journal.items stop sink.old sink.new result }
 {
     match stop {
         TellStop::Sink => end_with(alloc, sink, Status::Failed, journal, LastLine::HostFailed),

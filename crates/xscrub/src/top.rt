@@ -1,8 +1,8 @@
-ghost use Rattle.std.specs.Prelude.{◌≡◌, ℕ, List, is_some, option_map};
-ghost use Rattle.xscrub.specs.Ending.{IsFound, IsOfImage, IsWorded, IsAsked, IsShort, IsUnopened, FindsBy, LeavesStored, decided_by, stored_outcome};
+ghost use Rattle.std.specs.Prelude.{◌≡◌, ℕ, List, is_some};
+ghost use Rattle.xscrub.specs.Ending.{Finds, IsOfImage, IsWorded, IsAsked, IsShort, IsUnopened, FindsBy, LeavesStored, decided_by, stored_outcome};
 ghost use Rattle.xscrub.specs.Command.{check_of, job_of};
 ghost use Rattle.xscrub.specs.Run.{RunsFor, seen};
-ghost use Rattle.xscrub.specs.Stored.{redo_named};
+ghost use Rattle.xscrub.specs.Stored.{name_of, redo_asked};
 
 use crate::command::{Command, command_of};
 use crate::ending::Finding;
@@ -27,17 +27,15 @@ pub struct RunEnd {
 // What is found of the named image, and of the redo file beside it where one is given. The device that is
 // opened for them is always given back.
 fn check<H: Host>(alloc: Global, host: &mut H, image: &str, redo: Option<&str>) -> Finding
-    ensures found { IsFound (stored_outcome (is_some redo.entry) (H.stored host.old image.now)
-        (redo_named (H.redo_files host.old) (option_map (λ s. s.now) redo.entry)))
-        (H.host_faults host.old) (H.host_faults host.new)
-        (H.dev_faults host.old) (H.dev_faults host.new) result }
+    ensures found { Finds H.Host.own (stored_outcome (is_some redo.entry) (H.stored host.old image.now) (redo_asked (H.redo_files host.old) redo.entry))
+        host.old host.new result }
     ensures image { IsOfImage (is_some redo.entry) result }
-    ensures device { FindsBy H.Dev.Device (check_of image.now (option_map (λ s. s.now) redo.entry))
+    ensures device { FindsBy H.Dev.Device (check_of image.now (name_of redo.entry))
         (H.stored host.old) (H.redo_files host.old) (H.loans host.old) (H.loans host.new) result }
-    ensures stored { LeavesStored (check_of image.now (option_map (λ s. s.now) redo.entry)) (H.tells host.old)
+    ensures stored { LeavesStored (check_of image.now (name_of redo.entry)) (H.tells host.old)
         (result ≡ Finding.Made) (IsUnopened result) (H.stored host.old) (H.stored host.new) }
     ensures redo { (n : List ℕ) → H.redo_files host.new n ≡ H.redo_files host.old n }
-    ensures asked { IsAsked (check_of image.now (option_map (λ s. s.now) redo.entry)) (IsShort result)
+    ensures asked { IsAsked (check_of image.now (name_of redo.entry)) (IsShort result)
         (H.asked host.old) (H.asked host.new) }
     ensures report { H.taken host.new ≡ H.taken host.old }
     ensures sink { H.sink_faults host.new ≡ H.sink_faults host.old }
@@ -60,9 +58,7 @@ fn check<H: Host>(alloc: Global, host: &mut H, image: &str, redo: Option<&str>) 
 
 // What the words ask for, as it is found.
 fn find<H: Host>(alloc: Global, host: &mut H, words: &[String]) -> Finding
-    ensures found { IsFound (decided_by (job_of words.now) (H.stored host.old) (H.redo_files host.old))
-        (H.host_faults host.old) (H.host_faults host.new)
-        (H.dev_faults host.old) (H.dev_faults host.new) result }
+    ensures found { Finds H.Host.own (decided_by (job_of words.now) (H.stored host.old) (H.redo_files host.old)) host.old host.new result }
     ensures words { IsWorded (job_of words.now) result }
     ensures device { FindsBy H.Dev.Device (job_of words.now) (H.stored host.old) (H.redo_files host.old)
         (H.loans host.old) (H.loans host.new) result }

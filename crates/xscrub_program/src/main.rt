@@ -1,12 +1,13 @@
 //! The program: hands the words of the command line and a host over real files to the check, and
-//! ends with its status. Beside the report it says, on standard error, what wasn't looked at.
+//! ends with its status. Beside the report it says, on standard error, what wasn't looked at, and what
+//! it means that a unit was given up.
 #![tactic(auto)]
 
 use std::io::ErrorKind;
 use std::process::ExitCode;
 use std::rt::Env;
 use std::{env, io};
-use xscrub::{FileHost, Finding, fsck_main, tell, tell_unlooked};
+use xscrub::{FileHost, Finding, fsck_main, tell, tell_status};
 
 // The words of the command line, without the program's name.
 fn words_of<R: Env + AllocGlobal>(rt: &R) -> io::Result<Vec<String>> {
@@ -30,6 +31,6 @@ fn main(rt: HostRuntime) -> ExitCode {
         // A word that isn't UTF-8 leaves a list of words that asks for nothing.
         Err(_) => fsck_main(alloc, &mut host, &[]).status,
     };
-    tell_unlooked(&rt, status);
+    tell_status(&rt, status);
     ExitCode::from(status)
 }

@@ -1,12 +1,16 @@
 use Rattle.std.proofs.Common.{◌≡◌}
 use Rattle.blk_device.specs.Contents.{map_told}
+use Rattle.blk_device.specs.Memory.{calls_asked, failing_calls}
 use Rattle.blk_device.specs.Stored.{stored}
+use Rattle.blk_device.specs.contracts.memory.MemDeviceDevice.TheImpl.{ghosts}
 use Rattle.xscrub.specs.MemFiles.{with_redo}
 use Rattle.xscrub.proofs.mem_host.put_redo.Given as goal
 
 abbrev pub invariant-loop-at : goal.invariant-loop-at
-invariant-loop-at g l = record {
-  content : g.D.Device.content l.dev ≡ map_told (with_redo (stored l.redo.blocks) l.at) (g.D.Device.content l.initial.dev);
-  sizes : g.D.Device.blocks l.dev ≡ g.D.Device.blocks l.initial.dev;
-  faults : g.D.Device.faults l.dev ≡ g.D.Device.faults l.initial.dev;
+invariant-loop-at l = record {
+  content : ghosts.content l.dev ≡ map_told (with_redo (stored l.redo.blocks) l.at) (ghosts.content l.initial.dev);
+  sizes : ghosts.blocks l.dev ≡ ghosts.blocks l.initial.dev;
+  faults : ghosts.faults l.dev ≡ ghosts.faults l.initial.dev;
+  failing : failing_calls l.dev ≡ failing_calls l.initial.dev;
+  asked : calls_asked l.dev ≡ l.at;
 }

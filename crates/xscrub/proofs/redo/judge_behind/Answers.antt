@@ -8,11 +8,15 @@ use Rattle.xscrub.specs.Image.{redo_refusal}
 use Rattle.xscrub.specs.Judged.{Kept}
 use Rattle.xscrub.specs.declared.judging.JudgeFault.TheVariants.{Device}
 use Rattle.xscrub.specs.declared.last_lines.RedoRefusal.{RedoRefusal}
+use Rattle.xscrub.proofs.JudgedLemmas.{units_none}
 use Rattle.xscrub.proofs.RedoLemmas.{failed_front, failed_kept, passed_kept, refused_kept}
 use Rattle.xscrub.proofs.redo.judge_behind.Goals as goal
 
 pub returns-in-Err-clause-front : goal.returns-in-Err-clause-front
 returns-in-Err-clause-front g c = failed_front (g.D.Device.content c.args.dev.now) (g.D.Device.blocks c.args.dev.now) (Device c.new.result) c.new.ensures.items
+
+pub returns-in-Err-clause-units : goal.returns-in-Err-clause-units
+returns-in-Err-clause-units g c = units_none (Device c.new.result) c.new.ensures.items
 
 pub returns-in-Err-clause-kept : goal.returns-in-Err-clause-kept
 returns-in-Err-clause-kept g c =

@@ -4,6 +4,8 @@ use Rattle.std.specs.Option.{option_map}
 use Rattle.xscrub.specs.Ending.{stored_outcome}
 use Rattle.xscrub.specs.Judged.{KeptOfDevice, journal_in}
 use Rattle.xscrub.specs.Stored.{redo_named}
+use Rattle.xscrub.specs.Units.{HasFirstUnits}
+use Rattle.xscrub.proofs.UnitLemmas.{no_units}
 use Rattle.xscrub.proofs.JudgedLemmas.{front_before}
 use Rattle.xscrub.proofs.LoanLemmas.{came_back, given_same, put_back_stored}
 use Rattle.xscrub.proofs.top.check.Goals as goal
@@ -15,6 +17,17 @@ returns-in-Err-Memory-clause-found g c = record {
       c.new.result.items c.new.ensures.items;
   cause = tt;
 }
+
+pub returns-in-Err-Memory-clause-image : goal.returns-in-Err-Memory-clause-image
+returns-in-Err-Memory-clause-image g c = subst HasFirstUnits (sym c.new.ensures.items) no_units
+
+pub returns-in-Ok-Judged-clause-device : goal.returns-in-Ok-Judged-clause-device
+returns-in-Ok-Judged-clause-device g c =
+    let journal : journal_in c.judge_device-found.result ≡ c.in-Ok-Judged.journal.items = search rules in
+    inr (came_back g.H.Dev.Device (is_some (option_map (λ (s : Bor (List ℕ)). s.now) c.args.redo)) _ _ _ _ _ c.in-Ok.dev c.judge_device-found.new.dev c.judge_device-found.result _
+    c.in-Ok.ensures.lent c.put_back.ensures.lent c.in-Ok.ensures.told c.judge_device-found.ensures.same c.judge_device-found.ensures.crash
+    (subst (λ (b : Bool). KeptOfDevice b (g.H.Dev.Device.content c.in-Ok.dev) (g.H.Dev.Device.blocks c.in-Ok.dev) (g.H.Dev.Device.reads c.in-Ok.dev) (g.H.Dev.Device.reads c.judge_device-found.new.dev) c.judge_device-found.result)
+    (c.is_some.ensures ∙ sym (given_same c.args.redo)) c.judge_device-found.ensures.kept) journal)
 
 pub returns-in-Ok-Judged-clause-stored : goal.returns-in-Ok-Judged-clause-stored
 returns-in-Ok-Judged-clause-stored g c =

@@ -1,5 +1,7 @@
 use Rattle.xscrub.specs.Command.{job_of}
 use Rattle.xscrub.specs.Ending.{decided_by}
+use Rattle.xscrub.specs.declared.ending.Finding.TheVariants.{Memory}
+use Rattle.xscrub.proofs.EndingLemmas.{short_worded}
 use Rattle.xscrub.proofs.JudgedLemmas.{front_before}
 use Rattle.xscrub.proofs.LoanLemmas.{short_leaves}
 use Rattle.xscrub.proofs.top.find.Goals as goal
@@ -9,6 +11,9 @@ returns-in_default-clause-found g c = record {
   decides = front_before (decided_by (job_of c.args.words.now) (g.H.Host.stored c.args.host.now) (g.H.Host.redo_files c.args.host.now)) c.new.result.items c.new.ensures.items;
   cause = tt;
 }
+
+pub returns-in_default-clause-words : goal.returns-in_default-clause-words
+returns-in_default-clause-words g c = short_worded (job_of c.args.words.now) (Memory c.new.result) c.new.ensures.items
 
 pub returns-in_default-clause-stored : goal.returns-in_default-clause-stored
 returns-in_default-clause-stored g c = short_leaves (job_of c.args.words.now) _ c.new.result _ (g.H.Host.stored c.args.host.now)
