@@ -8,7 +8,7 @@ ghost use Rattle.tree_defs.specs.Tree.{entry_at, agrees, fresh, closed, read_nod
 ghost use Rattle.tree_blocks.specs.Told.{OfTree, WhereTold};
 ghost use Rattle.tree_blocks.specs.Meets.{Refuses};
 ghost use Rattle.tree_defs.specs.Walked.{walked_node, walked};
-ghost use Rattle.tree_walk.specs.Meets.{MeetsBlock, MeetsTree, MeetsTreeAt, CountedBy, CountsBlock, CountsTree};
+ghost use Rattle.tree_walk.specs.Meets.{MeetsBlock, MeetsTree, MeetsTreeAt, HasRead, CountedBy, CountsBlock, CountsTree};
 ghost use Rattle.tree_blocks.specs.Calls.{Reads};
 ghost use Rattle.blk_device.specs.Reading.{OnlyRead};
 ghost use Rattle.blk_device.specs.Causes.{HasCause};
