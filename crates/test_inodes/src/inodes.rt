@@ -1,9 +1,9 @@
+use crate::pieces::geometry;
 use byte_fields::{put_sum, put_u16, put_u32, put_u64, sum_at};
 use dinode_core::{
     Core3, CoreFault, Fork, ForkError, ForkFault, Mapping, decode_core, encode_core, fork_room,
     fork_size, inline_fork, inline_is_whole, is_in_btree, mapping_at, mapping_count, pack, unpack,
 };
-use geom::Geometry;
 use std::alloc::{AllocError, Global};
 
 const UUID: [u8; 16] = [1, 2, 3, 4, 5, 6, 7, 8, 9, 10, 11, 12, 13, 14, 15, 16];
@@ -132,21 +132,6 @@ fn packed_mappings(rt: HostRuntime) {
     three[16..32].copy_from_slice(&packed);
     assert_eq!(rt; mapping_at(&three, 1), unwritten);
     assert_eq!(rt; mapping_at(&three, 2).count, 0);
-}
-
-// Two groups, of 256 blocks and of 64.
-fn geometry() -> Geometry {
-    let uuid = UUID;
-    Geometry {
-        agblocks: 256,
-        agcount: 2,
-        dblocks: 320,
-        agblklog: 8,
-        uuid,
-        log: None,
-        kept: [0; 6],
-        inobtcount: false,
-    }
 }
 
 fn fault_of(alloc: Global, core: &Core3, fork: Fork) -> Option<ForkError> {

@@ -1,3 +1,4 @@
+// Pieces of forks whose btrees are laid out by hand.
 ghost use Rattle.std.specs.Prelude.{◌≡◌, ◌≤◌};
 
 use blk_cache::BlkCache;
@@ -12,17 +13,23 @@ use std::marker::Brand;
 use std::sync::ledger::{Blank, Ledger};
 use std::test::Fail;
 
+mod first;
+
 // No sibling.
-pub const NONE: u64 = 0xffff_ffff_ffff_ffff;
+const NONE: u64 = 0xffff_ffff_ffff_ffff;
 
 // The bytes 1 to 16, as two numbers.
 const UUID: (u64, u64) = (0x0102_0304_0506_0708, 0x090a_0b0c_0d0e_0f10);
 
 // One block from block 100 on.
-pub const ONE: u64 = (100 << 21) + 1;
+const ONE: u64 = (100 << 21) + 1;
 
-// Two groups, of 256 blocks and of 64, so that a file system block is the block of that number.
-pub fn geometry() -> Geometry {
+/// Two groups, of 256 blocks and of 64, so that a file system block is the block of that number.
+pub fn geometry() -> Geometry
+    ensures groups { result.agcount ≡ 2 }
+    ensures group { result.agblocks ≡ 256 }
+    ensures blocks { result.dblocks ≡ 320 }
+{
     Geometry {
         agblocks: 256,
         agcount: 2,
@@ -41,7 +48,7 @@ fn mend(block: &mut Block) {
 }
 
 // A block of the btree of inode 195: its level, the count of its records, its siblings and its place.
-pub fn tree_block(level: u16, count: u16, left: u64, right: u64, at: u32) -> Block {
+fn tree_block(level: u16, count: u16, left: u64, right: u64, at: u32) -> Block {
     let mut block = Block::zeroed();
     let bytes = &mut block.bytes;
     put_u32(bytes, 0, 0x424d_4133);
@@ -57,7 +64,7 @@ pub fn tree_block(level: u16, count: u16, left: u64, right: u64, at: u32) -> Blo
 }
 
 // Writes two words into a block.
-pub fn put_pair(block: &mut Block, at: usize, high: u64, low: u64) {
+fn put_pair(block: &mut Block, at: usize, high: u64, low: u64) {
     if at <= 4080 {
         put_u64(&mut block.bytes, at, high);
         put_u64(&mut block.bytes, at + 8, low);
@@ -65,7 +72,7 @@ pub fn put_pair(block: &mut Block, at: usize, high: u64, low: u64) {
 }
 
 // A leaf with so many mappings of one block: offsets from this one on, every second one.
-pub fn leaf(count: u16, left: u64, right: u64, at: u32, first: u16) -> Block {
+fn leaf(count: u16, left: u64, right: u64, at: u32, first: u16) -> Block {
     let mut block = tree_block(0, count, left, right, at);
     for i in 0..count {
         let offset = u64::from(first) + 2 * u64::from(i);
@@ -76,7 +83,7 @@ pub fn leaf(count: u16, left: u64, right: u64, at: u32, first: u16) -> Block {
 }
 
 // A leaf of which one mapping is another.
-pub fn spoiled(leaf: Block, i: u8, high: u64, low: u64) -> Block {
+fn spoiled(leaf: Block, i: u8, high: u64, low: u64) -> Block {
     let mut block = leaf;
     put_pair(&mut block, 72 + 16 * usize::from(i), high, low);
     mend(&mut block);
@@ -105,7 +112,7 @@ fn root_places(fork: Fork) -> (usize, usize)
 
 // Block 24, whose slot 3 has inode 195 with a root of this level, of so many keys, of which three are
 // here beside the blocks that they lead to.
-pub fn inodes(fork: Fork, level: u16, keys: u16, entries: [(u64, u64); 3]) -> Block {
+fn inodes(fork: Fork, level: u16, keys: u16, entries: [(u64, u64); 3]) -> Block {
     let mut block = Block::zeroed();
     let mut bytes = [0; 512];
     let (root, pointers) = root_places(fork);
@@ -184,7 +191,7 @@ fn counted<L: Ledger>(
 }
 
 // The piece of a fork of inode 195, for a caller that counts no steps.
-pub fn piece_at(
+fn piece_at(
     alloc: Global,
     device: MemDevice,
     fork: Fork,
@@ -196,7 +203,7 @@ pub fn piece_at(
 
 // A btree of three leaves: two full ones, the second's last mapping with this low word, and one with a
 // mapping alone.
-pub fn three_leaves(alloc: Global, fork: Fork, low: u64) -> Result<MemDevice, AllocError> {
+fn three_leaves(alloc: Global, fork: Fork, low: u64) -> Result<MemDevice, AllocError> {
     let full = leaf(251, 40, 42, 41, 502);
     device_of(
         alloc,

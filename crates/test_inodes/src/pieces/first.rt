@@ -1,6 +1,6 @@
 ghost use Rattle.std.specs.Prelude.{◌≡◌};
 
-use crate::pieces::{
+use super::{
     NONE, ONE, geometry, inodes, leaf, piece_at, put_pair, spoiled, three_leaves, tree_block,
 };
 use blk_cache::BlkCache;

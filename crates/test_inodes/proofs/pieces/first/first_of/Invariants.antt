@@ -1,4 +1,4 @@
-use Rattle.test_inodes.proofs.first.first_of.Given as goal
+use Rattle.test_inodes.proofs.pieces.first.first_of.Given as goal
 
 -- the ledger is the blank's
 abbrev pub ghosts-counted : goal.ghosts-counted
