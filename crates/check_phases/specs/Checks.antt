@@ -1,5 +1,6 @@
 -- What a part of a check does, or how it ends before its last unit; and the heads that it goes by.
 use Rattle.std.specs.Prelude.{◌≡◌, ℕ, ◌+◌, ◌-◌, Bool, true, false, List, [], ◌∷◌, ◌++◌, get_or, Option, None, Result, Ok, Err}
+use Rattle.ag_headers.specs.declared.agf.Agf.{Agf}
 use Rattle.fs_derive.specs.Session.{Place}
 use Rattle.fs_model.specs.declared.unit.Unit.{Unit as ScrubUnit}
 use Rattle.fs_model.specs.declared.unit.Unit.TheVariants as units
@@ -9,11 +10,13 @@ use Rattle.geom.specs.Layout.{Layout, group_len_of}
 use Rattle.group_trees.specs.Heads.{heads_seen}
 use Rattle.group_trees.specs.declared.heads.GroupHeads.{GroupHeads}
 use Rattle.inode_pass.specs.Units.{opened_state}
+use Rattle.quiet_check.specs.Space.{IsMapped}
 use Rattle.rmap_recs.specs.declared.records.RmapRec.{RmapRec}
 use Rattle.sblock.specs.declared.kind.Kind.TheVariants.{Rmap}
 use Rattle.space_check.specs.Events.{Event, Moment, AreDone, StopsIn}
 use Rattle.space_check.specs.Session.{come_to}
 use Rattle.space_check.specs.declared.halt.Halt.{Halt}
+use Rattle.tree_blocks.specs.declared.tree.TreeRead.{TreeRead}
 use Rattle.tree_walk.specs.Trails.{LieInside}
 use Rattle.check_phases.specs.Entries.{passes_after}
 use Rattle.check_phases.specs.Phases.{Phase, Inodes, Space, lacks_mappings, lacks_nothing, phase_events, phase_passes, unit_event}
@@ -80,3 +83,14 @@ AreAccepted at g (h ∷ hs) = LieInside (group_len_of at g) h.list.items × AreA
 abbrev pub AreHeads : Layout → Image → ℕ → List GroupHeads → Type 0
 AreHeads at image g [] = Unit {0}
 AreHeads at image g (h ∷ hs) = IsHeadsOf at image g h × AreHeads at image (g + 1) hs
+
+-- ---- by reverse mappings that were read, where they and the head are the image's
+
+abbrev pub ChecksFree : {T : Type 0} → Layout → Image → ℕ → Agf → TreeRead RmapRec → (before after : Tally) → Result T Halt → Type 0
+ChecksFree at image g agf mapped before after result = IsMapped at image g agf mapped → ChecksUnit (opened_state at image) None g units.Free before after result
+
+abbrev pub ChecksCounts : {T : Type 0} → Layout → Image → ℕ → Agf → TreeRead RmapRec → (before after : Tally) → Result T Halt → Type 0
+ChecksCounts at image g agf mapped before after result = IsMapped at image g agf mapped → ChecksUnit (opened_state at image) None g units.Refc before after result
+
+abbrev pub ChecksBoth : {T : Type 0} → Layout → Image → ℕ → Agf → TreeRead RmapRec → (before after : Tally) → Result T Halt → Type 0
+ChecksBoth at image g agf mapped before after result = IsMapped at image g agf mapped → ChecksSpace (opened_state at image) None g before after result

@@ -4,7 +4,7 @@ ghost use Rattle.blk_device.specs.Contents.{Contents};
 ghost use Rattle.blk_device.specs.Reading.{OnlyRead};
 ghost use Rattle.blk_device.specs.declared.device.Region.TheVariants.{Image};
 ghost use Rattle.check_phases.specs.Checks.{AreAccepted, AreHeads, IsHeadsOf};
-ghost use Rattle.check_phases.specs.Heads.{StopsAtHead};
+ghost use Rattle.check_phases.specs.Heads.{HeadsGrow, StopsAtHead};
 ghost use Rattle.geom.specs.Layout.{group_len_of};
 ghost use Rattle.geom.specs.Places.{layout};
 ghost use Rattle.group_trees.specs.Heads.{is_failed as is_failed_heads};
@@ -70,7 +70,7 @@ fn put_group<D: Device, L: Ledger>(
     requires room { geo.now.dblocks ≤ D.blocks dev.old Image }
     requires before { length all.old.items ≡ g }
     ensures exact { (c : Contents) → D.content dev.old ≡ Some c → MeetsHead g (bad_head (layout geo.now) g (heads_at (layout geo.now) (c Image) g)) result }
-    ensures heads { OnOk result ((c : Contents) → D.content dev.old ≡ Some c → AreHeads (layout geo.now) (c Image) 0 all.old.items → AreHeads (layout geo.now) (c Image) 0 all.new.items) }
+    ensures heads { OnOk result (HeadsGrow (layout geo.now) (D.content dev.old) all.old.items all.new.items) }
     ensures accepted { OnOk result (AreAccepted (layout geo.now) 0 all.old.items → AreAccepted (layout geo.now) 0 all.new.items) }
     ensures one { OnOk result (length all.new.items ≡ length all.old.items + 1) }
     ensures clear { IfErr result IsNotFull }

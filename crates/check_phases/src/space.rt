@@ -3,7 +3,7 @@ ghost use Rattle.blk_device.specs.Causes.{HasCause};
 ghost use Rattle.blk_device.specs.Contents.{Contents};
 ghost use Rattle.blk_device.specs.Reading.{OnlyRead};
 ghost use Rattle.blk_device.specs.declared.device.Region.TheVariants.{Image};
-ghost use Rattle.check_phases.specs.Checks.{AreReadable, ChecksSpace, ChecksSpaceOf, ChecksUnit, HasMappings};
+ghost use Rattle.check_phases.specs.Checks.{AreReadable, ChecksBoth, ChecksCounts, ChecksFree, ChecksSpace, ChecksSpaceOf, HasMappings};
 ghost use Rattle.check_phases.specs.Kept.{KeepsBoth, KeepsCounts, KeepsFree, KeepsGroup};
 ghost use Rattle.check_phases.specs.Parts.{AddsPart, AreSkipped, IsJudgedPart, IsSpacePart};
 ghost use Rattle.check_phases.specs.Phases.{Space, lacks_mappings, lacks_nothing};
@@ -12,7 +12,6 @@ ghost use Rattle.fs_state.specs.Kinds.{heads_of};
 ghost use Rattle.fs_state.specs.State.{State};
 ghost use Rattle.geom.specs.Places.{layout};
 ghost use Rattle.inode_pass.specs.Units.{opened_state};
-ghost use Rattle.quiet_check.specs.Space.{IsMapped};
 ghost use Rattle.rmap_recs.specs.Rmap.{rmap_form};
 ghost use Rattle.space_check.specs.Events.{most_entries};
 ghost use Rattle.space_check.specs.Progress.{is_failed, IsOwn};
@@ -50,7 +49,7 @@ fn check_free<D: Device, L: Ledger>(
     requires sound { AreSound rmap_form (bounds_of (layout geo.now) g) mapped.now.recs.items }
     requires room { geo.now.dblocks ≤ D.blocks dev.old Image }
     requires begun { length tally.old.journal.entries.items < most_entries }
-    ensures exact { (c : Contents) → D.content dev.old ≡ Some c → IsMapped (layout geo.now) (c Image) g agf.now mapped.now → ChecksUnit (opened_state (layout geo.now) (c Image)) None g units.Free tally.old tally.new result }
+    ensures exact { (c : Contents) → D.content dev.old ≡ Some c → ChecksFree (layout geo.now) (c Image) g agf.now mapped.now tally.old tally.new result }
     ensures added { AddsPart (IsJudgedPart g units.Free) tally.old tally.new result }
     ensures kept { KeepsFree (layout geo.now) (D.content dev.old) g agf.now mapped.now tally.old steps.old.reads tally.new steps.new.reads result }
     ensures reading { OnlyRead D.Device dev.old dev.new steps.old steps.new }
@@ -74,7 +73,7 @@ fn check_counts<D: Device, L: Ledger>(
     requires group { g < geo.now.agcount }
     requires sound { AreSound rmap_form (bounds_of (layout geo.now) g) mapped.now.recs.items }
     requires room { geo.now.dblocks ≤ D.blocks dev.old Image }
-    ensures exact { (c : Contents) → D.content dev.old ≡ Some c → IsMapped (layout geo.now) (c Image) g agf.now mapped.now → ChecksUnit (opened_state (layout geo.now) (c Image)) None g units.Refc tally.old tally.new result }
+    ensures exact { (c : Contents) → D.content dev.old ≡ Some c → ChecksCounts (layout geo.now) (c Image) g agf.now mapped.now tally.old tally.new result }
     ensures added { AddsPart (IsJudgedPart g units.Refc) tally.old tally.new result }
     ensures kept { KeepsCounts (layout geo.now) (D.content dev.old) g agf.now mapped.now tally.old steps.old.reads tally.new steps.new.reads result }
     ensures reading { OnlyRead D.Device dev.old dev.new steps.old steps.new }
@@ -100,7 +99,7 @@ fn check_both<D: Device, L: Ledger>(
     requires sound { AreSound rmap_form (bounds_of (layout geo.now) g) mapped.now.recs.items }
     requires room { geo.now.dblocks ≤ D.blocks dev.old Image }
     requires begun { length tally.old.journal.entries.items < most_entries }
-    ensures exact { (c : Contents) → D.content dev.old ≡ Some c → IsMapped (layout geo.now) (c Image) g agf.now mapped.now → ChecksSpace (opened_state (layout geo.now) (c Image)) None g tally.old tally.new result }
+    ensures exact { (c : Contents) → D.content dev.old ≡ Some c → ChecksBoth (layout geo.now) (c Image) g agf.now mapped.now tally.old tally.new result }
     ensures added { AddsPart (IsSpacePart g) tally.old tally.new result }
     ensures kept { KeepsBoth (layout geo.now) (D.content dev.old) g agf.now mapped.now tally.old steps.old.reads tally.new steps.new.reads result }
     ensures reading { OnlyRead D.Device dev.old dev.new steps.old steps.new }

@@ -38,6 +38,10 @@ MappingsDone at image g us set before after result = HasForks at image g us (pie
 abbrev pub IsReady : Layout → Image → List (Vec ℕ) → List ClaimSet → ℕ → Type 0
 IsReady at image lists sets g = HasForks at image g (units_at lists g) (pieces_at sets g)
 
+-- where it does, the group's reverse mappings are checked
+abbrev pub ReadyDone : {T : Type 0} → Layout → Image → List (Vec ℕ) → List ClaimSet → ℕ → (before after : Tally) → Result T Halt → Type 0
+ReadyDone at image lists sets g before after result = IsReady at image lists sets g → ChecksMapping at image g before after result
+
 -- and of those of each group
 abbrev pub AreReady : Layout → Image → List (Vec ℕ) → List ClaimSet → Type 0
 AreReady at image lists sets = (g : ℕ) → g < at.agcount → IsReady at image lists sets g

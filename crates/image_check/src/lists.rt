@@ -9,7 +9,7 @@ ghost use Rattle.geom.specs.Layout.{group_len_of};
 ghost use Rattle.geom.specs.Places.{layout};
 ghost use Rattle.group_trees.specs.Counted.{kind_most};
 ghost use Rattle.group_trees.specs.Group.{AreInside};
-ghost use Rattle.image_check.specs.Chunks.{AreChunksIn, AreListsOf};
+ghost use Rattle.image_check.specs.Chunks.{AreChunksIn, AreListsOf, ListsGrow};
 ghost use Rattle.image_check.specs.Mappings.{ListsLie};
 ghost use Rattle.image_check.specs.Reads.{chunks_most};
 ghost use Rattle.ino_recs.specs.Chunks.{ino_form};
@@ -66,7 +66,7 @@ fn put_chunks<D: Device, L: Ledger>(
     requires all { length heads.now ≡ geo.now.agcount }
     requires heads { (c : Contents) → D.content dev.old ≡ Some c → AreHeads (layout geo.now) (c Image) 0 heads.now }
     requires before { length lists.old.items ≡ g }
-    ensures exact { OnOk result ((c : Contents) → D.content dev.old ≡ Some c → AreListsOf (layout geo.now) (c Image) g lists.old.items → AreListsOf (layout geo.now) (c Image) (g + 1) lists.new.items) }
+    ensures exact { OnOk result (ListsGrow (layout geo.now) (D.content dev.old) g lists.old.items lists.new.items) }
     ensures inside { OnOk result (ListsLie (layout geo.now) g lists.old.items → ListsLie (layout geo.now) (g + 1) lists.new.items) }
     ensures one { OnOk result (length lists.new.items ≡ length lists.old.items + 1) }
     ensures counted { (c : Contents) → D.content dev.old ≡ Some c → steps.new.reads ≤ steps.old.reads + kind_most ino_form (layout geo.now) (c Image) g }

@@ -11,7 +11,7 @@ ghost use Rattle.geom.specs.Layout.{group_len_of};
 ghost use Rattle.geom.specs.Places.{layout};
 ghost use Rattle.group_trees.specs.Counted.{trees_most};
 ghost use Rattle.image_check.specs.Kept.{KeepsClaims, KeepsMappings, KeepsReady};
-ghost use Rattle.image_check.specs.Mappings.{AreReady, LieIn, ChecksMapping, ChecksMappings, IsReady, MappingsDone};
+ghost use Rattle.image_check.specs.Mappings.{AreReady, LieIn, ChecksMappings, MappingsDone, ReadyDone};
 ghost use Rattle.image_check.specs.Units.{IsMappingPart};
 ghost use Rattle.mapping_check.specs.Mapped.{IsMappingJudged};
 ghost use Rattle.space_check.specs.Progress.{is_failed, IsOutside};
@@ -109,7 +109,7 @@ fn check_claims_of<D: Device, L: Ledger>(
     requires lists { length lists.now ≡ geo.now.agcount }
     requires inside { LieInGroups (layout geo.now) lists.now }
     requires sets { length sets.old ≡ geo.now.agcount }
-    ensures exact { (c : Contents) → D.content dev.old ≡ Some c → IsReady (layout geo.now) (c Image) lists.now sets.old g → ChecksMapping (layout geo.now) (c Image) g tally.old tally.new result }
+    ensures exact { (c : Contents) → D.content dev.old ≡ Some c → ReadyDone (layout geo.now) (c Image) lists.now sets.old g tally.old tally.new result }
     ensures added { AddsPart (IsMappingPart g) tally.old tally.new result }
     ensures kept { KeepsReady (layout geo.now) (D.content dev.old) g lists.now sets.old tally.old steps.old.reads tally.new steps.new.reads result }
     ensures others { (h : ℕ) → g < h → pieces_at sets.new h ≡ pieces_at sets.old h }
