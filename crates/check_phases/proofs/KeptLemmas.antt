@@ -72,7 +72,7 @@ none_begun es a = record { done = []; rest = es; whole = refl; entries = sym (ap
 has_room : (n most : ℕ) → n < most → nat_lt n most ≡ true
 has_room n most h = grind (arith, nat_tests)
 
-begun_here : (journal : List Entry) (e : Event) (es : List Event) → length journal < most_entries → begun_of journal (e ∷ es) ≡ e.reads
+pub begun_here : (journal : List Entry) (e : Event) (es : List Event) → length journal < most_entries → begun_of journal (e ∷ es) ≡ e.reads
 begun_here journal e es room = ap (λ (b : Bool). if b then e.reads else 0) (has_room (length journal) most_entries room)
 
 -- the next one had begun

@@ -3,6 +3,7 @@ pub mod CheckLemmas
 pub mod HeadLemmas
 pub mod JudgedLemmas
 pub mod KeptLemmas
+pub mod KeptToldLemmas
 pub mod OrderLemmas
 pub mod PartLemmas
 pub mod PhaseLemmas

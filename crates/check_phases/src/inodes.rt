@@ -1,15 +1,18 @@
-ghost use Rattle.std.specs.Prelude.{◌≡◌, ◌<◌, ◌≤◌, Some, IfErr, IfOk};
+ghost use Rattle.std.specs.Prelude.{◌≡◌, ◌+◌, ◌<◌, ◌≤◌, Some, IfErr, IfOk};
 ghost use Rattle.blk_device.specs.Causes.{HasCause};
 ghost use Rattle.blk_device.specs.Contents.{Contents};
 ghost use Rattle.blk_device.specs.Reading.{OnlyRead};
 ghost use Rattle.blk_device.specs.declared.device.Region.TheVariants.{Image};
 ghost use Rattle.check_phases.specs.Checks.{ChecksInode, IsHeadsOf};
+ghost use Rattle.check_phases.specs.Kept.{KeepsGroup};
 ghost use Rattle.check_phases.specs.Parts.{AddsPart, IsInodePart};
+ghost use Rattle.check_phases.specs.Phases.{Inodes, lacks_nothing};
 ghost use Rattle.fs_model.specs.declared.unit.Unit.TheVariants as units;
 ghost use Rattle.geom.specs.Layout.{group_len_of};
 ghost use Rattle.geom.specs.Places.{layout};
 ghost use Rattle.inode_pass.specs.Stops.{is_failed as is_failed_pass};
 ghost use Rattle.inode_pass.specs.Units.{opened_state};
+ghost use Rattle.quiet_check.specs.Counted.{inodes_most};
 ghost use Rattle.quiet_check.specs.Judged.{IsJudged};
 ghost use Rattle.space_check.specs.Progress.{is_failed, IsOutside};
 ghost use Rattle.tree_walk.specs.Trails.{LieInside};
@@ -54,6 +57,7 @@ fn judge_unit<D: Device, L: Ledger>(
     requires heads { (c : Contents) → D.content dev.old ≡ Some c → IsHeadsOf (layout geo.now) (c Image) g heads.now }
     ensures exact { IfOk result (λ judged. (c : Contents) → D.content dev.old ≡ Some c → IsJudged (opened_state (layout geo.now) (c Image)) g units.Inode judged) }
     ensures outside { IfErr result IsOutside }
+    ensures counted { (c : Contents) → D.content dev.old ≡ Some c → steps.new.reads ≤ steps.old.reads + inodes_most (layout geo.now) (c Image) g }
     ensures reading { OnlyRead D.Device dev.old dev.new steps.old steps.new }
     ensures cause { HasCause is_failed (D.faults dev.old) (D.faults dev.new) result }
 {
@@ -82,6 +86,7 @@ pub fn check_inodes<D: Device, L: Ledger>(
     requires heads { (c : Contents) → D.content dev.old ≡ Some c → IsHeadsOf (layout geo.now) (c Image) g heads.now }
     ensures exact { (c : Contents) → D.content dev.old ≡ Some c → ChecksInode (layout geo.now) (c Image) g tally.old tally.new result }
     ensures added { AddsPart (IsInodePart g) tally.old tally.new result }
+    ensures kept { KeepsGroup (layout geo.now) (D.content dev.old) Inodes lacks_nothing g tally.old steps.old.reads tally.new steps.new.reads result }
     ensures reading { OnlyRead D.Device dev.old dev.new steps.old steps.new }
     ensures cause { HasCause is_failed (D.faults dev.old) (D.faults dev.new) result }
 {

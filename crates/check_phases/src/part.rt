@@ -4,7 +4,9 @@ ghost use Rattle.blk_device.specs.Contents.{Contents};
 ghost use Rattle.blk_device.specs.Reading.{OnlyRead};
 ghost use Rattle.blk_device.specs.declared.device.Region.TheVariants.{Image};
 ghost use Rattle.check_phases.specs.Checks.{AreAccepted, AreHeads, AreReadable, ChecksInode, ChecksInodes, ChecksSpaceOf, ChecksSpaces};
+ghost use Rattle.check_phases.specs.Kept.{KeepsGroup, KeepsPart};
 ghost use Rattle.check_phases.specs.Parts.{AddsPart, AddsParts, IsInodePart, IsSpacePart};
+ghost use Rattle.check_phases.specs.Phases.{Inodes, Space, lacks_mappings, lacks_nothing};
 ghost use Rattle.geom.specs.Places.{layout};
 ghost use Rattle.inode_pass.specs.Units.{opened_state};
 ghost use Rattle.space_check.specs.Progress.{is_failed};
@@ -45,6 +47,7 @@ fn check_inodes_of<D: Device, L: Ledger>(
     requires heads { (c : Contents) → D.content dev.old ≡ Some c → AreHeads (layout geo.now) (c Image) 0 heads.now }
     ensures exact { (c : Contents) → D.content dev.old ≡ Some c → ChecksInode (layout geo.now) (c Image) g tally.old tally.new result }
     ensures added { AddsPart (IsInodePart g) tally.old tally.new result }
+    ensures kept { KeepsGroup (layout geo.now) (D.content dev.old) Inodes lacks_nothing g tally.old steps.old.reads tally.new steps.new.reads result }
     ensures reading { OnlyRead D.Device dev.old dev.new steps.old steps.new }
     ensures cause { HasCause is_failed (D.faults dev.old) (D.faults dev.new) result }
 {
@@ -72,6 +75,7 @@ pub fn check_inode_part<D: Device, L: Ledger>(
     requires heads { (c : Contents) → D.content dev.old ≡ Some c → AreHeads (layout geo.now) (c Image) 0 heads.now }
     ensures exact { (c : Contents) → D.content dev.old ≡ Some c → ChecksInodes (layout geo.now) (c Image) part tally.old tally.new result }
     ensures added { AddsParts IsInodePart part tally.old tally.new result }
+    ensures kept { KeepsPart (layout geo.now) (D.content dev.old) Inodes lacks_nothing part tally.old steps.old.reads tally.new steps.new.reads result }
     ensures reading { OnlyRead D.Device dev.old dev.new steps.old steps.new }
     ensures cause { HasCause is_failed (D.faults dev.old) (D.faults dev.new) result }
 {
@@ -99,6 +103,7 @@ fn check_space_of<D: Device, L: Ledger>(
     requires readable { (c : Contents) → D.content dev.old ≡ Some c → AreReadable (opened_state (layout geo.now) (c Image)) passed.now }
     ensures exact { (c : Contents) → D.content dev.old ≡ Some c → ChecksSpaceOf (layout geo.now) (c Image) passed.now g tally.old tally.new result }
     ensures added { AddsPart (IsSpacePart g) tally.old tally.new result }
+    ensures kept { KeepsGroup (layout geo.now) (D.content dev.old) Space (lacks_mappings passed.now) g tally.old steps.old.reads tally.new steps.new.reads result }
     ensures reading { OnlyRead D.Device dev.old dev.new steps.old steps.new }
     ensures cause { HasCause is_failed (D.faults dev.old) (D.faults dev.new) result }
 {
@@ -128,6 +133,7 @@ pub fn check_space_part<D: Device, L: Ledger>(
     requires readable { (c : Contents) → D.content dev.old ≡ Some c → AreReadable (opened_state (layout geo.now) (c Image)) passed.now }
     ensures exact { (c : Contents) → D.content dev.old ≡ Some c → ChecksSpaces (layout geo.now) (c Image) part passed.now tally.old tally.new result }
     ensures added { AddsParts IsSpacePart part tally.old tally.new result }
+    ensures kept { KeepsPart (layout geo.now) (D.content dev.old) Space (lacks_mappings passed.now) part tally.old steps.old.reads tally.new steps.new.reads result }
     ensures reading { OnlyRead D.Device dev.old dev.new steps.old steps.new }
     ensures cause { HasCause is_failed (D.faults dev.old) (D.faults dev.new) result }
 {

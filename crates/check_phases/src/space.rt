@@ -4,7 +4,9 @@ ghost use Rattle.blk_device.specs.Contents.{Contents};
 ghost use Rattle.blk_device.specs.Reading.{OnlyRead};
 ghost use Rattle.blk_device.specs.declared.device.Region.TheVariants.{Image};
 ghost use Rattle.check_phases.specs.Checks.{AreReadable, ChecksSpace, ChecksSpaceOf, ChecksUnit, HasMappings};
+ghost use Rattle.check_phases.specs.Kept.{KeepsBoth, KeepsCounts, KeepsFree, KeepsGroup};
 ghost use Rattle.check_phases.specs.Parts.{AddsPart, AreSkipped, IsJudgedPart, IsSpacePart};
+ghost use Rattle.check_phases.specs.Phases.{Space, lacks_mappings, lacks_nothing};
 ghost use Rattle.fs_model.specs.declared.unit.Unit.TheVariants as units;
 ghost use Rattle.fs_state.specs.Kinds.{heads_of};
 ghost use Rattle.fs_state.specs.State.{State};
@@ -50,6 +52,7 @@ fn check_free<D: Device, L: Ledger>(
     requires begun { length tally.old.journal.entries.items < most_entries }
     ensures exact { (c : Contents) → D.content dev.old ≡ Some c → IsMapped (layout geo.now) (c Image) g agf.now mapped.now → ChecksUnit (opened_state (layout geo.now) (c Image)) None g units.Free tally.old tally.new result }
     ensures added { AddsPart (IsJudgedPart g units.Free) tally.old tally.new result }
+    ensures kept { KeepsFree (layout geo.now) (D.content dev.old) g agf.now mapped.now tally.old steps.old.reads tally.new steps.new.reads result }
     ensures reading { OnlyRead D.Device dev.old dev.new steps.old steps.new }
     ensures cause { HasCause is_failed (D.faults dev.old) (D.faults dev.new) result }
 {
@@ -73,6 +76,7 @@ fn check_counts<D: Device, L: Ledger>(
     requires room { geo.now.dblocks ≤ D.blocks dev.old Image }
     ensures exact { (c : Contents) → D.content dev.old ≡ Some c → IsMapped (layout geo.now) (c Image) g agf.now mapped.now → ChecksUnit (opened_state (layout geo.now) (c Image)) None g units.Refc tally.old tally.new result }
     ensures added { AddsPart (IsJudgedPart g units.Refc) tally.old tally.new result }
+    ensures kept { KeepsCounts (layout geo.now) (D.content dev.old) g agf.now mapped.now tally.old steps.old.reads tally.new steps.new.reads result }
     ensures reading { OnlyRead D.Device dev.old dev.new steps.old steps.new }
     ensures cause { HasCause is_failed (D.faults dev.old) (D.faults dev.new) result }
 {
@@ -98,6 +102,7 @@ fn check_both<D: Device, L: Ledger>(
     requires begun { length tally.old.journal.entries.items < most_entries }
     ensures exact { (c : Contents) → D.content dev.old ≡ Some c → IsMapped (layout geo.now) (c Image) g agf.now mapped.now → ChecksSpace (opened_state (layout geo.now) (c Image)) None g tally.old tally.new result }
     ensures added { AddsPart (IsSpacePart g) tally.old tally.new result }
+    ensures kept { KeepsBoth (layout geo.now) (D.content dev.old) g agf.now mapped.now tally.old steps.old.reads tally.new steps.new.reads result }
     ensures reading { OnlyRead D.Device dev.old dev.new steps.old steps.new }
     ensures cause { HasCause is_failed (D.faults dev.old) (D.faults dev.new) result }
 {
@@ -137,6 +142,7 @@ fn check_mapped<D: Device, L: Ledger>(
     requires readable { (c : Contents) → D.content dev.old ≡ Some c → HasMappings (opened_state (layout geo.now) (c Image)) g }
     ensures exact { (c : Contents) → D.content dev.old ≡ Some c → ChecksSpace (opened_state (layout geo.now) (c Image)) None g tally.old tally.new result }
     ensures added { AddsPart (IsSpacePart g) tally.old tally.new result }
+    ensures kept { KeepsGroup (layout geo.now) (D.content dev.old) Space lacks_nothing g tally.old steps.old.reads tally.new steps.new.reads result }
     ensures reading { OnlyRead D.Device dev.old dev.new steps.old steps.new }
     ensures cause { HasCause is_failed (D.faults dev.old) (D.faults dev.new) result }
 {
@@ -180,6 +186,7 @@ pub fn check_space<D: Device, L: Ledger>(
     requires readable { (c : Contents) → D.content dev.old ≡ Some c → AreReadable (opened_state (layout geo.now) (c Image)) passed.now }
     ensures exact { (c : Contents) → D.content dev.old ≡ Some c → ChecksSpaceOf (layout geo.now) (c Image) passed.now g tally.old tally.new result }
     ensures added { AddsPart (IsSpacePart g) tally.old tally.new result }
+    ensures kept { KeepsGroup (layout geo.now) (D.content dev.old) Space (lacks_mappings passed.now) g tally.old steps.old.reads tally.new steps.new.reads result }
     ensures reading { OnlyRead D.Device dev.old dev.new steps.old steps.new }
     ensures cause { HasCause is_failed (D.faults dev.old) (D.faults dev.new) result }
 {

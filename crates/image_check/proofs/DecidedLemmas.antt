@@ -31,7 +31,7 @@ has_room n most h = grind (arith, nat_tests)
 has_none : (n most : ℕ) → most ≤ n → nat_lt n most ≡ false
 has_none n most h = grind (arith, nat_tests)
 
-empty_room : length {A = Entry} [] < most_entries
+pub empty_room : length {A = Entry} [] < most_entries
 unfolding most_entries
 empty_room = lit< tt
 
@@ -94,7 +94,7 @@ session_long a past (p ∷ ps) = ap suc (session_long a (with_entries past (unit
 -- ---- the whole
 
 module _ (at : Layout) (image : Image) where
-  events_judged : bad_head_from at image 0 at.agcount ≡ None → units_events at image ≡ bounded (most_read at image) (unit_order at.agcount) (check_events (opened_state at image))
+  pub events_judged : bad_head_from at image 0 at.agcount ≡ None → units_events at image ≡ bounded (most_read at image) (unit_order at.agcount) (check_events (opened_state at image))
   unfolding units_events
   events_judged none = rw (none, units_events) refl
 

@@ -22,11 +22,13 @@ same_place : (x y : Tally) → y.journal ≡ x.journal → reached y ≡ reached
 same_place x y same = ap (λ (j : Journal). come_to j.entries.items) same
 
 module _ (at : Layout) (image : Image) where
-  pub readable_then : PassedCanBeRead → (x y : Tally) (fallen : Option ℕ) (ps : List Bool) → x.passed.items ≡ [] → fallen ≡ inode_fallen (opened_state at image) → ChecksAll {T = Unit {0}} at image fallen x y (Ok tt) → ps ≡ y.passed.items → AreReadable (opened_state at image) ps
-  readable_then law x y fallen ps fresh first all same =
+  pub passed_said : (x y : Tally) (fallen : Option ℕ) (ps : List Bool) → x.passed.items ≡ [] → fallen ≡ inode_fallen (opened_state at image) → ChecksAll {T = Unit {0}} at image fallen x y (Ok tt) → ps ≡ y.passed.items → ps ≡ mappings_passed (opened_state at image)
+  passed_said x y fallen ps fresh first all same =
       let a = opened_state at image in
-      let one = same ∙ all.1 ∙ ap (λ (bs : List Bool). bs ++ phase_passes a Mappings (lacks_inodes fallen) 0 at.agcount) fresh ∙ ap (λ (o : Option ℕ). phase_passes a Mappings (lacks_inodes o) 0 at.agcount) first in
-      subst (AreReadable a) (sym one) (law a)
+      same ∙ all.1 ∙ ap (λ (bs : List Bool). bs ++ phase_passes a Mappings (lacks_inodes fallen) 0 at.agcount) fresh ∙ ap (λ (o : Option ℕ). phase_passes a Mappings (lacks_inodes o) 0 at.agcount) first
+
+  pub readable_then : PassedCanBeRead → (x y : Tally) (fallen : Option ℕ) (ps : List Bool) → x.passed.items ≡ [] → fallen ≡ inode_fallen (opened_state at image) → ChecksAll {T = Unit {0}} at image fallen x y (Ok tt) → ps ≡ y.passed.items → AreReadable (opened_state at image) ps
+  readable_then law x y fallen ps fresh first all same = let a = opened_state at image in subst (AreReadable a) (sym (passed_said x y fallen ps fresh first all same)) (law a)
 
   module _ (law : PhasesAreSession) where
     pub inodes_end : (x y : Tally) (halt : Halt) → ChecksPhase {T = Unit {0}} (opened_state at image) Inodes lacks_nothing 0 at.agcount x y (Err halt) → ChecksUnits {T = Unit {0}} at image x y (Err halt)

@@ -4,9 +4,11 @@ pub mod DecidedLemmas
 pub mod EndLemmas
 pub mod FallenLemmas
 pub mod ForkLemmas
+pub mod KeptUnitsLemmas
 pub mod ListLemmas
 pub mod MapLemmas
 pub mod PieceLemmas
+pub mod ReadLemmas
 pub mod SessionLemmas
 pub mod SetLemmas
 pub mod UnitsLemmas

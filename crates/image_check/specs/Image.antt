@@ -1,7 +1,8 @@
 -- What a check of a whole image does and how it ends, as its bytes decide it: the heads of all groups first, and then all
 -- units of all groups in the order of a session.
-use Rattle.std.specs.Prelude.{◌≡◌, ◌≤◌, ℕ, ◌+◌, List, [], ◌∷◌, ◌++◌, length, Option, Some, None, Result, Ok, Err, nat_lt, if◌then◌else◌}
+use Rattle.std.specs.Prelude.{◌≡◌, ◌≤◌, ℕ, ◌+◌, List, [], ◌∷◌, ◌++◌, length, Option, Some, None, Result, Ok, Err}
 use Rattle.std.specs.Global.{Vec}
+pub use Rattle.check_phases.specs.Kept.{begun_of}
 use Rattle.check_phases.specs.Session.{check_events}
 use Rattle.fs_derive.specs.Session.{Place, unit_order}
 use Rattle.fs_model.specs.declared.entry.Entry.{Entry}
@@ -10,7 +11,7 @@ use Rattle.fs_state.specs.Kinds.{Image}
 use Rattle.geom.specs.Layout.{Layout}
 use Rattle.inode_pass.specs.Units.{opened_state}
 use Rattle.space_check.specs.Checked.{Checked, Judged, MeetsHalt, RefusedHead, bad_head_from, looked_at, looks, recorded}
-use Rattle.space_check.specs.Events.{Event, entries_of, most_entries, reads_of}
+use Rattle.space_check.specs.Events.{Event, entries_of, reads_of}
 use Rattle.space_check.specs.declared.halt.Halt.{Halt}
 use Rattle.space_check.specs.declared.stop.CheckStop.{CheckStop}
 use Rattle.image_check.specs.Reads.{most_read}
@@ -51,11 +52,6 @@ MeetsEnd decided journal (Err halt) = MeetsHalt decided halt journal
 abbrev pub journal_in : Result (Vec Entry) CheckStop → List Entry
 journal_in (Ok journal) = journal.items
 journal_in (Err stop) = stop.journal.items
-
--- what the next of these events may read, where the journal has room for it
-abbrev pub begun_of : List Entry → List Event → ℕ
-begun_of journal [] = 0
-begun_of journal (next ∷ rest) = if nat_lt (length journal) most_entries then next.reads else 0
 
 -- Of these events the first were done, with these entries, and no more blocks were read than for them and for the next
 -- one, which begins only where the journal has room.

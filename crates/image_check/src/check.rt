@@ -4,7 +4,8 @@ ghost use Rattle.blk_device.specs.Contents.{Contents};
 ghost use Rattle.blk_device.specs.Reading.{OnlyRead};
 ghost use Rattle.blk_device.specs.declared.device.Region.TheVariants.{Image};
 ghost use Rattle.geom.specs.Places.{layout};
-ghost use Rattle.image_check.specs.Image.{MeetsEnd, image_checked};
+ghost use Rattle.image_check.specs.Image.{IsKept, MeetsEnd, image_checked, image_events, journal_in};
+ghost use Rattle.image_check.specs.Kept.{KeepsImage};
 ghost use Rattle.image_check.specs.Units.{EndsInSession, IsSession};
 ghost use Rattle.space_check.specs.Checked.{CheckCause, MeetsCheck};
 ghost use Rattle.space_check.specs.Progress.{is_failed};
@@ -32,6 +33,7 @@ fn check_into<D: Device, L: Ledger>(
     requires begun { tally.old.passed.items ≡ [] }
     ensures exact { (c : Contents) → D.content dev.old ≡ Some c → MeetsEnd (image_checked (layout geo.now) (c Image)) tally.new.journal.entries.items result }
     ensures session { EndsInSession geo.now.agcount tally.new.journal.entries.items result }
+    ensures kept { KeepsImage (layout geo.now) (D.content dev.old) steps.old.reads steps.new.reads tally.new.journal.entries.items }
     ensures reading { OnlyRead D.Device dev.old dev.new steps.old steps.new }
     ensures cause { HasCause is_failed (D.faults dev.old) (D.faults dev.new) result }
 {
@@ -52,6 +54,7 @@ pub fn check_image<D: Device, L: Ledger>(
     requires room { geo.now.dblocks ≤ D.blocks dev.old Image }
     ensures exact { IfSome (D.content dev.old) (λ c. MeetsCheck (image_checked (layout geo.now) (c Image)) result) }
     ensures session { IsSession geo.now.agcount result }
+    ensures kept { IfSome (D.content dev.old) (λ c. IsKept (image_events (layout geo.now) (c Image)) steps.old.reads steps.new.reads (journal_in result)) }
     ensures reading { OnlyRead D.Device dev.old dev.new steps.old steps.new }
     ensures cause { CheckCause (D.faults dev.old) (D.faults dev.new) result }
 {

@@ -1,4 +1,4 @@
-ghost use Rattle.std.specs.Prelude.{◌≡◌, ◌<◌, ◌≤◌, Some, IfOk, map};
+ghost use Rattle.std.specs.Prelude.{◌≡◌, ◌+◌, ◌<◌, ◌≤◌, Some, IfOk, map};
 ghost use Rattle.blk_device.specs.Causes.{HasCause};
 ghost use Rattle.blk_device.specs.Contents.{Contents};
 ghost use Rattle.blk_device.specs.Reading.{OnlyRead};
@@ -6,8 +6,10 @@ ghost use Rattle.blk_device.specs.declared.device.Region.TheVariants.{Image};
 ghost use Rattle.check_phases.specs.Checks.{IsHeadsOf};
 ghost use Rattle.geom.specs.Layout.{group_len_of};
 ghost use Rattle.geom.specs.Places.{layout};
+ghost use Rattle.group_trees.specs.Counted.{kind_most};
 ghost use Rattle.group_trees.specs.Group.{AreInside};
 ghost use Rattle.image_check.specs.Chunks.{AreChunksIn, unit_of};
+ghost use Rattle.ino_recs.specs.Chunks.{ino_form};
 ghost use Rattle.inode_pass.specs.Stops.{is_failed};
 
 use blk_cache::BlkCache;
@@ -47,6 +49,7 @@ pub fn read_chunks<D: Device, L: Ledger>(
     requires heads { (c : Contents) → D.content dev.old ≡ Some c → IsHeadsOf (layout geo.now) (c Image) g heads.now }
     ensures exact { IfOk result (λ units. (c : Contents) → D.content dev.old ≡ Some c → AreChunksIn (layout geo.now) (c Image) g units.items) }
     ensures inside { IfOk result (λ units. AreInside (group_len_of (layout geo.now) g) units.items) }
+    ensures counted { (c : Contents) → D.content dev.old ≡ Some c → steps.new.reads ≤ steps.old.reads + kind_most ino_form (layout geo.now) (c Image) g }
     ensures reading { OnlyRead D.Device dev.old dev.new steps.old steps.new }
     ensures cause { HasCause is_failed (D.faults dev.old) (D.faults dev.new) result }
 {

@@ -1,14 +1,17 @@
-ghost use Rattle.std.specs.Prelude.{◌≡◌, ◌<◌, ◌≤◌, [], None, Some, IfErr, IfOk, IfSome, get_or, length, not, true};
+ghost use Rattle.std.specs.Prelude.{◌≡◌, ◌+◌, ◌<◌, ◌≤◌, [], None, Some, IfErr, IfOk, IfSome, get_or, length, not, true};
 ghost use Rattle.blk_device.specs.Causes.{HasCause};
 ghost use Rattle.blk_device.specs.Contents.{Contents};
 ghost use Rattle.blk_device.specs.Reading.{OnlyRead};
 ghost use Rattle.blk_device.specs.declared.device.Region.TheVariants.{Image};
 ghost use Rattle.check_phases.specs.Checks.{AreAccepted, AreHeads};
+ghost use Rattle.check_phases.specs.Kept.{KeepsTold};
 ghost use Rattle.check_phases.specs.Parts.{AddsPart, AreParts};
-ghost use Rattle.fork_pass.specs.Passed.{AreChunks, HasSets, IsPass, LieInGroups};
+ghost use Rattle.fork_pass.specs.Counted.{forks_most};
+ghost use Rattle.fork_pass.specs.Passed.{AreChunks, HasSets, IsPass, LieInGroups, units_at};
 ghost use Rattle.check_phases.specs.Session.{inode_fallen};
 ghost use Rattle.geom.specs.Places.{layout};
 ghost use Rattle.image_check.specs.Checked.{AllPass, ChecksAll, ChecksUnits, IsFirstFallen};
+ghost use Rattle.image_check.specs.Kept.{KeepsAll, KeepsLists, KeepsUnits, mappings_kept};
 ghost use Rattle.inode_pass.specs.Units.{opened_state};
 ghost use Rattle.image_check.specs.Mappings.{AreReady};
 ghost use Rattle.image_check.specs.Units.{AreMappings, EndsInUnits, IsMappingPart};
@@ -69,6 +72,7 @@ fn forks_of<D: Device, L: Ledger>(
     ensures exact { IfOk result (λ seen. (c : Contents) → D.content dev.old ≡ Some c → IsPass (layout geo.now) lists.now (c Image) seen) }
     ensures groups { IfOk result (HasSets geo.now.agcount) }
     ensures outside { IfErr result IsOutside }
+    ensures counted { (c : Contents) → D.content dev.old ≡ Some c → steps.new.reads ≤ steps.old.reads + forks_most (layout geo.now) (c Image) (units_at lists.now) }
     ensures reading { OnlyRead D.Device dev.old dev.new steps.old steps.new }
     ensures cause { HasCause is_failed (D.faults dev.old) (D.faults dev.new) result }
 {
@@ -121,6 +125,7 @@ fn check_by_sets<D: Device, L: Ledger>(
     requires ready { (c : Contents) → D.content dev.old ≡ Some c → AreReady (layout geo.now) (c Image) lists.now sets.items }
     ensures exact { (c : Contents) → D.content dev.old ≡ Some c → ChecksAll (layout geo.now) (c Image) None tally.old tally.new result }
     ensures added { AddsPart (AreParts IsMappingPart geo.now.agcount) tally.old tally.new result }
+    ensures kept { KeepsTold (D.content dev.old) (mappings_kept (layout geo.now) 0 geo.now.agcount) tally.old steps.old.reads tally.new steps.new.reads result }
     ensures reading { OnlyRead D.Device dev.old dev.new steps.old steps.new }
     ensures cause { HasCause is_failed (D.faults dev.old) (D.faults dev.new) result }
 {
@@ -148,6 +153,7 @@ fn check_by_lists<D: Device, L: Ledger>(
     requires begun { length tally.old.journal.entries.items < most_entries }
     ensures exact { (c : Contents) → D.content dev.old ≡ Some c → ChecksAll (layout geo.now) (c Image) None tally.old tally.new result }
     ensures added { AddsPart (AreParts IsMappingPart geo.now.agcount) tally.old tally.new result }
+    ensures kept { KeepsLists (layout geo.now) (D.content dev.old) tally.old steps.old.reads tally.new steps.new.reads result }
     ensures reading { OnlyRead D.Device dev.old dev.new steps.old steps.new }
     ensures cause { HasCause is_failed (D.faults dev.old) (D.faults dev.new) result }
 {
@@ -177,6 +183,7 @@ fn check_by_forks<D: Device, L: Ledger>(
     requires passed { (c : Contents) → D.content dev.old ≡ Some c → AllPass (layout geo.now) (c Image) }
     ensures exact { (c : Contents) → D.content dev.old ≡ Some c → ChecksAll (layout geo.now) (c Image) None tally.old tally.new result }
     ensures added { AddsPart (AreParts IsMappingPart geo.now.agcount) tally.old tally.new result }
+    ensures kept { KeepsAll (layout geo.now) (D.content dev.old) None tally.old steps.old.reads tally.new steps.new.reads result }
     ensures reading { OnlyRead D.Device dev.old dev.new steps.old steps.new }
     ensures cause { HasCause is_failed (D.faults dev.old) (D.faults dev.new) result }
 {
@@ -203,6 +210,7 @@ fn check_all_mappings<D: Device, L: Ledger>(
     requires below { IfSome fallen (λ g. g < geo.now.agcount) }
     ensures exact { (c : Contents) → D.content dev.old ≡ Some c → ChecksAll (layout geo.now) (c Image) fallen tally.old tally.new result }
     ensures added { AddsPart (AreMappings geo.now.agcount) tally.old tally.new result }
+    ensures kept { KeepsAll (layout geo.now) (D.content dev.old) fallen tally.old steps.old.reads tally.new steps.new.reads result }
     ensures reading { OnlyRead D.Device dev.old dev.new steps.old steps.new }
     ensures cause { HasCause is_failed (D.faults dev.old) (D.faults dev.new) result }
 {
@@ -233,6 +241,7 @@ pub fn check_units<D: Device, L: Ledger>(
     requires begun { tally.old.passed.items ≡ [] }
     ensures exact { (c : Contents) → D.content dev.old ≡ Some c → ChecksUnits (layout geo.now) (c Image) tally.old tally.new result }
     ensures session { EndsInUnits geo.now.agcount tally.old.journal.entries.items tally.new.journal.entries.items result }
+    ensures kept { KeepsUnits (layout geo.now) (D.content dev.old) tally.old steps.old.reads tally.new steps.new.reads result }
     ensures reading { OnlyRead D.Device dev.old dev.new steps.old steps.new }
     ensures cause { HasCause is_failed (D.faults dev.old) (D.faults dev.new) result }
 {

@@ -7,9 +7,12 @@ ghost use Rattle.check_phases.specs.Checks.{AreHeads};
 ghost use Rattle.fork_pass.specs.Passed.{LieInGroups};
 ghost use Rattle.geom.specs.Layout.{group_len_of};
 ghost use Rattle.geom.specs.Places.{layout};
+ghost use Rattle.group_trees.specs.Counted.{kind_most};
 ghost use Rattle.group_trees.specs.Group.{AreInside};
 ghost use Rattle.image_check.specs.Chunks.{AreChunksIn, AreListsOf};
 ghost use Rattle.image_check.specs.Mappings.{ListsLie};
+ghost use Rattle.image_check.specs.Reads.{chunks_most};
+ghost use Rattle.ino_recs.specs.Chunks.{ino_form};
 ghost use Rattle.space_check.specs.Progress.{is_failed, IsOutside};
 
 use crate::chunks::read_chunks;
@@ -37,6 +40,7 @@ fn chunks_in<D: Device, L: Ledger>(
     requires heads { (c : Contents) → D.content dev.old ≡ Some c → AreHeads (layout geo.now) (c Image) 0 heads.now }
     ensures exact { IfOk result (λ units. (c : Contents) → D.content dev.old ≡ Some c → AreChunksIn (layout geo.now) (c Image) g units.items) }
     ensures inside { IfOk result (λ units. AreInside (group_len_of (layout geo.now) g) units.items) }
+    ensures counted { (c : Contents) → D.content dev.old ≡ Some c → steps.new.reads ≤ steps.old.reads + kind_most ino_form (layout geo.now) (c Image) g }
     ensures outside { IfErr result IsOutside }
     ensures reading { OnlyRead D.Device dev.old dev.new steps.old steps.new }
     ensures cause { HasCause is_failed (D.faults dev.old) (D.faults dev.new) result }
@@ -65,6 +69,7 @@ fn put_chunks<D: Device, L: Ledger>(
     ensures exact { OnOk result ((c : Contents) → D.content dev.old ≡ Some c → AreListsOf (layout geo.now) (c Image) g lists.old.items → AreListsOf (layout geo.now) (c Image) (g + 1) lists.new.items) }
     ensures inside { OnOk result (ListsLie (layout geo.now) g lists.old.items → ListsLie (layout geo.now) (g + 1) lists.new.items) }
     ensures one { OnOk result (length lists.new.items ≡ length lists.old.items + 1) }
+    ensures counted { (c : Contents) → D.content dev.old ≡ Some c → steps.new.reads ≤ steps.old.reads + kind_most ino_form (layout geo.now) (c Image) g }
     ensures outside { IfErr result IsOutside }
     ensures reading { OnlyRead D.Device dev.old dev.new steps.old steps.new }
     ensures cause { HasCause is_failed (D.faults dev.old) (D.faults dev.new) result }
@@ -90,6 +95,7 @@ pub fn all_chunks<D: Device, L: Ledger>(
     ensures exact { IfOk result (λ lists. (c : Contents) → D.content dev.old ≡ Some c → AreListsOf (layout geo.now) (c Image) geo.now.agcount lists.items) }
     ensures inside { IfOk result (λ lists. LieInGroups (layout geo.now) lists.items) }
     ensures groups { IfOk result (λ lists. length lists.items ≡ geo.now.agcount) }
+    ensures counted { (c : Contents) → D.content dev.old ≡ Some c → steps.new.reads ≤ steps.old.reads + chunks_most (layout geo.now) (c Image) geo.now.agcount }
     ensures outside { IfErr result IsOutside }
     ensures reading { OnlyRead D.Device dev.old dev.new steps.old steps.new }
     ensures cause { HasCause is_failed (D.faults dev.old) (D.faults dev.new) result }

@@ -1,4 +1,4 @@
-ghost use Rattle.std.specs.Prelude.{◌≡◌, ℕ, ◌<◌, ◌≤◌, Some, IfErr, IfOk, length};
+ghost use Rattle.std.specs.Prelude.{◌≡◌, ℕ, ◌+◌, ◌<◌, ◌≤◌, Some, IfErr, IfOk, length};
 ghost use Rattle.blk_device.specs.Causes.{HasCause};
 ghost use Rattle.blk_device.specs.Contents.{Contents};
 ghost use Rattle.blk_device.specs.Reading.{OnlyRead};
@@ -9,6 +9,8 @@ ghost use Rattle.fork_pass.specs.Passed.{LieInGroups};
 ghost use Rattle.fork_pass.specs.Sets.{pieces_at};
 ghost use Rattle.geom.specs.Layout.{group_len_of};
 ghost use Rattle.geom.specs.Places.{layout};
+ghost use Rattle.group_trees.specs.Counted.{trees_most};
+ghost use Rattle.image_check.specs.Kept.{KeepsClaims, KeepsMappings, KeepsReady};
 ghost use Rattle.image_check.specs.Mappings.{AreReady, LieIn, ChecksMapping, ChecksMappings, IsReady, MappingsDone};
 ghost use Rattle.image_check.specs.Units.{IsMappingPart};
 ghost use Rattle.mapping_check.specs.Mapped.{IsMappingJudged};
@@ -47,6 +49,7 @@ fn judge_unit<D: Device, L: Ledger>(
     requires heads { (c : Contents) → D.content dev.old ≡ Some c → IsHeadsOf (layout geo.now) (c Image) g heads.now }
     ensures exact { IfOk result (λ judged. (c : Contents) → D.content dev.old ≡ Some c → IsMappingJudged (layout geo.now) (c Image) g chunks.now set judged) }
     ensures outside { IfErr result IsOutside }
+    ensures counted { (c : Contents) → D.content dev.old ≡ Some c → steps.new.reads ≤ steps.old.reads + trees_most (layout geo.now) (c Image) g }
     ensures reading { OnlyRead D.Device dev.old dev.new steps.old steps.new }
     ensures cause { HasCause is_failed (D.faults dev.old) (D.faults dev.new) result }
 {
@@ -77,6 +80,7 @@ pub fn check_mappings<D: Device, L: Ledger>(
     requires heads { (c : Contents) → D.content dev.old ≡ Some c → IsHeadsOf (layout geo.now) (c Image) g heads.now }
     ensures exact { (c : Contents) → D.content dev.old ≡ Some c → MappingsDone (layout geo.now) (c Image) g chunks.now set tally.old tally.new result }
     ensures added { AddsPart (IsMappingPart g) tally.old tally.new result }
+    ensures kept { KeepsClaims (layout geo.now) (D.content dev.old) g chunks.now set tally.old steps.old.reads tally.new steps.new.reads result }
     ensures reading { OnlyRead D.Device dev.old dev.new steps.old steps.new }
     ensures cause { HasCause is_failed (D.faults dev.old) (D.faults dev.new) result }
 {
@@ -107,6 +111,7 @@ fn check_claims_of<D: Device, L: Ledger>(
     requires sets { length sets.old ≡ geo.now.agcount }
     ensures exact { (c : Contents) → D.content dev.old ≡ Some c → IsReady (layout geo.now) (c Image) lists.now sets.old g → ChecksMapping (layout geo.now) (c Image) g tally.old tally.new result }
     ensures added { AddsPart (IsMappingPart g) tally.old tally.new result }
+    ensures kept { KeepsReady (layout geo.now) (D.content dev.old) g lists.now sets.old tally.old steps.old.reads tally.new steps.new.reads result }
     ensures others { (h : ℕ) → g < h → pieces_at sets.new h ≡ pieces_at sets.old h }
     ensures groups { length sets.new ≡ length sets.old }
     ensures reading { OnlyRead D.Device dev.old dev.new steps.old steps.new }
@@ -154,6 +159,7 @@ pub fn check_mapping_part<D: Device, L: Ledger>(
     requires ready { (c : Contents) → D.content dev.old ≡ Some c → AreReady (layout geo.now) (c Image) lists.now sets.old }
     ensures exact { (c : Contents) → D.content dev.old ≡ Some c → ChecksMappings (layout geo.now) (c Image) part tally.old tally.new result }
     ensures added { AddsParts IsMappingPart part tally.old tally.new result }
+    ensures kept { KeepsMappings (layout geo.now) (D.content dev.old) part tally.old steps.old.reads tally.new steps.new.reads result }
     ensures reading { OnlyRead D.Device dev.old dev.new steps.old steps.new }
     ensures cause { HasCause is_failed (D.faults dev.old) (D.faults dev.new) result }
 {

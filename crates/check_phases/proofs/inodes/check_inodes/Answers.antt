@@ -8,6 +8,9 @@ use Rattle.check_phases.proofs.UnitLemmas.{unit_added, unit_cut, unit_full}
 use Rattle.space_check.proofs.EventLemmas.{with_err}
 use Rattle.check_phases.proofs.AddedLemmas as added
 use Rattle.check_phases.specs.Parts.{AddsPart, IsInodePart}
+use Rattle.check_phases.proofs.KeptToldLemmas as kept
+use Rattle.check_phases.specs.Kept.{KeepsGroup}
+use Rattle.check_phases.specs.Phases.{Inodes, lacks_nothing}
 use Rattle.check_phases.proofs.inodes.check_inodes.Goals as goal
 
 pub returns-in_err-begin-clause-exact : goal.returns-in_err-begin-clause-exact
@@ -38,3 +41,17 @@ returns-in_err-judged-clause-added g c =
 
 pub returns-clause-added : goal.returns-clause-added
 returns-clause-added g c = added.unit_added c.args.g units.Inode c.in_ok-judged.judged c.args.tally.now c.add.new.self c.add.result c.in_ok-begin.ensures c.add.ensures.added
+
+pub returns-in_err-begin-clause-kept : goal.returns-in_err-begin-clause-kept
+returns-in_err-begin-clause-kept g c =
+    with_err {T = Unit {0}} (λ r. KeepsGroup (layout c.args.geo.now) (g.D.Device.content c.args.dev.now) Inodes lacks_nothing c.args.g c.args.tally.now c.args.steps.now.reads c.args.tally.now c.args.steps.now.reads r) c.in_err-begin.field-0.0 c.from_residual.result c.from_residual.ensures
+    (kept.group_none (layout c.args.geo.now) (g.D.Device.content c.args.dev.now) (Unit {0}) Inodes lacks_nothing c.args.g c.args.tally.now c.args.steps.now.reads c.in_err-begin.field-0.0)
+
+pub returns-in_err-judged-clause-kept : goal.returns-in_err-judged-clause-kept
+returns-in_err-judged-clause-kept g c =
+    with_err {T = Unit {0}} (λ r. KeepsGroup (layout c.args.geo.now) (g.D.Device.content c.args.dev.now) Inodes lacks_nothing c.args.g c.args.tally.now c.args.steps.now.reads c.args.tally.now c.judge_unit.new.steps.reads r) c.in_err-judged.field-0.0 c.from_residual-in_err-judged.result c.from_residual-in_err-judged.ensures
+    (kept.inode_cut (layout c.args.geo.now) (g.D.Device.content c.args.dev.now) (Unit {0}) c.args.g c.args.tally.now c.args.steps.now.reads c.judge_unit.new.steps.reads c.in_err-judged.field-0.0 c.in_ok-begin.ensures c.in_err-judged.ensures.counted)
+
+pub returns-clause-kept : goal.returns-clause-kept
+returns-clause-kept g c =
+    kept.inode_keeps (layout c.args.geo.now) (g.D.Device.content c.args.dev.now) c.args.g c.args.tally.now c.add.new.self c.args.steps.now.reads c.judge_unit.new.steps.reads c.add.result c.in_ok-judged.judged c.in_ok-judged.ensures.exact c.in_ok-begin.ensures c.add.ensures.added c.in_ok-judged.ensures.counted

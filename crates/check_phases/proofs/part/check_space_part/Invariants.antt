@@ -5,6 +5,8 @@ use Rattle.blk_device.specs.declared.device.Region.TheVariants.{Image}
 use Rattle.geom.specs.Places.{layout}
 use Rattle.inode_pass.specs.Units.{opened_state}
 use Rattle.check_phases.specs.Checks.{ChecksPhase}
+use Rattle.check_phases.proofs.KeptToldLemmas.{groups_of}
+use Rattle.check_phases.specs.Kept.{KeepsTold, most_in}
 use Rattle.check_phases.specs.Parts.{AddsGroups, IsSpacePart}
 use Rattle.check_phases.specs.Phases.{Space, lacks_mappings}
 use Rattle.check_phases.proofs.part.check_space_part.Given as goal
@@ -14,6 +16,7 @@ abbrev pub invariant-loop-g : goal.invariant-loop-g
 invariant-loop-g g l = record {
   exact : (c : Contents) → g.D.Device.content l.fn.dev ≡ Some c → ChecksPhase {T = Unit {0}} (opened_state (layout l.geo) (c Image)) Space (lacks_mappings l.passed) l.fn.part.from (l.g - l.fn.part.from) l.fn.tally l.tally (Ok tt);
   added : AddsGroups {T = Unit {0}} IsSpacePart l.fn.part.from (l.g - l.fn.part.from) l.fn.tally l.tally (Ok tt);
+  kept : KeepsTold {T = Unit {0}} (g.D.Device.content l.fn.dev) (groups_of (most_in (layout l.geo)) (layout l.geo) Space (lacks_mappings l.passed) l.fn.part.from (l.g - l.fn.part.from)) l.fn.tally l.fn.steps.reads l.tally l.steps.reads (Ok tt);
   reading : OnlyRead g.D.Device l.fn.dev l.dev l.fn.steps l.steps;
   calm : g.D.Device.faults l.dev ≡ g.D.Device.faults l.fn.dev;
 }

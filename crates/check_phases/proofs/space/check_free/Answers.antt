@@ -1,4 +1,4 @@
-use Rattle.std.proofs.Common.{None}
+use Rattle.std.proofs.Common.{None, arith}
 use Rattle.blk_device.specs.declared.device.Region.TheVariants.{Image}
 use Rattle.fs_model.specs.declared.unit.Unit.TheVariants as units
 use Rattle.geom.specs.Places.{layout}
@@ -8,6 +8,8 @@ use Rattle.check_phases.proofs.UnitLemmas.{unit_added, unit_cut}
 use Rattle.space_check.proofs.EventLemmas.{with_err}
 use Rattle.check_phases.proofs.AddedLemmas as added
 use Rattle.check_phases.specs.Parts.{AddsPart, IsJudgedPart}
+use Rattle.check_phases.proofs.KeptToldLemmas as kept
+use Rattle.check_phases.specs.Kept.{KeepsFree}
 use Rattle.check_phases.proofs.space.check_free.Goals as goal
 
 pub returns-in_err-judged-clause-exact : goal.returns-in_err-judged-clause-exact
@@ -27,3 +29,12 @@ returns-in_err-judged-clause-added g c =
 
 pub returns-clause-added : goal.returns-clause-added
 returns-clause-added g c = added.unit_added c.args.g units.Free c.in_ok-judged.judged c.args.tally.now c.add.new.self c.add.result c.requires.begun c.add.ensures.added
+
+pub returns-in_err-judged-clause-kept : goal.returns-in_err-judged-clause-kept
+returns-in_err-judged-clause-kept g c =
+    with_err {T = Unit {0}} (λ r. KeepsFree (layout c.args.geo.now) (g.D.Device.content c.args.dev.now) c.args.g c.args.agf.now c.args.mapped.now c.args.tally.now c.args.steps.now.reads c.args.tally.now c.judge_free_space.new.steps.reads r) c.in_err-judged.field-0.0 c.from_residual.result c.from_residual.ensures
+    (kept.free_cut (layout c.args.geo.now) (g.D.Device.content c.args.dev.now) c.args.g c.args.agf.now c.args.mapped.now (Unit {0}) c.args.tally.now c.args.steps.now.reads c.judge_free_space.new.steps.reads c.in_err-judged.field-0.0 c.requires.begun c.in_err-judged.ensures.counted)
+
+pub returns-clause-kept : goal.returns-clause-kept
+returns-clause-kept g c =
+    kept.free_keeps (layout c.args.geo.now) (g.D.Device.content c.args.dev.now) c.args.g c.args.agf.now c.args.mapped.now c.args.tally.now c.add.new.self c.args.steps.now.reads c.judge_free_space.new.steps.reads c.add.result c.in_ok-judged.judged c.in_ok-judged.ensures.exact c.requires.begun c.add.ensures.added (λ m e. let same = c.in_ok-judged.ensures.counted m e in omega (arith, same))

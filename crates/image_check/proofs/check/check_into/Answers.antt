@@ -8,6 +8,7 @@ use Rattle.image_check.specs.Image.{MeetsEnd, image_checked}
 use Rattle.image_check.specs.Units.{EndsInSession}
 use Rattle.space_check.proofs.EventLemmas.{with_err}
 use Rattle.space_check.specs.Progress.{is_failed}
+use Rattle.image_check.proofs.KeptUnitsLemmas as kept
 use Rattle.image_check.proofs.check.check_into.Goals as goal
 
 pub returns-in_err-heads-clause-exact : goal.returns-in_err-heads-clause-exact
@@ -33,3 +34,11 @@ returns-clause-reading g c =
 
 pub returns-clause-cause : goal.returns-clause-cause
 returns-clause-cause g c = cause_on is_failed (g.D.Device.faults c.args.dev.now) (g.D.Device.faults c.read_all_heads.new.dev) (g.D.Device.faults c.check_units.new.dev) c.check_units.result c.in_ok-heads.ensures.cause c.check_units.ensures.cause
+
+pub returns-in_err-heads-clause-kept : goal.returns-in_err-heads-clause-kept
+returns-in_err-heads-clause-kept g c = λ m e.
+    kept.heads_end (layout c.args.geo.now) (m Image) c.in_err-heads.field-0.0 c.args.steps.now.reads c.read_all_heads.new.steps.reads c.args.tally.now.journal.entries.items c.requires.empty (c.in_err-heads.ensures.exact m e)
+
+pub returns-clause-kept : goal.returns-clause-kept
+returns-clause-kept g c = λ m e.
+    kept.units_end (layout c.args.geo.now) (m Image) c.args.steps.now.reads c.read_all_heads.new.steps.reads c.check_units.new.steps.reads c.args.tally.now.journal.entries.items c.check_units.new.tally.journal.entries.items c.check_units.result (c.in_ok-heads.ensures.exact m e).0 (c.in_ok-heads.ensures.exact m e).1 c.requires.empty (c.check_units.ensures.kept m (c.in_ok-heads.ensures.reading.same ∙ e))

@@ -12,6 +12,10 @@ use Rattle.check_phases.specs.Parts.{AreParts}
 use Rattle.fs_derive.specs.Session.{Place}
 use Rattle.fs_model.specs.declared.unit.Unit.TheVariants as units
 use Rattle.image_check.specs.Units.{AreMappings, IsMappingPart, IsSkippedFor}
+use Rattle.check_phases.proofs.KeptToldLemmas.{phase_alike, unread}
+use Rattle.check_phases.specs.Phases.{phase_events, phase_passes}
+use Rattle.image_check.specs.Kept.{KeepsAll, all_kept}
+use Rattle.image_check.specs.Reads.{most_read}
 use Rattle.image_check.proofs.image.check_all_mappings.Goals as goal
 
 pub returns-in-Some-clause-exact : goal.returns-in-Some-clause-exact
@@ -38,3 +42,16 @@ pub returns-in-None-clause-added : goal.returns-in-None-clause-added
 returns-in-None-clause-added g c =
     let n = c.args.geo.now.agcount in
     as_added (AreParts IsMappingPart n) (AreMappings n) c.args.tally.now c.check_by_forks.new.tally c.check_by_forks.result (λ es p. inl p) c.check_by_forks.ensures.added
+
+pub returns-in-Some-clause-kept : goal.returns-in-Some-clause-kept
+returns-in-Some-clause-kept g c =
+    let lacks = lacks_inodes (Some c.in-Some.g) in
+    subst (λ (o : Option ℕ). KeepsAll (layout c.args.geo.now) (g.D.Device.content c.args.dev.now) o c.args.tally.now c.args.steps.now.reads c.skip_part.new.tally c.args.steps.now.reads c.skip_part.result) (sym c.in-Some.is)
+    (λ m e.
+    let a = opened_state (layout c.args.geo.now) (m Image) in
+    unread (phase_events a Mappings lacks 0 c.args.geo.now.agcount) (all_kept (layout c.args.geo.now) (Some c.in-Some.g) (m Image)) (phase_passes a Mappings lacks 0 c.args.geo.now.agcount) c.args.tally.now c.skip_part.new.tally c.args.steps.now.reads c.skip_part.result (phase_alike (most_read (layout c.args.geo.now) (m Image)) a lacks Mappings 0 c.args.geo.now.agcount)
+    (of_whole a Mappings lacks c.whole.result c.args.geo.now.agcount c.args.tally.now c.skip_part.new.tally c.skip_part.result c.whole.ensures.from c.whole.ensures.to (c.skip_part.ensures.exact a)))
+
+pub returns-in-None-clause-kept : goal.returns-in-None-clause-kept
+returns-in-None-clause-kept g c =
+    subst (λ (o : Option ℕ). KeepsAll (layout c.args.geo.now) (g.D.Device.content c.args.dev.now) o c.args.tally.now c.args.steps.now.reads c.check_by_forks.new.tally c.check_by_forks.new.steps.reads c.check_by_forks.result) (sym c.in-None.is) c.check_by_forks.ensures.kept

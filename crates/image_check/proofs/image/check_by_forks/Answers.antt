@@ -12,6 +12,10 @@ use Rattle.image_check.specs.Checked.{ChecksAll}
 use Rattle.check_phases.specs.Parts.{AddsPart, AreParts}
 use Rattle.image_check.proofs.UnitsLemmas.{mappings_cut, mappings_full}
 use Rattle.image_check.specs.Units.{IsMappingPart}
+use Rattle.check_phases.proofs.KeptLemmas.{none_begun}
+use Rattle.check_phases.specs.Kept.{come}
+use Rattle.image_check.proofs.ReadLemmas.{lists_within, phase_cut}
+use Rattle.image_check.specs.Kept.{KeepsAll, all_kept}
 use Rattle.image_check.proofs.image.check_by_forks.Goals as goal
 
 pub returns-in_err-begin-clause-exact : goal.returns-in_err-begin-clause-exact
@@ -55,3 +59,16 @@ pub returns-in_err-lists-clause-added : goal.returns-in_err-lists-clause-added
 returns-in_err-lists-clause-added g c =
     with_err {T = Unit {0}} (λ r. AddsPart (AreParts IsMappingPart c.args.geo.now.agcount) c.args.tally.now c.args.tally.now r) c.in_err-lists.field-0.0 c.from_residual-in_err-lists.result c.from_residual-in_err-lists.ensures
     (mappings_cut c.args.geo.now.agcount c.args.tally.now c.in_err-lists.field-0.0 c.args.geo.now.fitting.some_groups c.in_ok-begin.ensures c.in_err-lists.ensures.outside)
+
+pub returns-in_err-begin-clause-kept : goal.returns-in_err-begin-clause-kept
+returns-in_err-begin-clause-kept g c =
+    with_err {T = Unit {0}} (λ r. KeepsAll (layout c.args.geo.now) (g.D.Device.content c.args.dev.now) None c.args.tally.now c.args.steps.now.reads c.args.tally.now c.args.steps.now.reads r) c.in_err-begin.field-0.0 c.from_residual.result c.from_residual.ensures
+    (λ m e. none_begun (all_kept (layout c.args.geo.now) None (m Image)) (come c.args.tally.now c.args.steps.now.reads))
+
+pub returns-in_err-lists-clause-kept : goal.returns-in_err-lists-clause-kept
+returns-in_err-lists-clause-kept g c =
+    with_err {T = Unit {0}} (λ r. KeepsAll (layout c.args.geo.now) (g.D.Device.content c.args.dev.now) None c.args.tally.now c.args.steps.now.reads c.args.tally.now c.all_chunks.new.steps.reads r) c.in_err-lists.field-0.0 c.from_residual-in_err-lists.result c.from_residual-in_err-lists.ensures
+    (λ m e. phase_cut (layout c.args.geo.now) (m Image) (lacks_inodes None) c.args.geo.now.agcount c.args.tally.now c.args.steps.now.reads c.all_chunks.new.steps.reads c.args.geo.now.fitting.some_groups c.in_ok-begin.ensures (lists_within (layout c.args.geo.now) (m Image) c.args.steps.now.reads c.all_chunks.new.steps.reads (c.in_err-lists.ensures.counted m e)))
+
+pub returns-clause-kept : goal.returns-clause-kept
+returns-clause-kept g c = λ m e. c.check_by_lists.ensures.kept m (c.in_ok-lists.ensures.reading.same ∙ e) c.args.steps.now.reads (c.in_ok-lists.ensures.counted m e)

@@ -13,6 +13,11 @@ use Rattle.check_phases.proofs.AddedLemmas.{of_all}
 use Rattle.check_phases.specs.Parts.{AddsPart, AreParts}
 use Rattle.image_check.proofs.UnitsLemmas.{mappings_cut}
 use Rattle.image_check.specs.Units.{IsMappingPart}
+use Rattle.check_phases.proofs.KeptToldLemmas.{phase_alike, unread}
+use Rattle.check_phases.specs.Phases.{lacks_nothing, phase_events, phase_passes}
+use Rattle.fork_pass.specs.Passed.{units_at}
+use Rattle.image_check.proofs.ReadLemmas.{all_behind, forks_read, phase_cut}
+use Rattle.image_check.specs.Kept.{KeepsLists, mappings_kept, trees_only}
 use Rattle.image_check.proofs.image.check_by_lists.Goals as goal
 
 pub returns-in_err-forks-clause-exact : goal.returns-in_err-forks-clause-exact
@@ -52,3 +57,24 @@ returns-in_err-forks-clause-added g c =
 
 pub returns-in-GaveUp-clause-added : goal.returns-in-GaveUp-clause-added
 returns-in-GaveUp-clause-added g c = of_all IsMappingPart c.whole.result c.args.geo.now.agcount c.args.tally.now c.give_up_part.new.tally c.give_up_part.result c.whole.ensures.from c.whole.ensures.to c.give_up_part.ensures.added
+
+pub returns-in_err-forks-clause-kept : goal.returns-in_err-forks-clause-kept
+returns-in_err-forks-clause-kept g c =
+    with_err {T = Unit {0}} (λ r. KeepsLists (layout c.args.geo.now) (g.D.Device.content c.args.dev.now) c.args.tally.now c.args.steps.now.reads c.args.tally.now c.forks_of.new.steps.reads r) c.in_err-forks.field-0.0 c.from_residual.result c.from_residual.ensures
+    (λ m e first so.
+    let before = forks_read (layout c.args.geo.now) (m Image) (units_at c.args.lists.now) first c.args.steps.now.reads c.forks_of.new.steps.reads (c.requires.chunks m e) so (c.in_err-forks.ensures.counted m e) in
+    phase_cut (layout c.args.geo.now) (m Image) (lacks_inodes None) c.args.geo.now.agcount c.args.tally.now first c.forks_of.new.steps.reads c.args.geo.now.fitting.some_groups c.requires.begun before)
+
+pub returns-in-GaveUp-clause-kept : goal.returns-in-GaveUp-clause-kept
+returns-in-GaveUp-clause-kept g c = λ m e first so.
+    let before = forks_read (layout c.args.geo.now) (m Image) (units_at c.args.lists.now) first c.args.steps.now.reads c.forks_of.new.steps.reads (c.requires.chunks m e) so (c.in_ok-forks.ensures.counted m e) in
+    let a = opened_state (layout c.args.geo.now) (m Image) in
+    let all = of_whole a Mappings lacks_nothing c.whole.result c.args.geo.now.agcount c.args.tally.now c.give_up_part.new.tally c.give_up_part.result c.whole.ensures.from c.whole.ensures.to
+    (c.give_up_part.ensures.exact a (subst (λ (seen : ForksSeen). AreForksOf a seen) c.in-GaveUp.is (c.in_ok-forks.ensures.exact m e (c.requires.chunks m e)))) in
+    all_behind (layout c.args.geo.now) (m Image) c.args.tally.now c.give_up_part.new.tally first c.forks_of.new.steps.reads c.forks_of.new.steps.reads c.give_up_part.result c.args.geo.now.fitting.some_groups c.requires.begun before
+    (unread (phase_events a Mappings lacks_nothing 0 c.args.geo.now.agcount) (mappings_kept (layout c.args.geo.now) 0 c.args.geo.now.agcount (m Image)) (phase_passes a Mappings lacks_nothing 0 c.args.geo.now.agcount) c.args.tally.now c.give_up_part.new.tally c.forks_of.new.steps.reads c.give_up_part.result (phase_alike (trees_only (layout c.args.geo.now) (m Image)) a lacks_nothing Mappings 0 c.args.geo.now.agcount) all)
+
+pub returns-in-Claims-clause-kept : goal.returns-in-Claims-clause-kept
+returns-in-Claims-clause-kept g c = λ m e first so.
+    let before = forks_read (layout c.args.geo.now) (m Image) (units_at c.args.lists.now) first c.args.steps.now.reads c.forks_of.new.steps.reads (c.requires.chunks m e) so (c.in_ok-forks.ensures.counted m e) in
+    all_behind (layout c.args.geo.now) (m Image) c.args.tally.now c.check_by_sets.new.tally first c.forks_of.new.steps.reads c.check_by_sets.new.steps.reads c.check_by_sets.result c.args.geo.now.fitting.some_groups c.requires.begun before (c.check_by_sets.ensures.kept m (c.in_ok-forks.ensures.reading.same ∙ e))

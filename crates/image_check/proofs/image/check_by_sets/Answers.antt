@@ -8,6 +8,8 @@ use Rattle.image_check.proofs.AllLemmas.{of_whole}
 use Rattle.image_check.specs.Mappings.{AreReady}
 use Rattle.check_phases.proofs.AddedLemmas.{of_all}
 use Rattle.image_check.specs.Units.{IsMappingPart}
+use Rattle.check_phases.specs.Kept.{KeepsTold}
+use Rattle.image_check.proofs.KeptUnitsLemmas.{mappings_of_whole}
 use Rattle.image_check.proofs.image.check_by_sets.Goals as goal
 
 pub check_mapping_part-requires-clause-sets : goal.check_mapping_part-requires-clause-sets
@@ -22,3 +24,7 @@ returns-clause-exact g c = λ m e.
 
 pub returns-clause-added : goal.returns-clause-added
 returns-clause-added g c = of_all IsMappingPart c.whole-part.result c.args.geo.now.agcount c.args.tally.now c.check_mapping_part.new.tally c.check_mapping_part.result c.whole-part.ensures.from c.whole-part.ensures.to c.check_mapping_part.ensures.added
+
+pub returns-clause-kept : goal.returns-clause-kept
+returns-clause-kept g c =
+    mappings_of_whole (layout c.args.geo.now) (g.D.Device.content c.args.dev.now) c.whole-part.result c.args.geo.now.agcount c.args.tally.now c.check_mapping_part.new.tally c.args.steps.now.reads c.check_mapping_part.new.steps.reads c.check_mapping_part.result c.whole-part.ensures.from c.whole-part.ensures.to c.check_mapping_part.ensures.kept

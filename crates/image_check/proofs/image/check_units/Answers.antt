@@ -6,12 +6,15 @@ use Rattle.geom.specs.Places.{layout}
 use Rattle.inode_pass.specs.Units.{opened_state}
 use Rattle.space_check.proofs.EventLemmas.{with_err}
 use Rattle.image_check.proofs.AllLemmas.{fallen_said, of_whole}
-use Rattle.image_check.proofs.EndLemmas.{inodes_end, mappings_end, readable_then, units_end}
+use Rattle.image_check.proofs.EndLemmas.{inodes_end, mappings_end, passed_said, readable_then, units_end}
 use Rattle.image_check.specs.Checked.{ChecksUnits}
 use Rattle.check_phases.proofs.AddedLemmas.{from_same, of_all}
 use Rattle.check_phases.specs.Parts.{AreParts, IsInodePart, IsSpacePart}
 use Rattle.image_check.proofs.UnitsLemmas.{ends_in_units, fallen_below, inodes_stop, mappings_added, mappings_stop, space_added}
 use Rattle.image_check.specs.Units.{AreMappings, EndsInUnits}
+use Rattle.check_phases.specs.Kept.{come}
+use Rattle.image_check.proofs.KeptUnitsLemmas as kept
+use Rattle.image_check.specs.Kept.{KeepsUnits, all_kept}
 use Rattle.image_check.proofs.image.check_units.Goals as goal
 
 pub returns-in_err-check_inode_part-clause-exact : goal.returns-in_err-check_inode_part-clause-exact
@@ -110,3 +113,37 @@ returns-clause-session g c =
     let last = from_same (AreParts IsSpacePart n) c.check_all_mappings.new.tally c.take_passed-mappings.new.tally c.check_space_part.new.tally c.check_space_part.result c.take_passed-mappings.ensures.journal space in
     ends_in_units n c.args.tally.now c.check_space_part.new.tally c.check_space_part.result
     (space_added n {S = Unit {0}} c.args.tally.now c.check_all_mappings.new.tally c.check_space_part.new.tally tt c.check_space_part.result both last)
+
+pub returns-in_err-check_inode_part-clause-kept : goal.returns-in_err-check_inode_part-clause-kept
+returns-in_err-check_inode_part-clause-kept g c =
+    with_err {T = Unit {0}} (λ r. KeepsUnits (layout c.args.geo.now) (g.D.Device.content c.args.dev.now) c.args.tally.now c.args.steps.now.reads c.check_inode_part.new.tally c.check_inode_part.new.steps.reads r) c.in_err-check_inode_part.field-0.0 c.from_residual.result c.from_residual.ensures
+    (λ m e.
+    kept.inodes_stop (layout c.args.geo.now) (m Image) (come c.args.tally.now c.args.steps.now.reads) (come c.check_inode_part.new.tally c.check_inode_part.new.steps.reads) (kept.inodes_of_whole {T = Unit {0}} (layout c.args.geo.now) (m Image) c.whole.result c.args.geo.now.agcount (come c.args.tally.now c.args.steps.now.reads) (come c.check_inode_part.new.tally c.check_inode_part.new.steps.reads) (Err c.in_err-check_inode_part.field-0.0) c.whole.ensures.from c.whole.ensures.to (c.in_err-check_inode_part.ensures.kept m e)))
+
+pub returns-in_err-check_all_mappings-clause-kept : goal.returns-in_err-check_all_mappings-clause-kept
+returns-in_err-check_all_mappings-clause-kept g c =
+    with_err {T = Unit {0}} (λ r. KeepsUnits (layout c.args.geo.now) (g.D.Device.content c.args.dev.now) c.args.tally.now c.args.steps.now.reads c.check_all_mappings.new.tally c.check_all_mappings.new.steps.reads r) c.in_err-check_all_mappings.field-0.0 c.from_residual-in_err-check_all_mappings.result c.from_residual-in_err-check_all_mappings.ensures
+    (λ m e.
+    let a = opened_state (layout c.args.geo.now) (m Image) in
+    let done = of_whole {T = Unit {0}} a Inodes lacks_nothing c.whole.result c.args.geo.now.agcount c.args.tally.now c.check_inode_part.new.tally (Ok tt) c.whole.ensures.from c.whole.ensures.to (c.in_ok-check_inode_part.ensures.exact m e) in
+    let first = fallen_said (layout c.args.geo.now) (m Image) c.as_slice.result.now c.first_fallen-fallen.result
+    (c.as_slice.ensures.value ∙ c.take_passed-inodes.ensures.taken ∙ done.1 ∙ ap (λ (bs : List Bool). bs ++ phase_passes a Inodes lacks_nothing 0 c.args.geo.now.agcount) c.requires.begun)
+    c.first_fallen-fallen.ensures in
+    kept.mappings_stop (layout c.args.geo.now) (m Image) (come c.args.tally.now c.args.steps.now.reads) (come c.check_inode_part.new.tally c.check_inode_part.new.steps.reads) (come c.check_all_mappings.new.tally c.check_all_mappings.new.steps.reads) c.first_fallen-fallen.result first
+    (kept.inodes_of_whole {T = Unit {0}} (layout c.args.geo.now) (m Image) c.whole.result c.args.geo.now.agcount (come c.args.tally.now c.args.steps.now.reads) (come c.check_inode_part.new.tally c.check_inode_part.new.steps.reads) (Ok tt) c.whole.ensures.from c.whole.ensures.to (c.in_ok-check_inode_part.ensures.kept m e))
+    (kept.from_same {T = Unit {0}} (all_kept (layout c.args.geo.now) c.first_fallen-fallen.result (m Image)) c.check_inode_part.new.tally c.take_passed-inodes.new.tally c.check_inode_part.new.steps.reads (come c.check_all_mappings.new.tally c.check_all_mappings.new.steps.reads) (Err c.in_err-check_all_mappings.field-0.0) c.take_passed-inodes.ensures.journal (c.in_err-check_all_mappings.ensures.kept m (c.in_ok-check_inode_part.ensures.reading.same ∙ e))))
+
+pub returns-clause-kept : goal.returns-clause-kept
+returns-clause-kept g c = λ m e.
+    let a = opened_state (layout c.args.geo.now) (m Image) in
+    let mid = c.in_ok-check_inode_part.ensures.reading.same ∙ e in
+    let last = c.in_ok-check_all_mappings.ensures.reading.same ∙ mid in
+    let done = of_whole {T = Unit {0}} a Inodes lacks_nothing c.whole.result c.args.geo.now.agcount c.args.tally.now c.check_inode_part.new.tally (Ok tt) c.whole.ensures.from c.whole.ensures.to (c.in_ok-check_inode_part.ensures.exact m e) in
+    let first = fallen_said (layout c.args.geo.now) (m Image) c.as_slice.result.now c.first_fallen-fallen.result
+    (c.as_slice.ensures.value ∙ c.take_passed-inodes.ensures.taken ∙ done.1 ∙ ap (λ (bs : List Bool). bs ++ phase_passes a Inodes lacks_nothing 0 c.args.geo.now.agcount) c.requires.begun)
+    c.first_fallen-fallen.ensures in
+    let passed = passed_said (layout c.args.geo.now) (m Image) c.take_passed-inodes.new.tally c.check_all_mappings.new.tally c.first_fallen-fallen.result c.as_slice-passed.result.now c.take_passed-inodes.ensures.fresh first (c.in_ok-check_all_mappings.ensures.exact m mid) (c.as_slice-passed.ensures.value ∙ c.take_passed-mappings.ensures.taken) in
+    kept.units_keep (layout c.args.geo.now) (m Image) (come c.args.tally.now c.args.steps.now.reads) (come c.check_inode_part.new.tally c.check_inode_part.new.steps.reads) (come c.check_all_mappings.new.tally c.check_all_mappings.new.steps.reads) (come c.check_space_part.new.tally c.check_space_part.new.steps.reads) c.first_fallen-fallen.result c.as_slice-passed.result.now c.check_space_part.result first passed
+    (kept.inodes_of_whole {T = Unit {0}} (layout c.args.geo.now) (m Image) c.whole.result c.args.geo.now.agcount (come c.args.tally.now c.args.steps.now.reads) (come c.check_inode_part.new.tally c.check_inode_part.new.steps.reads) (Ok tt) c.whole.ensures.from c.whole.ensures.to (c.in_ok-check_inode_part.ensures.kept m e))
+    (kept.from_same {T = Unit {0}} (all_kept (layout c.args.geo.now) c.first_fallen-fallen.result (m Image)) c.check_inode_part.new.tally c.take_passed-inodes.new.tally c.check_inode_part.new.steps.reads (come c.check_all_mappings.new.tally c.check_all_mappings.new.steps.reads) (Ok tt) c.take_passed-inodes.ensures.journal (c.in_ok-check_all_mappings.ensures.kept m (c.in_ok-check_inode_part.ensures.reading.same ∙ e)))
+    (kept.space_of_whole (layout c.args.geo.now) (m Image) c.as_slice-passed.result.now c.whole-2.result c.args.geo.now.agcount c.check_all_mappings.new.tally c.take_passed-mappings.new.tally c.check_all_mappings.new.steps.reads (come c.check_space_part.new.tally c.check_space_part.new.steps.reads) c.check_space_part.result c.whole-2.ensures.from c.whole-2.ensures.to c.take_passed-mappings.ensures.journal (c.check_space_part.ensures.kept m last))

@@ -1,4 +1,4 @@
-use Rattle.std.proofs.Common.{◌≡◌, ◌+◌, ℕ, List, length, ◌∙◌, sym, ap, refl, subst, arith}
+use Rattle.std.proofs.Common.{◌≤◌, ◌≡◌, ◌+◌, ℕ, List, length, ◌∙◌, sym, ap, refl, subst, arith}
 use Rattle.std.specs.Global.{Vec}
 use Rattle.blk_device.specs.declared.device.Region.TheVariants.{Image}
 use Rattle.blk_device.specs.ReadingLaws.{nothing_read, read_on}
@@ -6,6 +6,8 @@ use Rattle.geom.specs.Places.{layout}
 use Rattle.space_check.proofs.EventLemmas.{err_cause}
 use Rattle.image_check.specs.Chunks.{AreListsOf}
 use Rattle.image_check.specs.Mappings.{ListsLie}
+use Rattle.image_check.proofs.ReadLemmas.{last_group, next_group, no_group}
+use Rattle.image_check.specs.Reads.{chunks_most}
 use Rattle.image_check.proofs.lists.all_chunks.Goals as goal
 
 pub loop-g-init : goal.loop-g-init
@@ -13,6 +15,7 @@ loop-g-init g c = record {
   lists = λ m e h lt. absurd (omega (arith, lt));
   inside = λ h lt. absurd (omega (arith, lt));
   groups = ap (λ (x : List (Vec ℕ)). length x) c.new-lists.ensures.items;
+  counted = λ m e. omega (arith, no_group (layout c.args.geo.now) (m Image));
   reading = nothing_read g.D.Device g.met.D.Device.only_now g.met.D.Device.counts_now c.args.dev.now c.args.steps.now;
   calm = refl;
 }
@@ -28,6 +31,7 @@ loop-g-preserved g c = record {
   lists = λ m e. c.in_ok-put_chunks.ensures.exact m (c.loop-g.invariant.reading.same ∙ e) (c.loop-g.invariant.lists m e);
   inside = c.in_ok-put_chunks.ensures.inside c.loop-g.invariant.inside;
   groups = c.in_ok-put_chunks.ensures.one ∙ ap (λ n. n + 1) c.loop-g.invariant.groups;
+  counted = λ m e. next_group (layout c.args.geo.now) (m Image) c.loop-g.g c.args.steps.now.reads c.loop-g.steps.reads c.put_chunks.new.steps.reads (c.loop-g.invariant.counted m e) (c.in_ok-put_chunks.ensures.counted m (c.loop-g.invariant.reading.same ∙ e));
   reading = read_on g.D.Device g.met.D.Device.only_now g.met.D.Device.counts_now c.args.dev.now c.loop-g.dev c.put_chunks.new.dev c.args.steps.now c.loop-g.steps c.put_chunks.new.steps c.loop-g.invariant.reading c.in_ok-put_chunks.ensures.reading;
   calm = c.in_ok-put_chunks.ensures.cause ∙ c.loop-g.invariant.calm;
 }
@@ -52,3 +56,12 @@ returns-clause-inside g c =
 
 pub returns-clause-groups : goal.returns-clause-groups
 returns-clause-groups g c = omega (arith, c.loop-g.invariant.groups, c.loop-g-test.false, c.loop-g.auto.g-end)
+
+pub returns-in_err-put_chunks-clause-counted : goal.returns-in_err-put_chunks-clause-counted
+returns-in_err-put_chunks-clause-counted g c = λ m e.
+    last_group (layout c.args.geo.now) (m Image) c.loop-g.g c.args.geo.now.agcount c.args.steps.now.reads c.loop-g.steps.reads c.put_chunks.new.steps.reads c.loop-g-test.true (c.loop-g.invariant.counted m e) (c.in_err-put_chunks.ensures.counted m (c.loop-g.invariant.reading.same ∙ e))
+
+pub returns-clause-counted : goal.returns-clause-counted
+returns-clause-counted g c = λ m e.
+    let all : c.loop-g.g ≡ c.args.geo.now.agcount = omega (arith, c.loop-g-test.false, c.loop-g.auto.g-end) in
+    subst (λ (n : ℕ). c.loop-g.steps.reads ≤ c.args.steps.now.reads + chunks_most (layout c.args.geo.now) (m Image) n) all (c.loop-g.invariant.counted m e)

@@ -31,3 +31,10 @@ returns-clause-exact g c = λ m e ready.
     (subst (λ (us : List ℕ). HasForks (layout c.args.geo.now) (m Image) c.args.g us (pieces_of c.take_set-set.result))
     (list_at c.args.lists.now c.args.g c.index-lists-g.result (omega (arith, c.requires.lists, c.requires.group)) ∙ ap (λ (v : Vec ℕ). v.items) (sym c.index-lists-g.is) ∙ sym c.as_slice-chunks.ensures.value)
     (subst (λ (ps : List Piece). HasForks (layout c.args.geo.now) (m Image) c.args.g (units_at c.args.lists.now c.args.g) ps) (sym c.take_set-set.ensures.taken) ready))
+
+pub returns-clause-kept : goal.returns-clause-kept
+returns-clause-kept g c = λ m e ready.
+    c.check_mappings.ensures.kept m e
+    (subst (λ (us : List ℕ). HasForks (layout c.args.geo.now) (m Image) c.args.g us (pieces_of c.take_set-set.result))
+    (list_at c.args.lists.now c.args.g c.index-lists-g.result (omega (arith, c.requires.lists, c.requires.group)) ∙ ap (λ (v : Vec ℕ). v.items) (sym c.index-lists-g.is) ∙ sym c.as_slice-chunks.ensures.value)
+    (subst (λ (ps : List Piece). HasForks (layout c.args.geo.now) (m Image) c.args.g (units_at c.args.lists.now c.args.g) ps) (sym c.take_set-set.ensures.taken) ready))

@@ -12,6 +12,8 @@ use Rattle.check_phases.proofs.AddedLemmas.{groups_begun, groups_ended, groups_g
 use Rattle.check_phases.specs.Parts.{AddsGroups}
 use Rattle.image_check.proofs.UnitsLemmas.{any_mapping}
 use Rattle.image_check.specs.Units.{IsMappingPart}
+use Rattle.check_phases.proofs.KeptToldLemmas.{keep_begun, keep_ended, keep_on, keep_stop}
+use Rattle.image_check.specs.Kept.{KeepsMappings, trees_only}
 use Rattle.image_check.proofs.mappings.check_mapping_part.Goals as goal
 
 pub loop-g-init : goal.loop-g-init
@@ -20,6 +22,7 @@ loop-g-init g c = record {
   added = groups_begun IsMappingPart c.args.part.from (c.args.part.from - c.args.part.from) c.args.tally.now (omega arith);
   others = λ h le. refl;
   groups = refl;
+  kept = keep_begun (trees_only (layout c.args.geo.now)) (layout c.args.geo.now) (g.D.Device.content c.args.dev.now) Mappings lacks_nothing c.args.part.from (c.args.part.from - c.args.part.from) c.args.tally.now c.args.steps.now.reads (omega arith);
   reading = nothing_read g.D.Device g.met.D.Device.only_now g.met.D.Device.counts_now c.args.dev.now c.args.steps.now;
   calm = refl;
 }
@@ -33,6 +36,7 @@ loop-g-preserved g c = record {
   added = groups_go_on IsMappingPart c.args.part.from c.loop-g.g c.args.tally.now c.loop-g.tally c.check_claims_of.new.tally c.loop-g.auto.g c.loop-g.invariant.added c.in_ok-check_claims_of.ensures.added;
   others = λ h le. c.in_ok-check_claims_of.ensures.others h (omega (arith, le)) ∙ c.loop-g.invariant.others h (omega (arith, le));
   groups = c.in_ok-check_claims_of.ensures.groups ∙ c.loop-g.invariant.groups;
+  kept = keep_on (trees_only (layout c.args.geo.now)) (layout c.args.geo.now) (g.D.Device.content c.args.dev.now) Mappings lacks_nothing c.args.part.from c.loop-g.g c.args.tally.now c.loop-g.tally c.check_claims_of.new.tally c.args.steps.now.reads c.loop-g.steps.reads c.check_claims_of.new.steps.reads (g.D.Device.content c.loop-g.dev) c.loop-g.invariant.reading.same c.loop-g.auto.g c.loop-g.invariant.kept (λ m e. c.in_ok-check_claims_of.ensures.kept m e (ready_here (layout c.args.geo.now) (m Image) c.loop-g.g c.args.lists.now c.args.sets.now c.loop-g.sets (c.loop-g.invariant.others c.loop-g.g (omega arith)) (c.requires.ready m (sym c.loop-g.invariant.reading.same ∙ e) c.loop-g.g (let lt = c.loop-g-test.true in let le = c.requires.part in omega (arith, lt, le)))));
   reading = read_on g.D.Device g.met.D.Device.only_now g.met.D.Device.counts_now c.args.dev.now c.loop-g.dev c.check_claims_of.new.dev c.args.steps.now c.loop-g.steps c.check_claims_of.new.steps c.loop-g.invariant.reading c.in_ok-check_claims_of.ensures.reading;
   calm = c.in_ok-check_claims_of.ensures.cause ∙ c.loop-g.invariant.calm;
 }
@@ -66,3 +70,12 @@ returns-in_err-check_claims_of-clause-added g c =
 pub returns-clause-added : goal.returns-clause-added
 returns-clause-added g c =
     groups_ended IsMappingPart c.args.part.from c.args.part.to c.loop-g.g c.args.tally.now c.loop-g.tally (let end = c.loop-g.auto.g-end c.requires.order in omega (arith, c.loop-g-test.false, end)) c.loop-g.invariant.added
+
+pub returns-in_err-check_claims_of-clause-kept : goal.returns-in_err-check_claims_of-clause-kept
+returns-in_err-check_claims_of-clause-kept g c =
+    with_err {T = Unit {0}} (λ r. KeepsMappings (layout c.args.geo.now) (g.D.Device.content c.args.dev.now) c.args.part c.args.tally.now c.args.steps.now.reads c.check_claims_of.new.tally c.check_claims_of.new.steps.reads r) c.in_err-check_claims_of.field-0.0 c.from_residual.result c.from_residual.ensures
+    (keep_stop (trees_only (layout c.args.geo.now)) (layout c.args.geo.now) (g.D.Device.content c.args.dev.now) Mappings lacks_nothing c.args.part.from c.args.part.to c.loop-g.g c.args.tally.now c.loop-g.tally c.check_claims_of.new.tally c.args.steps.now.reads c.loop-g.steps.reads c.check_claims_of.new.steps.reads c.in_err-check_claims_of.field-0.0 (g.D.Device.content c.loop-g.dev) c.loop-g.invariant.reading.same c.loop-g.auto.g c.loop-g-test.true c.loop-g.invariant.kept (λ m e. c.in_err-check_claims_of.ensures.kept m e (ready_here (layout c.args.geo.now) (m Image) c.loop-g.g c.args.lists.now c.args.sets.now c.loop-g.sets (c.loop-g.invariant.others c.loop-g.g (omega arith)) (c.requires.ready m (sym c.loop-g.invariant.reading.same ∙ e) c.loop-g.g (let lt = c.loop-g-test.true in let le = c.requires.part in omega (arith, lt, le))))))
+
+pub returns-clause-kept : goal.returns-clause-kept
+returns-clause-kept g c =
+    keep_ended (trees_only (layout c.args.geo.now)) (layout c.args.geo.now) (g.D.Device.content c.args.dev.now) Mappings lacks_nothing c.args.part.from c.args.part.to c.loop-g.g c.args.tally.now c.loop-g.tally c.args.steps.now.reads c.loop-g.steps.reads (let end = c.loop-g.auto.g-end c.requires.order in omega (arith, c.loop-g-test.false, end)) c.loop-g.invariant.kept
