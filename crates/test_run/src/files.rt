@@ -1,5 +1,5 @@
 //! The chunk of a test image, and a file in it: inode 195, in slot 3 of block 24.
-use crate::heads::{NONE, UUID, altered};
+use crate::heads::{NONE, UUID, UUID_HIGH, UUID_LOW, altered};
 use crate::trees::mended;
 use byte_fields::{Block, put_sum, put_u16, put_u32, put_u64, sum_at};
 use dinode_core::{Core3, encode_core};
@@ -104,21 +104,34 @@ fn put_piece(block: &mut Block, i: usize, piece: &RmapRec) {
     }
 }
 
-/// The only leaf of the btree of inode 195, at this block of group 0, with the blocks of these reverse
-/// mappings, of which it has room for 251.
-pub(crate) fn fork_leaf(at: u64, pieces: &[RmapRec]) -> Block {
+// The header of the only leaf of the btree of inode 195, at this block of group 0, with so many mappings.
+fn fork_header(at: u64, mappings: usize) -> Block {
     let mut block = Block::zeroed();
-    put_u32(&mut block.bytes, 0, 0x424d_4133);
-    put_u16(&mut block.bytes, 6, pieces.len().min(251) as u16);
-    put_u64(&mut block.bytes, 8, u64::MAX);
-    put_u64(&mut block.bytes, 16, u64::MAX);
-    put_u64(&mut block.bytes, 24, at.wrapping_mul(8));
-    block.bytes[40..56].copy_from_slice(&UUID);
-    put_u64(&mut block.bytes, 56, 195);
-    for (i, piece) in pieces.iter().enumerate() {
-        put_piece(&mut block, i, piece);
-    }
+    let bytes = &mut block.bytes;
+    put_u32(bytes, 0, 0x424d_4133);
+    put_u16(bytes, 6, mappings.min(251) as u16);
+    put_u64(bytes, 8, u64::MAX);
+    put_u64(bytes, 16, u64::MAX);
+    put_u64(bytes, 24, at.wrapping_mul(8));
+    put_u64(bytes, 40, UUID_HIGH);
+    put_u64(bytes, 48, UUID_LOW);
+    put_u64(bytes, 56, 195);
+    block
+}
+
+// The block with the checksum of a fork's block stored.
+fn with_sum(mut block: Block) -> Block {
     let sum = sum_at(&block.bytes, 64);
     put_sum(&mut block.bytes, 64, sum);
     block
+}
+
+/// The only leaf of the btree of inode 195, at this block of group 0, with the blocks of these reverse
+/// mappings, of which it has room for 251.
+pub(crate) fn fork_leaf(at: u64, pieces: &[RmapRec]) -> Block {
+    let mut block = fork_header(at, pieces.len());
+    for (i, piece) in pieces.iter().enumerate() {
+        put_piece(&mut block, i, piece);
+    }
+    with_sum(block)
 }

@@ -134,8 +134,7 @@ fn reference_counts_are_compared(rt: HostRuntime) -> Result<(), Fail> {
         expect_check(&rt, image, 1, report.as_str())?;
     }
     let image = small_with(rt.alloc(), &[(6, refc_leaf(at(6), &[shared(32, 1, 2)]))])?;
-    let report =
-        "0 inode good\n0 rmap good\n0 free good\n0 refc extra 32 1 2\n0 refc faulty 1\n";
+    let report = "0 inode good\n0 rmap good\n0 free good\n0 refc extra 32 1 2\n0 refc faulty 1\n";
     expect_check(&rt, image, 1, report)
 }
 
@@ -225,7 +224,10 @@ fn a_group_without_free_blocks_is_good(rt: HostRuntime) -> Result<(), Fail> {
         (2, cnt_leaf(at(2), &[])),
         (3, with_file(fresh_block(1, 256, 3))),
         (4, with_file(fresh_block(1, 256, 4))),
-        (5, rmap_leaf(at(5), &[a, b, c, d, e, list, low, chunk, high])),
+        (
+            5,
+            rmap_leaf(at(5), &[a, b, c, d, e, list, low, chunk, high]),
+        ),
         (24, chunk_with(&file)),
     ];
     expect_check(&rt, small_with(rt.alloc(), &blocks)?, 0, ALL_GOOD)
@@ -332,7 +334,10 @@ fn blocks_are_counted_where_the_trees_can_be_read(rt: HostRuntime) -> Result<(),
         (0, mended_heads(heads)),
         (1, bno_root(at(1), &[(run(2, 1), 19), (run(508, 1), 20)])),
         (2, cnt_leaf(at(2), &[run(21, 3), run(32, 2016)])),
-        (5, rmap_leaf(at(5), &[a, b, c, d, e, owned(7, 14, 5), chunk])),
+        (
+            5,
+            rmap_leaf(at(5), &[a, b, c, d, e, owned(7, 14, 5), chunk]),
+        ),
         (6, refc_leaf(at(6), &[])),
         (19, bno_part(at(19), low.as_slice(), NONE, 20)),
         (20, bno_part(at(20), high.as_slice(), 19, NONE)),

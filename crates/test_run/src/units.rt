@@ -40,7 +40,16 @@ fn reverse_mappings_are_compared(rt: HostRuntime) -> Result<(), Fail> {
             "extra 40 1 195 3 -\n0 rmap faulty 1",
         ),
         (
-            &[a, b, c, d, e, list, chunk, mapped(40, 1, 195, 3 + (1 << 63))],
+            &[
+                a,
+                b,
+                c,
+                d,
+                e,
+                list,
+                chunk,
+                mapped(40, 1, 195, 3 + (1 << 63)),
+            ],
             "extra 40 1 195 3 a\n0 rmap faulty 1",
         ),
         (
@@ -84,7 +93,10 @@ fn file_image(alloc: Global, stretches: &[Stretch]) -> Result<MemImage, AllocErr
 fn what_an_inode_maps_is_derived(rt: HostRuntime) -> Result<(), Fail> {
     // Two mappings that go on one another are one run; written data may be shared.
     let rows: [(&[Stretch], &str); 3] = [
-        (&[written(7, 40, 1)], "missing 40 1 195 7 -\n0 rmap faulty 1"),
+        (
+            &[written(7, 40, 1)],
+            "missing 40 1 195 7 -\n0 rmap faulty 1",
+        ),
         (
             &[written(0, 40, 2), written(2, 42, 3)],
             "missing 40 5 195 0 -\n0 rmap faulty 1",
@@ -123,7 +135,12 @@ fn inodes_are_compared(rt: HostRuntime) -> Result<(), Fail> {
         "0 ino missing 192 0 64 61 fffffffffffffff8\n0 ino extra 192 0 64 61 fffffffffffffff4\n\
         0 inode faulty 2\n{NO_INODES}"
     )?;
-    expect_check(&rt, small_with(rt.alloc(), &[(3, mask)])?, 1, report.as_str())?;
+    expect_check(
+        &rt,
+        small_with(rt.alloc(), &[(3, mask)])?,
+        1,
+        report.as_str(),
+    )?;
     // An inode that is allocated, where both btrees and the head say that it is free.
     let allocated = chunk_with(&file_core(&[]));
     let report = format!(in rt.alloc();
@@ -131,7 +148,12 @@ fn inodes_are_compared(rt: HostRuntime) -> Result<(), Fail> {
         0 fino missing 192 0 64 60 fffffffffffffff0\n0 fino extra 192 0 64 61 fffffffffffffff8\n\
         0 inode counter freecount 61 60\n0 inode faulty 5\n{NO_INODES}"
     )?;
-    expect_check(&rt, small_with(rt.alloc(), &[(24, allocated)])?, 1, report.as_str())
+    expect_check(
+        &rt,
+        small_with(rt.alloc(), &[(24, allocated)])?,
+        1,
+        report.as_str(),
+    )
 }
 
 // The block with one bit of this byte turned. Its checksum stays.
@@ -182,11 +204,17 @@ fn reverse_mappings_are_given_up_for_a_fork(rt: HostRuntime) -> Result<(), Fail>
     let rows: [(&[Stretch], &str); 6] = [
         (&[written(0, 0, 1)], "overlap 0 heads data 195"),
         (&[written(0, 18, 2)], "overlap 18 list data 195"),
-        (&[written(0, 40, 1), written(1, 31, 1)], "overlap 31 chunk data 195"),
+        (
+            &[written(0, 40, 1), written(1, 31, 1)],
+            "overlap 31 chunk data 195",
+        ),
         // A mapping that passes the group's end, one that begins before the last, and one in its offsets.
         (&[written(0, 255, 2)], "badfork 195 range"),
         (&[written(9, 40, 1), written(8, 41, 1)], "badfork 195 order"),
-        (&[written(8, 40, 2), written(9, 42, 1)], "badfork 195 overlap"),
+        (
+            &[written(8, 40, 2), written(9, 42, 1)],
+            "badfork 195 overlap",
+        ),
     ];
     for (stretches, evidence) in &rows {
         let image = file_image(rt.alloc(), *stretches)?;

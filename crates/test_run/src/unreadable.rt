@@ -1,8 +1,6 @@
 //! Trees that can't be read, and trees of several levels.
 use crate::files::{chunk_with, fork_leaf, tree_core, with_file};
-use crate::fresh::{
-    file_heads, image_of, small_heads, small_owned, small_with, two_groups_with,
-};
+use crate::fresh::{file_heads, image_of, small_heads, small_owned, small_with, two_groups_with};
 use crate::heads::{Group, NONE, altered, mended_heads};
 use crate::runs::{ALL_GOOD, SKIPPED, SOUND, expect_check};
 use crate::trees::{
@@ -88,12 +86,37 @@ fn a_changed_byte_is_a_wrong_checksum(rt: HostRuntime) -> Result<(), Fail> {
     let inodes = "0 rmap skipped 0 inode\n0 free skipped 0 rmap\n0 refc skipped 0 rmap\n";
     let mappings = "0 inode good\n0 rmap block 5 checksum\n0 rmap faulty 1\n";
     let rows = [
-        (1, small_bno(), SOUND, "0 bno block 1 checksum\n0 free faulty 1\n0 refc good\n"),
-        (2, cnt_leaf(at(2), &free), SOUND, "0 cnt block 2 checksum\n0 free faulty 1\n0 refc good\n"),
-        (3, fresh_block(1, 256, 3), "0 ino block 3 checksum\n0 inode faulty 1\n", inodes),
-        (4, fresh_block(1, 256, 4), "0 fino block 4 checksum\n0 inode faulty 1\n", inodes),
+        (
+            1,
+            small_bno(),
+            SOUND,
+            "0 bno block 1 checksum\n0 free faulty 1\n0 refc good\n",
+        ),
+        (
+            2,
+            cnt_leaf(at(2), &free),
+            SOUND,
+            "0 cnt block 2 checksum\n0 free faulty 1\n0 refc good\n",
+        ),
+        (
+            3,
+            fresh_block(1, 256, 3),
+            "0 ino block 3 checksum\n0 inode faulty 1\n",
+            inodes,
+        ),
+        (
+            4,
+            fresh_block(1, 256, 4),
+            "0 fino block 4 checksum\n0 inode faulty 1\n",
+            inodes,
+        ),
         (5, rmap_leaf(at(5), &small_owned()), mappings, SKIPPED),
-        (6, refc_leaf(at(6), &[]), SOUND, "0 free good\n0 refc block 6 checksum\n0 refc faulty 1\n"),
+        (
+            6,
+            refc_leaf(at(6), &[]),
+            SOUND,
+            "0 free good\n0 refc block 6 checksum\n0 refc faulty 1\n",
+        ),
     ];
     for (number, block, first, last) in &rows {
         let mut block = *block;
@@ -198,9 +221,27 @@ fn roots_that_no_tree_has_are_shown_where_no_block_has_another_owner(
     let no_refc = rmap_leaf(at(5), &[a, b, c, d, list, chunk]);
     let counter = "0 free counter freeblks 229 230\n0 free faulty 3\n";
     let rows = [
-        (528, 0, no_bno, "0 bno block 0 range\n0 cnt missing 1 1\n", "0 refc good\n"),
-        (528, 256, no_bno, "0 bno block 256 range\n0 cnt missing 1 1\n", "0 refc good\n"),
-        (532, 256, no_cnt, "0 bno missing 2 1\n0 cnt block 256 range\n", "0 refc good\n"),
+        (
+            528,
+            0,
+            no_bno,
+            "0 bno block 0 range\n0 cnt missing 1 1\n",
+            "0 refc good\n",
+        ),
+        (
+            528,
+            256,
+            no_bno,
+            "0 bno block 256 range\n0 cnt missing 1 1\n",
+            "0 refc good\n",
+        ),
+        (
+            532,
+            256,
+            no_cnt,
+            "0 bno missing 2 1\n0 cnt block 256 range\n",
+            "0 refc good\n",
+        ),
         (
             600,
             0,
@@ -221,10 +262,30 @@ fn roots_that_no_tree_has_are_shown_where_no_block_has_another_owner(
 #[test]
 fn levels_that_no_tree_has(rt: HostRuntime) -> Result<(), Fail> {
     let rows = [
-        (540, 2, SOUND, "0 bno block 1 level\n0 free faulty 1\n0 refc good\n"),
-        (544, 0, SOUND, "0 cnt block 2 level\n0 free faulty 1\n0 refc good\n"),
-        (604, 10, SOUND, "0 free good\n0 refc block 6 level\n0 refc faulty 1\n"),
-        (548, 2, "0 inode good\n0 rmap block 5 level\n0 rmap faulty 1\n", SKIPPED),
+        (
+            540,
+            2,
+            SOUND,
+            "0 bno block 1 level\n0 free faulty 1\n0 refc good\n",
+        ),
+        (
+            544,
+            0,
+            SOUND,
+            "0 cnt block 2 level\n0 free faulty 1\n0 refc good\n",
+        ),
+        (
+            604,
+            10,
+            SOUND,
+            "0 free good\n0 refc block 6 level\n0 refc faulty 1\n",
+        ),
+        (
+            548,
+            2,
+            "0 inode good\n0 rmap block 5 level\n0 rmap faulty 1\n",
+            SKIPPED,
+        ),
     ];
     for (place, value, first, last) in &rows {
         let heads = mended_heads(altered(small_heads(), *place, *value));
@@ -321,6 +382,8 @@ fn reverse_mappings_may_have_two_levels(rt: HostRuntime) -> Result<(), Fail> {
     expect_check(&rt, image, 1, report.as_str())?;
     let mut image = image_of(alloc, 512, &blocks)?;
     image.blocks.insert(20, Block::zeroed())?;
-    let report = format!(in alloc; "0 inode good\n0 rmap block 20 magic\n0 rmap faulty 1\n{SKIPPED}")?;
+    let report = format!(in alloc;
+        "0 inode good\n0 rmap block 20 magic\n0 rmap faulty 1\n{SKIPPED}"
+    )?;
     expect_check(&rt, image, 1, report.as_str())
 }

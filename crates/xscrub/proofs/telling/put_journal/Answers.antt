@@ -19,8 +19,7 @@ loop-told-preserved g c = (
 pub returns-in_err-put_all-clause-stop : goal.returns-in_err-put_all-clause-stop
 returns-in_err-put_all-clause-stop g c =
     err_with {T = Unit {0}} (λ r. IfErr r (StopsAt c.args.journal.now (g.K.Sink.sink_faults c.args.sink.now) (g.K.Sink.sink_faults c.put_all.new.sink) (g.K.Sink.taken c.args.sink.now) (g.K.Sink.taken c.put_all.new.sink)))
-    Sink c.from_residual.result c.from_residual.ensures
-    (
+    Sink c.from_residual.result c.from_residual.ensures (
       omega (arith, c.loop-told-test.true),
       rw c.loop-told.invariant.1 at c.in_err-put_all.ensures.cause.1,
       told_some c.args.journal.now c.loop-told.told _ c.as_bytes.result.now _ (g.K.Sink.taken c.loop-told.sink) _ c.loop-told-test.true
