@@ -4,4 +4,4 @@
 
 mod laws;
 
-pub use laws::{mappings_follow};
+pub use laws::mappings_follow;
