@@ -26,16 +26,16 @@ use Rattle.account_laws.proofs.Mappings.{rmap_done_sound}
 use Rattle.account_laws.proofs.Runs.{freed_sound}
 
 -- what of a group claims blocks is the same
-record SameParts (p q : Group) : Type 0 where
+pub record SameParts (p q : Group) : Type 0 where
   pub list : q.free_list ≡ p.free_list
   pub blocks : (k : Kind) → blocks_of (q.tree k).reading ≡ blocks_of (p.tree k).reading
   pub reserve : q.reserve ≡ p.reserve
   pub limbo : q.limbo ≡ p.limbo
 
-same_parts : (p : Group) → SameParts p p
+pub same_parts : (p : Group) → SameParts p p
 same_parts p = record { list = refl; blocks = λ k. refl; reserve = refl; limbo = refl }
 
-both_parts : (p q r : Group) → SameParts p q → SameParts q r → SameParts p r
+pub both_parts : (p q r : Group) → SameParts p q → SameParts q r → SameParts p r
 both_parts p q r s t = record { list = t.list ∙ s.list; blocks = λ k. t.blocks k ∙ s.blocks k; reserve = t.reserve ∙ s.reserve; limbo = t.limbo ∙ s.limbo }
 
 module _ (a x : State) (g : ℕ) (at : x.geometry ≡ a.geometry) (fork : x.fork ≡ a.fork) (stay : ChunksStay a x) (same : SameParts (a.group g) (x.group g)) where
@@ -68,7 +68,7 @@ module _ (a x : State) (g : ℕ) (at : x.geometry ≡ a.geometry) (fork : x.fork
 
 -- ---- edits
 
-recs_put : {R : Type 0} (recs : List R) (r : Reading R) → blocks_of (with_recs recs r) ≡ blocks_of r
+pub recs_put : {R : Type 0} (recs : List R) (r : Reading R) → blocks_of (with_recs recs r) ≡ blocks_of r
 recs_put recs (Readable old blocks) = refl
 recs_put recs (Unreadable block fault claims) = refl
 
@@ -81,7 +81,7 @@ blocks_in_tree Ino Ino i f e = e
 blocks_in_tree Fino Fino i f e = e
 blocks_in_tree j k i f e = refl
 
-edit_parts : (left : List Kind) (k : Kind) (f : List (RecOf k) → List (RecOf k)) (p : Group) → SameParts p (edit left k f p)
+pub edit_parts : (left : List Kind) (k : Kind) (f : List (RecOf k) → List (RecOf k)) (p : Group) → SameParts p (edit left k f p)
 edit_parts left k f p = by (is_edited left p k)
   where
     by : (t : Bool) → SameParts p (if t then change_tree k (λ i. record i { reading = with_recs (f (recs_of i.reading)) i.reading }) p else p)
@@ -106,7 +106,7 @@ rmap_done_stated a x left c ino g at n b lt w there stay row h =
     subst (λ (cs : List Claimed). Sound (ledger_of x g b (owned_at b cs) (alone_at b cs))) (sym same)
     (rmap_done_sound a x left c ino g at n b (owned_at b (claims a g)) (alone_at b (claims a g)) lt w there row h)
 
-given_parts : (left : List Kind) (e : Extent) (p : Group) → SameParts p (give_free left e p)
+pub given_parts : (left : List Kind) (e : Extent) (p : Group) → SameParts p (give_free left e p)
 given_parts left e p =
     let one = edit_parts left Bno (give_span by_start (records_in p Bno) (span e.block e.count)) p in
     let two = edit_parts left Cnt (give_span by_count (known_spans p) (span e.block e.count)) (edit left Bno (give_span by_start (records_in p Bno) (span e.block e.count)) p) in

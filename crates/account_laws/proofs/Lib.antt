@@ -1,15 +1,15 @@
 mod Blocks
-mod Covers
+pub mod Covers
 mod First
 mod Follow
-mod Framed
-mod Free
+pub mod Framed
+pub mod Free
 mod Guards
 mod Holders
 mod Lists
 mod Mappings
 mod Runs
 mod Shapes
-mod Spans
+pub mod Spans
 mod Stated
-mod Sums
+pub mod Sums

@@ -1,1 +1,5 @@
+pub mod Counts
+pub mod Gaps
 pub mod Mappings
+pub mod Orders
+pub mod Spaces
