@@ -15,6 +15,6 @@ pub use lacks::{inodes_lacked, mappings_lacked};
 pub use laws::{
     check_is_session, cut_is_session, passed_can_be_read, phases_are_session, phases_in_order,
 };
-pub use part::{Part, check_inode_part, check_space_part};
+pub use part::{Part, check_inode_part, check_space_part, groups_in};
 pub use space::check_space;
 pub use tally::Tally;

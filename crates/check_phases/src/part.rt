@@ -1,4 +1,4 @@
-ghost use Rattle.std.specs.Prelude.{◌≡◌, ◌<◌, ◌≤◌, Some, length};
+ghost use Rattle.std.specs.Prelude.{◌≡◌, ◌-◌, ◌<◌, ◌≤◌, Some, length};
 ghost use Rattle.blk_device.specs.Causes.{HasCause};
 ghost use Rattle.blk_device.specs.Contents.{Contents};
 ghost use Rattle.blk_device.specs.Reading.{OnlyRead};
@@ -16,6 +16,7 @@ use crate::space::check_space;
 use crate::tally::Tally;
 use blk_device::Device;
 use byte_fields::Steps;
+use check_watch::{Phase, Watch};
 use geom::Geometry;
 use group_trees::GroupHeads;
 use space_check::Halt;
@@ -28,6 +29,14 @@ use std::sync::ledger::Ledger;
 pub struct Part {
     pub from: u32,
     pub to: u32,
+}
+
+/// How many groups these are (XFS Algorithms and Data Structures, "Allocation Groups").
+pub fn groups_in(part: Part) -> u64
+    requires order { part.from ≤ part.to }
+    ensures { result ≡ part.to - part.from }
+{
+    u64::from(part.to - part.from)
 }
 
 // Checks the inodes of one group, by its heads among those of all groups.
@@ -58,7 +67,7 @@ fn check_inodes_of<D: Device, L: Ledger>(
 /// up with the first evidence, in the groups' order. A journal that is full, a device that failed and
 /// want of memory end it, each unit with all its entries or none
 /// (XFS Online Fsck Design, "Metadata Scrubbing").
-pub fn check_inode_part<D: Device, L: Ledger>(
+pub fn check_inode_part<D: Device, L: Ledger, W: Watch>(
     alloc: Global,
     dev: &mut D,
     geo: &Geometry,
@@ -66,6 +75,7 @@ pub fn check_inode_part<D: Device, L: Ledger>(
     part: Part,
     tally: &mut Tally,
     steps: &mut Steps<L>,
+    watch: &mut W,
 ) -> Result<(), Halt>
     requires order { part.from ≤ part.to }
     requires part { part.to ≤ geo.now.agcount }
@@ -79,8 +89,10 @@ pub fn check_inode_part<D: Device, L: Ledger>(
     ensures reading { OnlyRead D.Device dev.old dev.new steps.old steps.new }
     ensures cause { HasCause is_failed (D.faults dev.old) (D.faults dev.new) result }
 {
+    watch.begin(Phase::Inodes, groups_in(part));
     for g in part.from..part.to {
         check_inodes_of(alloc, dev, geo, heads, g, tally, steps)?;
+        watch.pass(1);
     }
     Ok(())
 }
@@ -115,7 +127,7 @@ fn check_space_of<D: Device, L: Ledger>(
 /// the group's reverse mappings didn't pass, as `passed` says of each group. A journal that is full, a
 /// device that failed and want of memory end it, each unit with all its entries or none
 /// (XFS Online Fsck Design, "Cross-Referencing Space Metadata").
-pub fn check_space_part<D: Device, L: Ledger>(
+pub fn check_space_part<D: Device, L: Ledger, W: Watch>(
     alloc: Global,
     dev: &mut D,
     geo: &Geometry,
@@ -124,6 +136,7 @@ pub fn check_space_part<D: Device, L: Ledger>(
     passed: &[bool],
     tally: &mut Tally,
     steps: &mut Steps<L>,
+    watch: &mut W,
 ) -> Result<(), Halt>
     requires order { part.from ≤ part.to }
     requires part { part.to ≤ geo.now.agcount }
@@ -137,8 +150,10 @@ pub fn check_space_part<D: Device, L: Ledger>(
     ensures reading { OnlyRead D.Device dev.old dev.new steps.old steps.new }
     ensures cause { HasCause is_failed (D.faults dev.old) (D.faults dev.new) result }
 {
+    watch.begin(Phase::Space, groups_in(part));
     for g in part.from..part.to {
         check_space_of(alloc, dev, geo, heads, g, passed, tally, steps)?;
+        watch.pass(1);
     }
     Ok(())
 }

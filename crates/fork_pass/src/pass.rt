@@ -10,9 +10,10 @@ ghost use Rattle.geom.specs.Places.{layout};
 ghost use Rattle.inode_pass.specs.Stops.{is_failed};
 
 use crate::sets::fresh_sets;
-use crate::unit::pass_group;
+use crate::unit::{UNIT_INODES, pass_group};
 use blk_device::Device;
 use byte_fields::Steps;
+use check_watch::{Phase, Watch};
 use fs_model::Evidence;
 use geom::Geometry;
 use inode_pass::PassStop;
@@ -28,14 +29,24 @@ pub enum ForksSeen {
     GaveUp(Evidence),
 }
 
+// How many inodes these units have, for a person who waits: no clause speaks of it.
+fn inodes_in(chunks: &[Vec<u32>]) -> u64 {
+    let mut units: u64 = 0;
+    for list in chunks {
+        units = units.saturating_add(list.len() as u64);
+    }
+    units.saturating_mul(UNIT_INODES)
+}
+
 // Passes the inodes of the chunks of all groups.
-fn pass_groups<D: Device, L: Ledger>(
+fn pass_groups<D: Device, L: Ledger, W: Watch>(
     alloc: Global,
     dev: &mut D,
     geo: &Geometry,
     chunks: &[Vec<u32>],
     sets: &mut [ClaimSet],
     steps: &mut Steps<L>,
+    watch: &mut W,
 ) -> Result<Option<Evidence>, PassStop>
     requires lists { length chunks.now ≡ geo.now.agcount }
     requires inside { LieInGroups (layout geo.now) chunks.now }
@@ -49,7 +60,7 @@ fn pass_groups<D: Device, L: Ledger>(
 {
     for g in 0..geo.agcount {
         let units = chunks[g as usize].as_slice();
-        match pass_group(alloc, dev, geo, g, units, sets, steps)? {
+        match pass_group(alloc, dev, geo, g, units, sets, steps, watch)? {
             None => {}
             Some(found) => return Ok(Some(found)),
         }
@@ -63,12 +74,13 @@ fn pass_groups<D: Device, L: Ledger>(
 /// ends it, the data fork's fault before the other's. Each block of cores is read once, and each of a
 /// fork's btree as `see_fork` reads it. A device that failed and want of memory are the refusals
 /// (XFS Online Fsck Design, "Inode Scans").
-pub fn read_forks<D: Device, L: Ledger>(
+pub fn read_forks<D: Device, L: Ledger, W: Watch>(
     alloc: Global,
     dev: &mut D,
     geo: &Geometry,
     chunks: &[Vec<u32>],
     steps: &mut Steps<L>,
+    watch: &mut W,
 ) -> Result<ForksSeen, PassStop>
     requires lists { length chunks.now ≡ geo.now.agcount }
     requires inside { LieInGroups (layout geo.now) chunks.now }
@@ -79,8 +91,9 @@ pub fn read_forks<D: Device, L: Ledger>(
     ensures reading { OnlyRead D.Device dev.old dev.new steps.old steps.new }
     ensures cause { HasCause is_failed (D.faults dev.old) (D.faults dev.new) result }
 {
+    watch.begin(Phase::Forks, inodes_in(chunks));
     let mut sets = fresh_sets(alloc, geo.agcount)?;
-    match pass_groups(alloc, dev, geo, chunks, &mut sets, steps)? {
+    match pass_groups(alloc, dev, geo, chunks, &mut sets, steps, watch)? {
         Some(evidence) => Ok(ForksSeen::GaveUp(evidence)),
         None => Ok(ForksSeen::Claims(sets)),
     }

@@ -12,6 +12,7 @@ ghost use Rattle.inode_pass.specs.Stops.{is_failed};
 use crate::inode::see_slot;
 use blk_device::Device;
 use byte_fields::Steps;
+use check_watch::Watch;
 use fs_model::Evidence;
 use geom::{Geometry, InodePlace};
 use inode_pass::{PassStop, load_block};
@@ -23,6 +24,9 @@ use unit_plan::ClaimSet;
 const BLOCK_INODES: u32 = 8;
 
 const UNIT_BLOCKS: u32 = 8;
+
+/// The inodes of a unit (XFS Algorithms and Data Structures, "Inode B+trees").
+pub const UNIT_INODES: u64 = 64;
 
 // The number of the inode in a slot of a group's block.
 fn number_of(geo: &Geometry, g: u32, b: u32, slot: u32) -> u64
@@ -102,7 +106,7 @@ fn pass_unit<D: Device, L: Ledger>(
 /// forks claim is put into the sets of the groups, up to the first fork that can't be read. Eight
 /// blocks a unit are read, and the blocks of the forks' btrees
 /// (XFS Online Fsck Design, "Inode Scans").
-pub fn pass_group<D: Device, L: Ledger>(
+pub fn pass_group<D: Device, L: Ledger, W: Watch>(
     alloc: Global,
     dev: &mut D,
     geo: &Geometry,
@@ -110,6 +114,7 @@ pub fn pass_group<D: Device, L: Ledger>(
     units: &[u32],
     sets: &mut [ClaimSet],
     steps: &mut Steps<L>,
+    watch: &mut W,
 ) -> Result<Option<Evidence>, PassStop>
     requires group { g < geo.now.agcount }
     requires inside { All (λ u. 8 * u + 7 < group_len_of (layout geo.now) g) units.now }
@@ -123,7 +128,7 @@ pub fn pass_group<D: Device, L: Ledger>(
 {
     for unit in units {
         match pass_unit(alloc, dev, geo, g, *unit, sets, steps)? {
-            None => {}
+            None => watch.pass(UNIT_INODES),
             Some(found) => return Ok(Some(found)),
         }
     }

@@ -14,6 +14,7 @@ use crate::image::check_units;
 use blk_device::Device;
 use byte_fields::Steps;
 use check_phases::{Tally, read_all_heads};
+use check_watch::Watch;
 use fs_model::Entry;
 use geom::Geometry;
 use space_check::{CheckStop, Halt};
@@ -21,12 +22,13 @@ use std::alloc::Global;
 use std::sync::ledger::Ledger;
 
 // The check, with the tally that it fills.
-fn check_into<D: Device, L: Ledger>(
+fn check_into<D: Device, L: Ledger, W: Watch>(
     alloc: Global,
     dev: &mut D,
     geo: &Geometry,
     tally: &mut Tally,
     steps: &mut Steps<L>,
+    watch: &mut W,
 ) -> Result<(), Halt>
     requires room { geo.now.dblocks ≤ D.blocks dev.old Image }
     requires empty { tally.old.journal.entries.items ≡ [] }
@@ -38,18 +40,19 @@ fn check_into<D: Device, L: Ledger>(
     ensures cause { HasCause is_failed (D.faults dev.old) (D.faults dev.new) result }
 {
     let heads = read_all_heads(alloc, dev, geo, steps)?;
-    check_units(alloc, dev, geo, heads.as_slice(), tally, steps)
+    check_units(alloc, dev, geo, heads.as_slice(), tally, steps, watch)
 }
 
 /// Checks all units of all groups of an image: first the heads of all groups are read, and the first
 /// that is refused ends the check; then the units are judged or skipped in the order of a session. A
 /// journal that is full, a device that fails and want of memory end it, and the journal so far is handed
 /// back. Nothing is written (XFS Online Fsck Design, "Metadata Scrubbing").
-pub fn check_image<D: Device, L: Ledger>(
+pub fn check_image<D: Device, L: Ledger, W: Watch>(
     alloc: Global,
     dev: &mut D,
     geo: &Geometry,
     steps: &mut Steps<L>,
+    watch: &mut W,
 ) -> Result<Vec<Entry>, CheckStop>
     requires room { geo.now.dblocks ≤ D.blocks dev.old Image }
     ensures exact { IfSome (D.content dev.old) (λ c. MeetsCheck (image_checked (layout geo.now) (c Image)) result) }
@@ -59,7 +62,7 @@ pub fn check_image<D: Device, L: Ledger>(
     ensures cause { CheckCause (D.faults dev.old) (D.faults dev.new) result }
 {
     let mut tally = Tally::new(alloc);
-    match check_into(alloc, dev, geo, &mut tally, steps) {
+    match check_into(alloc, dev, geo, &mut tally, steps, watch) {
         Ok(()) => Ok(tally.journal.entries),
         Err(cause) => Err(CheckStop {
             cause,

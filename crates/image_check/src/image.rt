@@ -27,6 +27,7 @@ use check_phases::{
     Part, Tally, check_inode_part, check_space_part, halt_of, passed_can_be_read,
     phases_are_session,
 };
+use check_watch::Watch;
 use fork_pass::{ForksSeen, read_forks};
 use fs_model::Unit;
 use geom::Geometry;
@@ -59,12 +60,13 @@ fn take_passed(alloc: Global, tally: &mut Tally) -> Vec<bool>
 }
 
 // Reads the forks of all inodes, with the stops of a check.
-fn forks_of<D: Device, L: Ledger>(
+fn forks_of<D: Device, L: Ledger, W: Watch>(
     alloc: Global,
     dev: &mut D,
     geo: &Geometry,
     lists: &[Vec<u32>],
     steps: &mut Steps<L>,
+    watch: &mut W,
 ) -> Result<ForksSeen, Halt>
     requires lists { length lists.now ≡ geo.now.agcount }
     requires inside { LieInGroups (layout geo.now) lists.now }
@@ -76,7 +78,7 @@ fn forks_of<D: Device, L: Ledger>(
     ensures reading { OnlyRead D.Device dev.old dev.new steps.old steps.new }
     ensures cause { HasCause is_failed (D.faults dev.old) (D.faults dev.new) result }
 {
-    match read_forks(alloc, dev, geo, lists, steps) {
+    match read_forks(alloc, dev, geo, lists, steps, watch) {
         Ok(seen) => Ok(seen),
         Err(stop) => Err(halt_of(stop)),
     }
@@ -105,7 +107,7 @@ fn first_fallen(passed: &[bool], groups: u32) -> Option<u32>
 }
 
 // Checks the reverse mappings of all groups by what all forks claim.
-fn check_by_sets<D: Device, L: Ledger>(
+fn check_by_sets<D: Device, L: Ledger, W: Watch>(
     alloc: Global,
     dev: &mut D,
     geo: &Geometry,
@@ -114,6 +116,7 @@ fn check_by_sets<D: Device, L: Ledger>(
     mut sets: Vec<ClaimSet>,
     tally: &mut Tally,
     steps: &mut Steps<L>,
+    watch: &mut W,
 ) -> Result<(), Halt>
     requires room { geo.now.dblocks ≤ D.blocks dev.old Image }
     requires all { length heads.now ≡ geo.now.agcount }
@@ -130,11 +133,13 @@ fn check_by_sets<D: Device, L: Ledger>(
     ensures cause { HasCause is_failed (D.faults dev.old) (D.faults dev.new) result }
 {
     let part = whole(geo);
-    check_mapping_part(alloc, dev, geo, heads, lists, part, &mut sets, tally, steps)
+    check_mapping_part(
+        alloc, dev, geo, heads, lists, part, &mut sets, tally, steps, watch,
+    )
 }
 
 // Checks the reverse mappings of all groups by the forks of all inodes, which are those of these chunks.
-fn check_by_lists<D: Device, L: Ledger>(
+fn check_by_lists<D: Device, L: Ledger, W: Watch>(
     alloc: Global,
     dev: &mut D,
     geo: &Geometry,
@@ -142,6 +147,7 @@ fn check_by_lists<D: Device, L: Ledger>(
     lists: &[Vec<u32>],
     tally: &mut Tally,
     steps: &mut Steps<L>,
+    watch: &mut W,
 ) -> Result<(), Halt>
     requires room { geo.now.dblocks ≤ D.blocks dev.old Image }
     requires all { length heads.now ≡ geo.now.agcount }
@@ -157,24 +163,25 @@ fn check_by_lists<D: Device, L: Ledger>(
     ensures reading { OnlyRead D.Device dev.old dev.new steps.old steps.new }
     ensures cause { HasCause is_failed (D.faults dev.old) (D.faults dev.new) result }
 {
-    let forks = forks_of(alloc, dev, geo, lists, steps)?;
+    let forks = forks_of(alloc, dev, geo, lists, steps, watch)?;
     match forks {
         ForksSeen::GaveUp(evidence) => give_up_part(alloc, whole(geo), evidence, tally),
         ForksSeen::Claims(sets) => {
-            check_by_sets(alloc, dev, geo, heads, lists, sets, tally, steps)
+            check_by_sets(alloc, dev, geo, heads, lists, sets, tally, steps, watch)
         }
     }
 }
 
 // Checks the reverse mappings of all groups by the forks of all inodes, which are read once: the inodes
 // of all groups passed.
-fn check_by_forks<D: Device, L: Ledger>(
+fn check_by_forks<D: Device, L: Ledger, W: Watch>(
     alloc: Global,
     dev: &mut D,
     geo: &Geometry,
     heads: &[GroupHeads],
     tally: &mut Tally,
     steps: &mut Steps<L>,
+    watch: &mut W,
 ) -> Result<(), Halt>
     requires room { geo.now.dblocks ≤ D.blocks dev.old Image }
     requires all { length heads.now ≡ geo.now.agcount }
@@ -189,11 +196,20 @@ fn check_by_forks<D: Device, L: Ledger>(
 {
     tally.begin()?;
     let lists = all_chunks(alloc, dev, geo, heads, steps)?;
-    check_by_lists(alloc, dev, geo, heads, lists.as_slice(), tally, steps)
+    check_by_lists(
+        alloc,
+        dev,
+        geo,
+        heads,
+        lists.as_slice(),
+        tally,
+        steps,
+        watch,
+    )
 }
 
 // Checks the reverse mappings of all groups, or skips them for the first group whose inodes didn't pass.
-fn check_all_mappings<D: Device, L: Ledger>(
+fn check_all_mappings<D: Device, L: Ledger, W: Watch>(
     alloc: Global,
     dev: &mut D,
     geo: &Geometry,
@@ -201,6 +217,7 @@ fn check_all_mappings<D: Device, L: Ledger>(
     fallen: Option<u32>,
     tally: &mut Tally,
     steps: &mut Steps<L>,
+    watch: &mut W,
 ) -> Result<(), Halt>
     requires room { geo.now.dblocks ≤ D.blocks dev.old Image }
     requires all { length heads.now ≡ geo.now.agcount }
@@ -216,7 +233,7 @@ fn check_all_mappings<D: Device, L: Ledger>(
 {
     match fallen {
         Some(g) => skip_part(whole(geo), (g, Unit::Inode), tally),
-        None => check_by_forks(alloc, dev, geo, heads, tally, steps),
+        None => check_by_forks(alloc, dev, geo, heads, tally, steps, watch),
     }
 }
 
@@ -226,13 +243,14 @@ fn check_all_mappings<D: Device, L: Ledger>(
 /// first unit that it needs and that didn't pass. Every fork is read once. A journal that is full, a
 /// device that failed and want of memory end it, each unit with all its entries or none
 /// (XFS Online Fsck Design, "Metadata Scrubbing").
-pub fn check_units<D: Device, L: Ledger>(
+pub fn check_units<D: Device, L: Ledger, W: Watch>(
     alloc: Global,
     dev: &mut D,
     geo: &Geometry,
     heads: &[GroupHeads],
     tally: &mut Tally,
     steps: &mut Steps<L>,
+    watch: &mut W,
 ) -> Result<(), Halt>
     requires room { geo.now.dblocks ≤ D.blocks dev.old Image }
     requires all { length heads.now ≡ geo.now.agcount }
@@ -247,11 +265,21 @@ pub fn check_units<D: Device, L: Ledger>(
 {
     phases_are_session();
     passed_can_be_read();
-    check_inode_part(alloc, dev, geo, heads, whole(geo), tally, steps)?;
+    check_inode_part(alloc, dev, geo, heads, whole(geo), tally, steps, watch)?;
     let inodes = take_passed(alloc, tally);
     let fallen = first_fallen(inodes.as_slice(), geo.agcount);
-    check_all_mappings(alloc, dev, geo, heads, fallen, tally, steps)?;
+    check_all_mappings(alloc, dev, geo, heads, fallen, tally, steps, watch)?;
     let mappings = take_passed(alloc, tally);
     let passed = mappings.as_slice();
-    check_space_part(alloc, dev, geo, heads, whole(geo), passed, tally, steps)
+    check_space_part(
+        alloc,
+        dev,
+        geo,
+        heads,
+        whole(geo),
+        passed,
+        tally,
+        steps,
+        watch,
+    )
 }

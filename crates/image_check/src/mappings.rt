@@ -20,7 +20,8 @@ ghost use Rattle.tree_walk.specs.Trails.{LieInside};
 use crate::sets::take_set;
 use blk_device::Device;
 use byte_fields::Steps;
-use check_phases::{Part, Tally, halt_of};
+use check_phases::{Part, Tally, groups_in, halt_of};
+use check_watch::{Phase, Watch};
 use fs_model::Unit;
 use geom::Geometry;
 use group_trees::GroupHeads;
@@ -136,7 +137,7 @@ fn check_claims_of<D: Device, L: Ledger>(
 /// fork is bad: `lists` are the chunks of each group, and `sets` what all forks claim in it, which is
 /// given back group by group. A journal that is full, a device that failed and want of memory end it,
 /// each unit with all its entries or none (XFS Online Fsck Design, "Cross-Referencing Space Metadata").
-pub fn check_mapping_part<D: Device, L: Ledger>(
+pub fn check_mapping_part<D: Device, L: Ledger, W: Watch>(
     alloc: Global,
     dev: &mut D,
     geo: &Geometry,
@@ -146,6 +147,7 @@ pub fn check_mapping_part<D: Device, L: Ledger>(
     sets: &mut [ClaimSet],
     tally: &mut Tally,
     steps: &mut Steps<L>,
+    watch: &mut W,
 ) -> Result<(), Halt>
     requires order { part.from ≤ part.to }
     requires part { part.to ≤ geo.now.agcount }
@@ -163,8 +165,10 @@ pub fn check_mapping_part<D: Device, L: Ledger>(
     ensures reading { OnlyRead D.Device dev.old dev.new steps.old steps.new }
     ensures cause { HasCause is_failed (D.faults dev.old) (D.faults dev.new) result }
 {
+    watch.begin(Phase::Mappings, groups_in(part));
     for g in part.from..part.to {
         check_claims_of(alloc, dev, geo, heads, lists, g, sets, tally, steps)?;
+        watch.pass(1);
     }
     Ok(())
 }

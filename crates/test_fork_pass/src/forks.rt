@@ -6,6 +6,7 @@ ghost use Rattle.geom.specs.Places.{layout};
 
 use blk_device::{Device, MemDevice, Region};
 use byte_fields::{Block, Steps, put_sum, put_u16, put_u32, put_u64, sum_at};
+use check_watch::NoWatch;
 use dinode_core::{Core3, ForkFault, encode_core};
 use fork_pass::{ForksSeen, read_forks};
 use fresh_image::write_fresh;
@@ -183,7 +184,15 @@ fn pass<L: Ledger>(
         return None;
     };
     let mut steps = Steps::<L>::new(blank);
-    read_forks(alloc, device, geo, lists.as_slice(), &mut steps).ok()
+    read_forks(
+        alloc,
+        device,
+        geo,
+        lists.as_slice(),
+        &mut steps,
+        &mut NoWatch,
+    )
+    .ok()
 }
 
 // The same for a caller that counts no steps.

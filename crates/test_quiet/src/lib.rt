@@ -4,4 +4,6 @@
 #[cfg(test)]
 mod damages;
 #[cfg(test)]
+mod ended;
+#[cfg(test)]
 mod inodes;

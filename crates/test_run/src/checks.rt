@@ -3,6 +3,7 @@ use crate::runs::{ALL_GOOD, SOUND, expect_end, run_words};
 use crate::trees::{at, bno_leaf, run};
 use blk_device::MemDevice;
 use byte_fields::Block;
+use check_watch::NoWatch;
 use fs_model::{AnyRec, Entry, Fault, Unit, Verdict};
 use sblock::{BlockFault, Kind};
 use std::alloc::{AllocError, Global};
@@ -163,7 +164,7 @@ fn how_often_each_block_is_read(rt: HostRuntime) -> Result<(), Fail> {
     let alloc = rt.alloc();
     let image = two_groups_with(alloc, &[])?;
     let mut dev = MemDevice::with_image(alloc, image.size, 1, image.blocks, Vec::new(alloc))?;
-    assert!(rt; judge(alloc, &mut dev).is_ok());
+    assert!(rt; judge(alloc, &mut dev, &mut NoWatch).is_ok());
     // The superblock is in block 0, beside the heads of group 0.
     assert_eq!(rt; dev.reads_at(0), 2);
     assert_eq!(rt; dev.reads_at(64), 1);
@@ -195,27 +196,17 @@ fn an_image_that_is_not_there_is_a_fault_of_the_host(rt: HostRuntime) -> Result<
 
 #[test]
 fn a_report_ends_where_the_sink_fails(rt: HostRuntime) -> Result<(), Fail> {
-    let lines = [
-        "0 inode good\n",
-        "0 rmap good\n",
-        "0 bno missing 32 224\n",
-        "0 bno extra 32 223\n",
-        "0 free faulty 2\n",
-        "0 refc good\n",
-    ];
-    for call in 0..6usize {
-        let mut report = String::new(rt.alloc());
-        for line in &lines[..call] {
-            report.push_str(line)?;
-        }
-        report.push_str("host failed\n")?;
+    // The few lines of this report go to the sink at once.
+    let lines =
+        "0 inode good\n0 rmap good\n0 bno missing 32 224\n0 bno extra 32 223\n0 free faulty 2\n0 refc good\n";
+    for (call, status, report, counts) in [(0, 5, "host failed\n", [2, 1]), (1, 1, lines, [1, 0])] {
         let short = bno_leaf(at(1), &[run(19, 5), run(32, 223)]);
         let image = small_with(rt.alloc(), &[(1, short)])?;
         let mut failing = Vec::new(rt.alloc());
-        failing.push(call as u64)?;
+        failing.push(call)?;
         let (end, host) = run_words(rt.alloc(), &["check", "a.img"], image, failing)?;
-        expect_end(&rt, &end, &host, 5, report.as_str())?;
-        assert_eq!(rt; host.sink_faults, 1);
+        expect_end(&rt, &end, &host, status, report)?;
+        assert_eq!(rt; [host.puts, host.sink_faults], counts);
         assert_eq!(rt; end.journal.len(), 6);
     }
     let mut failing = Vec::new(rt.alloc());

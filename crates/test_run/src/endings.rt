@@ -58,6 +58,58 @@ fn what_was_found_is_told_and_then_why_there_is_no_more(rt: HostRuntime) -> Resu
     Ok(())
 }
 
+// A line of 12 bytes, and how many of them are at most 64 KiB.
+const GOOD_LINE: &str = "0 free good\n";
+
+const PIECE_LINES: usize = 5_461;
+
+// A journal with so many of these lines.
+fn good_journal(alloc: Global, lines: usize) -> Result<Finding, AllocError> {
+    let mut journal = Vec::new(alloc);
+    for _ in 0..lines {
+        journal.push(Entry::Verdict {
+            group: 0,
+            unit: Unit::Free,
+            verdict: Verdict::Good,
+        })?;
+    }
+    Ok(Finding::Judged(journal))
+}
+
+// The text of so many of these lines, and of a line behind them.
+fn good_report(alloc: Global, lines: usize, last: &str) -> Result<String, AllocError> {
+    let mut report = String::new(alloc);
+    for _ in 0..lines {
+        report.push_str(GOOD_LINE)?;
+    }
+    report.push_str(last)?;
+    Ok(report)
+}
+
+#[test]
+fn a_long_report_goes_to_the_sink_in_pieces(rt: HostRuntime) -> Result<(), Fail> {
+    let all = 14_000;
+    let rows = [
+        (9, Status::Clean, all, "", 3),
+        // A piece isn't taken: the report ends before it, and the last line is put behind that.
+        (0, Status::Failed, 0, "host failed\n", 2),
+        (1, Status::Failed, PIECE_LINES, "host failed\n", 3),
+        (2, Status::Failed, 2 * PIECE_LINES, "host failed\n", 4),
+    ];
+    for (failing, status, lines, last, puts) in &rows {
+        let (told, host) = tell_to(rt.alloc(), good_journal(rt.alloc(), all)?, *failing)?;
+        let wanted = good_report(rt.alloc(), *lines, *last)?;
+        assert!(rt;
+            str::from_utf8(host.report.as_slice())? == wanted.as_str(),
+            "{failing}"
+        );
+        assert_eq!(rt; told.status, *status);
+        assert_eq!(rt; told.journal.len(), all);
+        assert_eq!(rt; host.puts, *puts);
+    }
+    Ok(())
+}
+
 // How a journal with these verdicts on free space is told.
 fn status_of(alloc: Global, verdicts: &[Verdict]) -> Result<Status, AllocError> {
     let mut journal = Vec::new(alloc);

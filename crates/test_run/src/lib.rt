@@ -30,3 +30,5 @@ mod trees;
 mod units;
 #[cfg(test)]
 mod unreadable;
+#[cfg(test)]
+mod watching;

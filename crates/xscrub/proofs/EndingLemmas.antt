@@ -6,7 +6,7 @@ use Rattle.blk_device.specs.Taken.{Takes, TakesFront, IsFront}
 use Rattle.blk_device.proofs.TakenLemmas.{then, whole_front, takes_nothing}
 use Rattle.xscrub.proofs.ShownLemmas.{told_nothing}
 use Rattle.std.specs.List.{list_all, list_any}
-use Rattle.xscrub.specs.Ending.{IsShown, IsToldOf, IsFoundBy, Decides, EndsFor, HasOutcomeCause, IsSettled, IsOutcome, IsAsked, IsShort, IsOfImage, IsOfMake, IsWorded, IsImageLine, IsToldOrShort, NeedsMemory, EndsByWords, HasUnitsOf}
+use Rattle.xscrub.specs.Ending.{IsShown, IsToldOf, IsFoundBy, Decides, EndsFor, HasOutcomeCause, IsSettled, IsOutcome, IsAsked, IsShort, IsOfImage, IsOfMake, IsWorded, IsImageLine, IsToldOrShort, EndsByWords, HasUnitsOf}
 use Rattle.xscrub.specs.Command.{Job, check_of, make_of, unbuilt, usage}
 use Rattle.xscrub.specs.Stored.{Request}
 use Rattle.xscrub.specs.Units.{HasAllUnits, HasFirstUnits, HasUnits}

@@ -1,5 +1,5 @@
 -- The device that is handed out for a check, and comes back.
-use Rattle.std.proofs.Common.{◌≡◌, ℕ, Bool, true, false, List, [], ◌∷◌, ◌++◌, Option, Some, None, is_some, Result, IfSome, cond, if◌then◌else◌, ◌⊎◌, inl, inr, refl, sym, ◌∙◌, ap, subst, append_assoc, append-nil, arith}
+use Rattle.std.proofs.Common.{◌≡◌, ℕ, Bool, true, false, List, [], ◌∷◌, ◌++◌, Option, Some, None, is_some, Result, IfSome, cond, if◌then◌else◌, inl, inr, refl, sym, ◌∙◌, ap, subst, append_assoc, append-nil, arith}
 use Rattle.std.proofs.lemmas.Slice.Eq.{bytes_eq-Decides}
 use Rattle.std.specs.Borrow.{Bor}
 use Rattle.std.specs.Global.{Vec}
@@ -27,8 +27,6 @@ use Rattle.xscrub.specs.declared.ending.Finding.{Finding}
 use Rattle.xscrub.specs.declared.ending.Finding.TheVariants as findings
 use Rattle.xscrub.specs.declared.ending.Status.{Status}
 use Rattle.xscrub.specs.declared.ending.Status.TheVariants as statuses
-use Rattle.xscrub.specs.declared.last_lines.LastLine.{LastLine}
-use Rattle.xscrub.specs.declared.last_lines.LastLine.TheVariants as lines
 use Rattle.xscrub.specs.declared.host.Purpose.{Purpose}
 use Rattle.xscrub.specs.declared.host.Purpose.TheVariants.{Check, Change, Make}
 use Rattle.xscrub.specs.declared.judging.JudgeFault.{JudgeFault}

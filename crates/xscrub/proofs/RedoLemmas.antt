@@ -1,8 +1,7 @@
 -- A redo file that a check looks at, and the blocks of one that are put on a device.
-use Rattle.std.proofs.Common.{◌≡◌, ◌<◌, ◌≤◌, ◌+◌, ◌-◌, ◌^◌, ℕ, zero, suc, List, [], ◌∷◌, Bool, true, false, cond, Option, Some, None, Result, Ok, Err, IfSome, ◌⊎◌, inl, inr, refl, sym, ◌∙◌, ap, subst, arith}
+use Rattle.std.proofs.Common.{◌≡◌, ◌<◌, ◌≤◌, ◌+◌, ◌-◌, ◌^◌, ℕ, zero, suc, List, [], Bool, true, false, cond, Option, Some, None, Result, Ok, Err, IfSome, refl, sym, ◌∙◌, ap, subst, arith}
 use Rattle.std.specs.Prelude.{min, nat_lt, ◌==◌, if◌then◌else◌}
 use Rattle.std.proofs.lemmas.Bool.Decides.{nat_tests}
-use Rattle.byte_fields.specs.Zeros.{zeros}
 use Rattle.byte_fields.specs.declared.block.Block.{Block}
 use Rattle.std.specs.BTreeMap.{BTreeMap}
 use Rattle.blk_device.specs.Causes.{one_more}
@@ -17,11 +16,11 @@ use Rattle.redo_area.specs.Area.{is_open}
 use Rattle.redo_area.specs.Counts.{raised}
 use Rattle.redo_area.specs.declared.TheConstants.{REDO_BLOCKS}
 use Rattle.space_check.specs.Events.{Event}
-use Rattle.xscrub.specs.Image.{behind_gate, behind_redo, device_events, device_outcome, image_events, image_outcome, redo_refusal}
-use Rattle.xscrub.specs.Judged.{HasDeviceFront, HasFrontOf, IsDeviceJudged, IsJudged, Kept, KeptOfDevice, TellsOfDevice, TellsOfImage, journal_at, journal_in, judgement_outcome}
+use Rattle.xscrub.specs.Image.{behind_gate, behind_redo, device_outcome, image_events, image_outcome, redo_refusal}
+use Rattle.xscrub.specs.Judged.{HasDeviceFront, HasFrontOf, IsDeviceJudged, IsJudged, Kept, KeptOfDevice, TellsOfDevice, TellsOfImage, journal_at, journal_in}
 use Rattle.xscrub.specs.MemFiles.{redo_of, with_redo}
-use Rattle.xscrub.specs.Outcome.{Outcome, is_image_line, is_refusal}
-use Rattle.xscrub.specs.Stored.{Stored, opened}
+use Rattle.xscrub.specs.Outcome.{is_image_line, is_refusal}
+use Rattle.xscrub.specs.Stored.{opened}
 use Rattle.xscrub.specs.declared.judging.JudgeFault.{JudgeFault}
 use Rattle.xscrub.specs.declared.judging.Judgement.{Judgement}
 use Rattle.xscrub.specs.declared.judging.Judgement.TheVariants.{Judged, Full, Refused}

@@ -1,5 +1,5 @@
 -- What a whole run owes to whoever called it.
-use Rattle.std.specs.Prelude.{◌≡◌, ◌<◌, ◌≤◌, ◌⊎◌, ℕ, Bool, true, false, List, [], ◌∷◌, ◌++◌, length, Option, Some, None, IfSome, is_some, ⊤}
+use Rattle.std.specs.Prelude.{◌≡◌, ◌<◌, ◌≤◌, ◌⊎◌, ℕ, Bool, true, false, List, [], ◌∷◌, ◌++◌, Option, Some, None, IfSome, is_some, ⊤}
 use Rattle.std.specs.Str.{bytes_eq}
 use Rattle.std.specs.List.{list_all, list_any}
 use Rattle.blk_device.specs.Causes.{Rose}
@@ -14,7 +14,7 @@ use Rattle.blk_device.specs.declared.device.Device.{Ghosts}
 use Rattle.blk_device.specs.declared.device.Region.TheVariants.{Image, Redo}
 use Rattle.blk_device.specs.declared.sink.Sink.{Ghosts as SinkGhosts}
 use Rattle.xscrub.specs.Image.{device_events, device_outcome}
-use Rattle.xscrub.specs.Outcome.{Outcome, outcome_of, code_of, is_given_up, is_calm, is_refusal, judged_outcome, made_outcome, filled_outcome, stopped_outcome, ended_outcome}
+use Rattle.xscrub.specs.Outcome.{Outcome, outcome_of, is_given_up, is_calm, is_refusal, judged_outcome, made_outcome, filled_outcome, stopped_outcome, ended_outcome}
 use Rattle.run_text.specs.Report.{report_of}
 use Rattle.xscrub.specs.LastLines.{is_fixed}
 use Rattle.xscrub.specs.Shown.{StopsAt, TakesFronts, last_text}
@@ -182,7 +182,7 @@ pub record IsFound (decided : Option Outcome) (host host' devices devices' : ℕ
   pub cause : IsFoundBy finding host host' devices devices'
 
 -- what is found where this is decided, by the counts of a host before and after it
-abbrev pub Finds : {H D : Type 0} → HostGhosts H D → Option Outcome → (old new : H) → Finding → Type 0
+abbrev pub Finds : {H D E : Type 0} → HostGhosts H D E → Option Outcome → (old new : H) → Finding → Type 0
 Finds g decided old new finding = IsFound decided (g.host_faults old) (g.host_faults new) (g.dev_faults old) (g.dev_faults new) finding
 
 -- ---- how it is told

@@ -22,7 +22,7 @@ pub record Seen (D : Type 0) : Type 0 where
   pub asked : List Request
   pub loans : Option (List (Loan D))
 
-abbrev pub seen : {H D : Type 0} → HostGhosts H D → SinkGhosts H → H → Seen D
+abbrev pub seen : {H D E : Type 0} → HostGhosts H D E → SinkGhosts H → H → Seen D
 seen g s h = record {
   tells = g.tells h;
   stored = g.stored h;

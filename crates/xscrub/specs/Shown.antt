@@ -1,5 +1,5 @@
 -- What a sink took of a journal and of the line behind it.
-use Rattle.std.specs.Prelude.{◌≡◌, ◌<◌, ◌≤◌, ℕ, List, [], length, take, Option, Some, None, ◌⊎◌, false}
+use Rattle.std.specs.Prelude.{◌≡◌, ◌<◌, ◌≤◌, ℕ, List, [], ◌++◌, length, take, Option, Some, None, ◌⊎◌, false}
 use Rattle.blk_device.specs.Causes.{Rose}
 use Rattle.blk_device.specs.Taken.{Takes, TakesFront}
 use Rattle.run_text.specs.Report.{report_of}
@@ -19,6 +19,10 @@ last_text (Some line) = last_line_of line
 -- a front of the first bytes, and then a front of the second
 abbrev pub TakesFronts : List ℕ → List ℕ → Option (List ℕ) → Option (List ℕ) → Type 0
 TakesFronts first second old new = (mid : Option (List ℕ)) × (TakesFront first old mid × TakesFront second mid new)
+
+-- of these bytes the sink took a front, and the others are gathered
+abbrev pub Gathers : (bytes gathered : List ℕ) → (taken taken' : Option (List ℕ)) → Type 0
+Gathers bytes gathered taken taken' = (front : List ℕ) × (bytes ≡ front ++ gathered) × Takes front taken taken'
 
 -- why the telling of a journal stopped, and what the sink had taken then
 abbrev pub StopsAt : List Entry → (faults faults' : ℕ) → (taken taken' : Option (List ℕ)) → TellStop → Type 0

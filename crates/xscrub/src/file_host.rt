@@ -4,13 +4,14 @@ ghost use Rattle.xscrub.specs.Stored.{HasRoomFor, Lent, redo_asked};
 
 use crate::advice::{NamedFile, explain, tell_failure};
 use crate::asked::{DeviceAsked, count_failed, count_fault, keep_request};
-use crate::host::{Host, OpenFault, Purpose};
+use crate::host::{Host, OpenFault, Purpose, Watched};
+use crate::progress::Progress;
 use blk_device::{Device, FileDevice, Region, Sink, SinkFailed};
 use std::alloc::Global;
 use std::fs::{OpenFile, OpenOptions};
 use std::io::{ErrorKind, Seek, SeekFrom, Write};
 use std::os::unix::fs::FileTypeExt;
-use std::rt::Files;
+use std::rt::{Clock, Files};
 use std::{fs, io};
 
 const BLOCK_BYTES: u64 = 4096;
@@ -21,17 +22,19 @@ const REDO_BLOCKS: u64 = 162;
 /// Opens files for devices and prints the report; beside it, on standard error, it says what failed
 /// and what a refusal means. It tells nothing of what a file holds, nor of what standard output took.
 #[derive(Drop)]
-pub struct FileHost<'a, R: Files + Print + Eprint> {
+pub struct FileHost<'a, R: Files + Print + Eprint + Clock> {
     rt: &'a R,
+    is_watched: bool,
     asked: Vec<DeviceAsked>,
     sink_faults: u64,
     host_faults: u64,
     dev_faults: u64,
 }
 
-impl<'a, R: Files + Print + Eprint> FileHost<'a, R> {
-    /// A host that was asked nothing yet.
-    pub fn new(alloc: Global, rt: &'a R) -> Self
+impl<'a, R: Files + Print + Eprint + Clock> FileHost<'a, R> {
+    /// A host that was asked nothing yet. Where somebody watches, standard error shows how far a check
+    /// is.
+    pub fn new(alloc: Global, rt: &'a R, is_watched: bool) -> Self
         ensures asked { result.asked.items ≡ [] }
         ensures host { result.host_faults ≡ 0 }
         ensures devices { result.dev_faults ≡ 0 }
@@ -39,6 +42,7 @@ impl<'a, R: Files + Print + Eprint> FileHost<'a, R> {
     {
         FileHost {
             rt,
+            is_watched,
             asked: Vec::new(alloc),
             sink_faults: 0,
             host_faults: 0,
@@ -168,7 +172,7 @@ fn open_device<'a, R: Files + Eprint>(
     Ok(FileDevice::new(alloc, image, Some(redo), image_blocks, redo_blocks))
 }
 
-impl<R: Files + Print + Eprint> Sink for FileHost<'_, R> {
+impl<R: Files + Print + Eprint + Clock> Sink for FileHost<'_, R> {
     ghost use Rattle.std.specs.Prelude.{map};
     ghost use Rattle.std.proofs.Common.{rules};
     ghost use Rattle.xscrub.specs.Asked.{request_of};
@@ -198,7 +202,15 @@ impl<R: Files + Print + Eprint> Sink for FileHost<'_, R> {
     }
 }
 
-impl<'a, R: Files + Print + Eprint + Sync> Host for FileHost<'a, R>
+impl<'a, R: Files + Print + Eprint + Clock> Watched for FileHost<'a, R> {
+    type Eye = Progress<'a, R>;
+
+    fn watch(&self) -> Progress<'a, R> {
+        Progress::new(self.rt, self.is_watched)
+    }
+}
+
+impl<'a, R: Files + Print + Eprint + Clock + Sync> Host for FileHost<'a, R>
 where
     R::File: Send,
 {

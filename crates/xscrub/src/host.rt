@@ -4,6 +4,7 @@ ghost use Rattle.blk_device.specs.Causes.{Rose, one_more};
 ghost use Rattle.xscrub.specs.Stored.{Stored, Request, Loan, Out, Back, Lends, IsAskedFor, Lent, asks, name_of, redo_asked, stored_image, stored_with};
 
 use blk_device::{Device, Region, Sink};
+use check_watch::Watch;
 use std::alloc::AllocError;
 use thiserror::Error;
 
@@ -36,9 +37,18 @@ impl From<AllocError> for OpenFault {
     }
 }
 
+/// What lets somebody see how far a check is, if anybody looks. No clause speaks of what is seen.
+pub trait Watched {
+    /// What hears how far it is.
+    type Eye: Watch + Drop;
+
+    /// Looks from now on.
+    fn watch(&self) -> Self::Eye;
+}
+
 /// What hands out devices by name and takes the report. A device can't be dropped: whoever is
 /// handed one gives it back.
-pub trait Host: Sink {
+pub trait Host: Sink + Watched {
     /// The devices that it hands out.
     type Dev: Device + Send;
 

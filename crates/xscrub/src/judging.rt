@@ -11,6 +11,7 @@ ghost use Rattle.xscrub.specs.Units.{HasFirstUnits};
 use crate::last_lines::LastLine;
 use blk_device::{Device, Region};
 use byte_fields::{Block, Steps};
+use check_watch::Watch;
 use fs_model::Entry;
 use geom::{Geometry, ImageFault, try_geometry};
 use image_check::check_image;
@@ -66,11 +67,12 @@ fn judgement_of(checked: Result<Vec<Entry>, CheckStop>) -> Result<Judgement, Jud
 }
 
 // Judges the groups of an image. The ledger is that of its steps.
-fn judge_counted<D: Device, L: Ledger>(
+fn judge_counted<D: Device, L: Ledger, W: Watch>(
     alloc: Global,
     dev: &mut D,
     geo: &Geometry,
     blank: Blank,
+    watch: &mut W,
 ) -> Result<Judgement, JudgeFault>
     requires room { geo.now.dblocks ≤ D.blocks dev.old Region.Image }
     requires name { blank.name ≡ L.name }
@@ -90,15 +92,16 @@ fn judge_counted<D: Device, L: Ledger>(
     ensures cause { JudgeCause (D.faults dev.old) (D.faults dev.new) result }
 {
     let mut steps = Steps::<L>::new(blank);
-    let checked = check_image(alloc, dev, geo, &mut steps);
+    let checked = check_image(alloc, dev, geo, &mut steps, watch);
     judgement_of(checked)
 }
 
 // Judges the groups of an image, for a caller that counts no steps.
-fn judge_groups<D: Device>(
+fn judge_groups<D: Device, W: Watch>(
     alloc: Global,
     dev: &mut D,
     geo: &Geometry,
+    watch: &mut W,
 ) -> Result<Judgement, JudgeFault>
     requires room { geo.now.dblocks ≤ D.blocks dev.old Region.Image }
     ensures told { IfOk result (λ found. IfSome (D.content dev.old)
@@ -115,7 +118,7 @@ fn judge_groups<D: Device>(
     ensures cause { JudgeCause (D.faults dev.old) (D.faults dev.new) result }
 {
     let blank = Blank::new(3);
-    judge_counted::<D, Brand>(alloc, dev, geo, blank)
+    judge_counted::<D, Brand, W>(alloc, dev, geo, blank, watch)
 }
 
 // Reads block 0 of the image.
@@ -138,9 +141,13 @@ fn first_block<D: Device>(alloc: Global, dev: &mut D) -> Result<Block, JudgeFaul
 
 /// Judges the image of a device: its superblock, the heads of all groups, and then all units of each
 /// group. The first fault of a superblock or a head refuses the image, and a full journal is told as
-/// that. Where the device fails or memory is short, what was judged until then is kept. Nothing is
-/// written (XFS Online Fsck Design, "Cross-Referencing Space Metadata").
-pub fn judge<D: Device>(alloc: Global, dev: &mut D) -> Result<Judgement, JudgeFault>
+/// that. Where the device fails or memory is short, what was judged until then is kept. How far it is
+/// is told to `watch`. Nothing is written (XFS Online Fsck Design, "Cross-Referencing Space Metadata").
+pub fn judge<D: Device, W: Watch>(
+    alloc: Global,
+    dev: &mut D,
+    watch: &mut W,
+) -> Result<Judgement, JudgeFault>
     ensures told { IfOk result (λ found. IsJudged (D.content dev.old) (D.blocks dev.old Region.Image) found) }
     ensures line { IfOk result TellsOfImage }
     ensures front { IfErr result (HasFrontOf (D.content dev.old) (D.blocks dev.old Region.Image)) }
@@ -160,5 +167,5 @@ pub fn judge<D: Device>(alloc: Global, dev: &mut D) -> Result<Judgement, JudgeFa
         Ok(geo) => geo,
         Err(fault) => return Ok(Judgement::Refused(LastLine::Image(fault))),
     };
-    judge_groups(alloc, dev, &geo)
+    judge_groups(alloc, dev, &geo, watch)
 }

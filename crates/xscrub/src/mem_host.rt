@@ -10,9 +10,10 @@ ghost use Rattle.xscrub.specs.MemFiles.{calls_for_redo, calls_to_open, file_of, 
 ghost use Rattle.xscrub.specs.Stored.{IsNew, Lent, Opened, no_redo, redo_asked, stored_with};
 
 use crate::asked::{DeviceAsked, count_failed, count_fault, keep_request};
-use crate::host::{Host, OpenFault, Purpose};
+use crate::host::{Host, OpenFault, Purpose, Watched};
 use blk_device::{Device, DeviceFailed, MemDevice, Region, Sink, SinkFailed};
 use byte_fields::Block;
+use check_watch::NoWatch;
 use std::alloc::{AllocError, Global};
 use std::collections::BTreeMap;
 
@@ -281,6 +282,14 @@ fn open_for(
         Purpose::Check => open_stored(alloc, image, redos, redo),
         Purpose::Change => open_stored(alloc, image, redos, redo),
         Purpose::Make(blocks) => open_new(alloc, image, blocks),
+    }
+}
+
+impl Watched for MemHost {
+    type Eye = NoWatch;
+
+    fn watch(&self) -> NoWatch {
+        NoWatch
     }
 }
 

@@ -9,6 +9,7 @@ ghost use Rattle.xscrub.specs.Units.{HasFirstUnits};
 use crate::judging::{JudgeFault, Judgement, judge};
 use crate::last_lines::{LastLine, RedoRefusal};
 use blk_device::{Device, DeviceFailed, Region};
+use check_watch::Watch;
 use redo_area::{REDO_BLOCKS, waiting};
 use std::alloc::Global;
 
@@ -43,7 +44,11 @@ fn redo_refusal<D: Device>(dev: &mut D) -> Result<Option<RedoRefusal>, DeviceFai
 }
 
 // Judges the image of a device whose redo file is looked at first.
-fn judge_behind<D: Device>(alloc: Global, dev: &mut D) -> Result<Judgement, JudgeFault>
+fn judge_behind<D: Device, W: Watch>(
+    alloc: Global,
+    dev: &mut D,
+    watch: &mut W,
+) -> Result<Judgement, JudgeFault>
     ensures told { IfOk result (IsDeviceJudged true (D.content dev.old) (D.blocks dev.old)) }
     ensures line { IfOk result (TellsOfDevice true) }
     ensures front { IfErr result (HasDeviceFront true (D.content dev.old) (D.blocks dev.old)) }
@@ -60,16 +65,17 @@ fn judge_behind<D: Device>(alloc: Global, dev: &mut D) -> Result<Judgement, Judg
     };
     match refusal {
         Some(refusal) => Ok(Judgement::Refused(LastLine::Redo(refusal))),
-        None => judge(alloc, dev),
+        None => judge(alloc, dev, watch),
     }
 }
 
 /// Judges the image of a device. Where a redo file is given, it is looked at before the image: one that is
 /// too short, or in which a batch waits, refuses the check. Nothing is written.
-pub fn judge_device<D: Device>(
+pub fn judge_device<D: Device, W: Watch + Drop>(
     alloc: Global,
     dev: &mut D,
     given: bool,
+    watch: W,
 ) -> Result<Judgement, JudgeFault>
     ensures told { IfOk result (IsDeviceJudged given (D.content dev.old) (D.blocks dev.old)) }
     ensures line { IfOk result (TellsOfDevice given) }
@@ -81,9 +87,10 @@ pub fn judge_device<D: Device>(
     ensures crash { Keeps D.Device EachBlock dev.old dev.new }
     ensures cause { JudgeCause (D.faults dev.old) (D.faults dev.new) result }
 {
+    let mut watch = watch;
     if given {
-        judge_behind(alloc, dev)
+        judge_behind(alloc, dev, &mut watch)
     } else {
-        judge(alloc, dev)
+        judge(alloc, dev, &mut watch)
     }
 }

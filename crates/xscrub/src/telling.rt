@@ -10,6 +10,7 @@ ghost use Rattle.xscrub.specs.LastLines.{is_fixed, last_line_of};
 ghost use Rattle.xscrub.specs.Shown.{StopsAt, IsLineShown, EndsWith, last_text};
 
 use crate::ending::{Finding, Status, Told};
+use crate::gathering::{gather, put_gathered};
 use crate::last_lines::{LastLine, fixed_line, last_line};
 use blk_device::{Sink, SinkFailed, put_all};
 use fs_model::{Entry, Verdict};
@@ -35,7 +36,7 @@ impl From<SinkFailed> for TellStop {
 }
 
 /// Puts the line of each entry into the sink, in the journal's order, up to the first that the
-/// sink or memory refuses.
+/// sink or memory refuses. Lines go to it in pieces of up to 64 KiB, whatever the journal's length.
 pub fn put_journal<K: Sink>(alloc: Global, sink: &mut K, journal: &[Entry]) -> Result<(), TellStop>
     ensures rest { K.kept sink.old sink.new }
     ensures later { K.sink_faults sink.old ≤ K.sink_faults sink.new }
@@ -45,12 +46,15 @@ pub fn put_journal<K: Sink>(alloc: Global, sink: &mut K, journal: &[Entry]) -> R
         (K.sink_faults sink.old) (K.sink_faults sink.new)
         (K.taken sink.old) (K.taken sink.new) stop) }
 {
+    let mut gathered = Vec::new(alloc);
     for (told, entry) in journal.iter().enumerate() {
         let Ok(text) = line(alloc, entry) else {
+            put_gathered(sink, &mut gathered)?;
             return Err(TellStop::Memory { told });
         };
-        put_all(sink, text.as_bytes())?;
+        gather(sink, &mut gathered, text.as_bytes())?;
     }
+    put_gathered(sink, &mut gathered)?;
     Ok(())
 }
 

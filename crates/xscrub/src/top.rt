@@ -6,7 +6,7 @@ ghost use Rattle.xscrub.specs.Stored.{name_of, redo_asked};
 
 use crate::command::{Command, command_of};
 use crate::ending::Finding;
-use crate::host::{Host, OpenFault, Purpose};
+use crate::host::{Host, OpenFault, Purpose, Watched};
 use crate::judging::{JudgeFault, Judgement};
 use crate::last_lines::LastLine;
 use crate::making::make;
@@ -45,7 +45,8 @@ fn check<H: Host>(alloc: Global, host: &mut H, image: &str, redo: Option<&str>) 
         Err(OpenFault::Failed) => return Finding::HostFailed,
         Err(OpenFault::Memory) => return Finding::Memory(Vec::new(alloc)),
     };
-    let found = judge_device(alloc, &mut dev, redo.is_some());
+    let watch = host.watch();
+    let found = judge_device(alloc, &mut dev, redo.is_some(), watch);
     host.put_back(image, dev);
     match found {
         Ok(Judgement::Judged(journal)) => Finding::Judged(journal),
@@ -80,8 +81,8 @@ fn find<H: Host>(alloc: Global, host: &mut H, words: &[String]) -> Finding
     }
 }
 
-/// Runs the words, without the program's name, and tells the host's sink what was found, line by
-/// line: where a device fails or memory is short, the journal so far, and then the line that says so.
+/// Runs the words, without the program's name, and tells the host's sink what was found, in pieces of
+/// whole lines: where a device fails or memory is short, the journal so far, and then the line that says so.
 /// A check changes no image and no redo file, and the making of an image that image alone; each device
 /// that the host hands out is given back.
 pub fn fsck_main<H: Host>(alloc: Global, host: &mut H, words: &[String]) -> RunEnd

@@ -1,9 +1,9 @@
 //! The program: hands the words of the command line and a host over real files to the check, and
 //! ends with its status. Beside the report it says, on standard error, what wasn't looked at, and what
-//! it means that a unit was given up.
+//! it means that a unit was given up; on a terminal also how far a long check is.
 #![tactic(auto)]
 
-use std::io::ErrorKind;
+use std::io::{ErrorKind, IsTerminal};
 use std::process::ExitCode;
 use std::rt::Env;
 use std::{env, io};
@@ -20,7 +20,8 @@ fn words_of<R: Env + AllocGlobal>(rt: &R) -> io::Result<Vec<String>> {
 
 fn main(rt: HostRuntime) -> ExitCode {
     let alloc = rt.alloc();
-    let mut host = FileHost::new(alloc, &rt);
+    let is_watched = rt.stderr().is_terminal();
+    let mut host = FileHost::new(alloc, &rt, is_watched);
     let status = match words_of(&rt) {
         Ok(words) => fsck_main(alloc, &mut host, words.as_slice()).status,
         Err(fault) if fault.kind() == ErrorKind::OutOfMemory => {

@@ -1,4 +1,4 @@
-use Rattle.std.proofs.Common.{ℕ, Option, Some, IfSome, ◌≡◌, ◌∙◌, subst}
+use Rattle.std.proofs.Common.{ℕ, Option, IfSome, ◌≡◌, ◌∙◌, subst}
 use Rattle.blk_device.specs.Contents.{Contents}
 use Rattle.blk_device.specs.Reading.{EachBlock}
 use Rattle.blk_device.specs.ReadingLaws.{keeps_on}
