@@ -1,18 +1,41 @@
 -- Faults put down one after the other, and records of chunks with free inodes.
-use Rattle.std.proofs.Common.{◌≡◌, ℕ, Bool, true, List, ◌++◌, ap, ◌∙◌, append_assoc, Option, Some, arith}
-use Rattle.std.specs.Prelude.{nat_lt, sum_by}
+use Rattle.std.proofs.Common.{◌≡◌, ℕ, Bool, true, false, List, [], ◌∷◌, ◌++◌, refl, ap, ◌∙◌, append_assoc, Option, Some, None, Result, Ok, Err, IfOk, arith}
+use Rattle.std.specs.Prelude.{◌==◌, nat_lt, not, sum_by, if◌then◌else◌, OnOk}
 use Rattle.std.specs.List.{filter}
 use Rattle.std.proofs.lemmas.Bool.Decides.{nat_tests}
 use Rattle.ag_headers.specs.declared.agi.Agi.{Agi}
 use Rattle.fs_derive.specs.Faults.{counter_fault}
+use Rattle.fs_derive.specs.Lists.{only_if}
+use Rattle.fs_model.specs.declared.fault.Counter.{Counter}
 use Rattle.fs_model.specs.declared.fault.Counter.TheVariants.{Count, Freecount, Iblocks, Fblocks}
 use Rattle.fs_model.specs.declared.fault.Fault.{Fault}
+use Rattle.fs_model.specs.declared.fault.Fault.TheVariants as faulty
 use Rattle.fs_state.specs.State.{Reading}
 use Rattle.ino_recs.specs.Chunks.{ino_form, fino_form}
 use Rattle.ino_recs.specs.declared.chunk.InoRec.{InoRec}
 use Rattle.quiet_check.specs.Faults.{blocks_kept, counter_faults, low}
 use Rattle.rmap_recs.proofs.RisingLemmas.{filter_rises}
 use Rattle.sblock.specs.Blocks.{IsRising}
+use Rattle.space_check.specs.Faults.{blocks_fault, counter_fault as number_fault}
+
+-- ---- one counter, in the words of the check of space and in those of the state
+
+or_none : (b : Bool) (f : Fault) → (if b then [] else f ∷ []) ≡ only_if (not b) f
+or_none true f = refl
+or_none false f = refl
+
+pub counter_same : (name : Counter) (found number : ℕ) → number_fault name found number ≡ counter_fault name found (Some number)
+counter_same name found number = or_none (found == number) (faulty.Counter name found number)
+
+wanted_same : (name : Counter) (found : ℕ) (wanted : Option ℕ) → blocks_fault name found wanted ≡ counter_fault name found wanted
+wanted_same name found None = refl
+wanted_same name found (Some number) = counter_same name found number
+
+pub counter_put : {T E : Type 0} (result : Result T E) (old new : List Fault) (name : Counter) (found : ℕ) (wanted : Option ℕ) → IfOk result (λ _. new ≡ old ++ blocks_fault name found wanted) → OnOk result (new ≡ old ++ counter_fault name found wanted)
+counter_put (Ok done) old new name found wanted put = put ∙ ap (λ (fs : List Fault). old ++ fs) (wanted_same name found wanted)
+counter_put (Err stop) old new name found wanted put = tt
+
+-- ---- counters one after the other
 
 four : (p a b c d : List Fault) → (((p ++ a) ++ b) ++ c) ++ d ≡ p ++ (((a ++ b) ++ c) ++ d)
 four p a b c d =

@@ -1,7 +1,7 @@
 -- The faults of a group's free space and reference counts, and the evidence that stands before them, are those of the
 -- state that the image stands for.
-use Rattle.std.proofs.Common.{◌≡◌, ℕ, ◌+◌, ◌%◌, ◌^◌, ◌<◌, ◌≤◌, Bool, true, false, List, [], ◌∷◌, ◌++◌, length, refl, ap, sym, subst, ◌∙◌, arith, append_assoc, Option, Some, Ok, Err}
-use Rattle.std.specs.Prelude.{⊤, ◌-◌, ◌==◌, not, if◌then◌else◌}
+use Rattle.std.proofs.Common.{◌≡◌, ℕ, ◌+◌, ◌%◌, ◌^◌, ◌<◌, ◌≤◌, List, [], ◌∷◌, ◌++◌, length, refl, ap, sym, subst, ◌∙◌, arith, append_assoc, Option, Some, Ok, Err}
+use Rattle.std.specs.Prelude.{⊤, ◌-◌}
 use Rattle.std.proofs.lemmas.List.{append-nil}
 use Rattle.ag_headers.specs.declared.agf.Agf.{Agf}
 use Rattle.derive_defs.specs.ByCount.{greatest, ordered_by_count}
@@ -11,12 +11,11 @@ use Rattle.fs_derive.specs.Contradiction.{evidence, first_contradiction, first_l
 use Rattle.fs_derive.specs.Derive.{bno_of, cnt_of, derive, refc_of}
 use Rattle.fs_derive.specs.Faults.{blocks_counted, faults, faults_of_counter, faults_of_kind, wanted}
 use Rattle.fs_derive.specs.Faults.{beside_roots as beside_in, counter_fault as counter_in, index_faults as index_in}
-use Rattle.fs_derive.specs.Lists.{first_of_all, only_if}
+use Rattle.fs_derive.specs.Lists.{first_of_all}
 use Rattle.fs_model.specs.declared.claim.Evidence.{Evidence}
 use Rattle.fs_model.specs.declared.fault.Counter.{Counter}
 use Rattle.fs_model.specs.declared.fault.Counter.TheVariants.{Freeblks, Longest, Btreeblks, RefcountBlocks}
 use Rattle.fs_model.specs.declared.fault.Fault.{Fault}
-use Rattle.fs_model.specs.declared.fault.Fault.TheVariants as faulty
 use Rattle.fs_model.specs.declared.unit.Unit.TheVariants as units
 use Rattle.fs_state.specs.Kinds.{Image, form_of}
 use Rattle.fs_state.specs.Read.{Read, group_of}
@@ -27,6 +26,7 @@ use Rattle.group_trees.proofs.ReadLemmas.{group_short}
 use Rattle.group_trees.proofs.StateLemmas.{bno_said, cnt_said, refc_said, rmap_said}
 use Rattle.group_trees.specs.Trees.{read_as, tree_by, tree_claimed, tree_walked}
 use Rattle.inode_pass.specs.Units.{opened_state}
+use Rattle.quiet_check.proofs.FaultLemmas.{counter_same}
 use Rattle.quiet_check.specs.Judged.{Decided, IsJudged}
 use Rattle.quiet_check.specs.Space.{IsFreeDecided, IsMapped, IsSharedDecided, free_evidence, later_read, shared_evidence}
 use Rattle.quiet_check.specs.declared.judge.Judged.{Judged}
@@ -93,13 +93,6 @@ index_refc d (Err bad) cs = refl
 later_as : {R : Type 0} (k : Kind) (r : Read R) (cs : List ℕ) → later_read k r ≡ later_in k (read_as r cs)
 later_as k (Ok read) cs = refl
 later_as k (Err bad) cs = refl
-
-or_none : (b : Bool) (f : Fault) → (if b then [] else f ∷ []) ≡ only_if (not b) f
-or_none true f = refl
-or_none false f = refl
-
-counter_same : (name : Counter) (found number : ℕ) → counter_fault name found number ≡ counter_in name found (Some number)
-counter_same name found number = or_none (found == number) (faulty.Counter name found number)
 
 low_is : (n : ℕ) → n < 2 ^ 32 → n % 2 ^ 32 ≡ n
 low_is n lt = omega (arith, lt)

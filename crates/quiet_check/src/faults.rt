@@ -1,4 +1,4 @@
-ghost use Rattle.std.specs.Prelude.{◌≡◌, ◌%◌, ◌^◌, ◌++◌, ◌∷◌, [], IfOk, OnOk, sum_by};
+ghost use Rattle.std.specs.Prelude.{◌≡◌, ◌%◌, ◌^◌, ◌++◌, IfOk, OnOk, sum_by};
 ghost use Rattle.fs_derive.specs.Faults.{counter_fault};
 ghost use Rattle.ino_recs.specs.Chunks.{fino_form, ino_form};
 ghost use Rattle.quiet_check.specs.Faults.{blocks_kept, counter_faults, faults_in, inode_faults as inode_faults_of};
@@ -10,26 +10,9 @@ use fs_model::{Counter, Fault};
 use group_trees::{GroupTrees, TreeSeen};
 use index_derive::free_records;
 use ino_recs::{FinoKind, InoKind, InoRec};
-use sblock::BlockFault;
+use space_check::{add_blocks, unreadable};
 use std::alloc::{AllocError, Global};
 use xref_scrub::{Indexed, compare};
-
-// The fault of a tree that can't be read.
-fn unreadable<K: Indexed>(
-    alloc: Global,
-    block: u32,
-    fault: BlockFault,
-) -> Result<Vec<Fault>, AllocError>
-    ensures { IfOk result (λ faults. faults.items ≡ Fault.Block K.form.kind block fault ∷ []) }
-{
-    let mut faults = Vec::new(alloc);
-    faults.push(Fault::Block {
-        kind: K::kind(),
-        block,
-        fault,
-    })?;
-    Ok(faults)
-}
 
 /// The faults of an index against what is derived: the one fault that it can't be read, or each
 /// difference in key order (XFS Online Fsck Design, "Cross-Referencing Space Metadata").
@@ -58,18 +41,7 @@ pub fn add_counter(
 ) -> Result<(), AllocError>
     ensures { OnOk result (faults.new.items ≡ faults.old.items ++ counter_fault name found wanted) }
 {
-    let Some(wanted) = wanted else {
-        return Ok(());
-    };
-    if found == wanted {
-        return Ok(());
-    }
-    faults.push(Fault::Counter {
-        name,
-        found,
-        wanted,
-    })?;
-    Ok(())
+    add_blocks(faults, name, found, wanted)
 }
 
 /// How many blocks a tree that can be read has, as a counter of 32 bits, where the heads keep that

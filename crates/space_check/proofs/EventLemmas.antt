@@ -1,11 +1,11 @@
 -- Events one after the other: those that were done, and the one that ended a check.
-use Rattle.std.proofs.Common.{◌≡◌, ℕ, ◌+◌, ◌<◌, ◌≤◌, List, [], ◌∷◌, ◌++◌, length, Result, Ok, Err, IfErr, IsErr, refl, sym, ◌∙◌, ap, subst, append_assoc, arith}
+use Rattle.std.proofs.Common.{◌≡◌, ℕ, ◌+◌, ◌<◌, ◌≤◌, List, [], ◌∷◌, ◌++◌, length, Result, Ok, Err, IsErr, refl, sym, ◌∙◌, ap, subst, append_assoc, arith}
 use Rattle.std.specs.Prelude.{IsErrAnd}
 use Rattle.std.proofs.lemmas.List.{append-nil}
 use Rattle.blk_device.specs.Causes.{HasCause, MovesOnly}
 use Rattle.fs_model.specs.declared.entry.Entry.{Entry}
 use Rattle.space_check.specs.Events.{Event, Moment, reads_of, entries_of, most_entries, HasRoom, AreDone, IsCutOff, EndsAt, StopsIn, Does}
-use Rattle.space_check.specs.Progress.{is_failed, Adds, IsOutside, IsOwn}
+use Rattle.space_check.specs.Progress.{is_failed, Adds, IsOutside}
 use Rattle.space_check.specs.declared.halt.Halt.{Halt}
 use Rattle.space_check.specs.declared.halt.Halt.TheVariants as halts
 
@@ -87,11 +87,6 @@ one_event event a b (Ok done) room added read = one_done event a b room added re
 one_event event a b (Err halt) room added read =
     subst (λ (h : Halt). StopsIn h (event ∷ []) a b) (sym added.0) (next_stops halts.Memory event [] a b (record { room = room; none = added.1; read = omega (arith, read) }))
 
--- there was no memory for its entries
-pub no_memory : (halt : Halt) (event : Event) (rest : List Event) (a b : Moment) → length a.journal < most_entries → (halt ≡ halts.Memory) × (b.journal ≡ a.journal) → b.reads ≤ a.reads + event.reads → StopsIn halt (event ∷ rest) a b
-no_memory halt event rest a b room none read =
-    subst (λ (h : Halt). StopsIn h (event ∷ rest) a b) (sym none.0) (next_stops halts.Memory event rest a b (record { room = room; none = none.1; read = read }))
-
 -- ---- answers that `?` hands on
 
 pub with_err : {T : Type 0} (P : Result T Halt → Type 0) (halt : Halt) (result : Result T Halt) → IsErr result × IsErrAnd result (λ e. e ≡ halt) → P (Err halt) → P result
@@ -102,17 +97,3 @@ pub err_cause : {T : Type 0} (before mid now : ℕ) (halt : Halt) (result : Resu
 err_cause before mid now halt (Ok done) is same cause = absurd is.1
 err_cause before mid now halt (Err e) is same cause =
     subst (λ (h : Halt). MovesOnly (is_failed h) before now) (sym is.1) (subst (λ (n : ℕ). MovesOnly (is_failed halt) n now) same cause)
-
-pub own_cause : {T : Type 0} (now : ℕ) (result : Result T Halt) → IfErr result IsOwn → HasCause is_failed now now result
-own_cause now (Ok done) own = refl
-own_cause now (Err halt) own = rw own refl
-
-pub memory_is_own : (halt : Halt) → halt ≡ halts.Memory → IsOwn halt
-memory_is_own halt is = subst IsOwn (sym is) refl
-
-pub full_is_own : (halt : Halt) → halt ≡ halts.Full → IsOwn halt
-full_is_own halt is = subst IsOwn (sym is) refl
-
-pub added_is_own : {T : Type 0} (before more after : List Entry) (result : Result T Halt) → Adds before more after result → IfErr result IsOwn
-added_is_own before more after (Ok done) h = tt
-added_is_own before more after (Err halt) h = memory_is_own halt h.0

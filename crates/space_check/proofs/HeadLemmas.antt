@@ -1,15 +1,10 @@
--- The first head that is refused, group by group, and the AGFs where none is.
-use Rattle.std.proofs.Common.{◌≡◌, ℕ, zero, suc, ◌+◌, ◌-◌, ◌<◌, ◌≤◌, List, [], ◌∷◌, ◌++◌, get_or, Option, Some, None, Err, false, refl, sym, ◌∙◌, ap, subst, append_assoc, arith}
-use Rattle.std.proofs.lemmas.List.{append-nil}
-use Rattle.ag_headers.specs.Agf.{agf_of}
-use Rattle.ag_headers.specs.declared.agf.Agf.{Agf as SpaceHead}
+-- The first head that is refused, group by group.
+use Rattle.std.proofs.Common.{◌≡◌, ℕ, zero, suc, ◌+◌, ◌-◌, ◌<◌, ◌≤◌, List, Option, Some, None, Err, refl, sym, ◌∙◌, ap, arith}
 use Rattle.ag_headers.specs.declared.fault.HeadFault.{HeadFault}
 use Rattle.fs_model.specs.declared.unit.Head.{Head}
-use Rattle.geom.specs.Layout.{Layout, group_len_of, device_block_of}
-use Rattle.space_check.specs.Checked.{agfs_from, bad_head, bad_head_from, heads_at, looked_at, HaltsInHeads}
-use Rattle.space_check.specs.Progress.{is_failed, IsOutside, IsHead, IsNotFull, MeetsHead}
-use Rattle.tree_defs.specs.Sites.{site_of, group_blocks}
-use Rattle.tree_defs.specs.declared.site.Site.{Site}
+use Rattle.geom.specs.Layout.{Layout}
+use Rattle.space_check.specs.Checked.{bad_head, bad_head_from, heads_at, looked_at, HaltsInHeads}
+use Rattle.space_check.specs.Progress.{IsOutside, MeetsHead}
 use Rattle.space_check.specs.declared.halt.Halt.{Halt}
 use Rattle.space_check.specs.declared.halt.Halt.TheVariants as halts
 
@@ -93,66 +88,3 @@ module _ (at : Layout) (image : ℕ → List ℕ) where
   heads_stop S g before after halts.Full lt left m read = m
   heads_stop S g before after halts.Failed lt left m read = (g, looked_more g lt left, read)
   heads_stop S g before after halts.Memory lt left m read = (g, looked_more g lt left, read)
-
-  -- ---- the AGFs of all groups
-
-  no_agf_left : (g n : ℕ) → n ≤ g → agfs_from at image g (n - g) ≡ []
-  unfolding agfs_from
-  no_agf_left g n le = let e : n - g ≡ 0 = omega arith in rw e refl
-
-  next_agfs : (g n : ℕ) → agfs_from at image g (suc n) ≡ agf_of (heads_at at image g) ∷ agfs_from at image (g + 1) n
-  unfolding agfs_from
-  next_agfs g n = refl
-
-  -- the AGFs so far, the one that is put behind them, and those that are left, are all
-  pub one_more_agf : (g n : ℕ) (before after : List SpaceHead) (all : List SpaceHead) → g < n → before ++ agfs_from at image g (n - g) ≡ all → after ≡ before ++ agf_of (heads_at at image g) ∷ [] → after ++ agfs_from at image (g + 1) (n - (g + 1)) ≡ all
-  one_more_agf g n before after all lt h e =
-      let s : n - g ≡ suc (n - (g + 1)) = omega (arith, lt) in
-      ap (λ (x : List SpaceHead). x ++ agfs_from at image (g + 1) (n - (g + 1))) e
-      ∙ append_assoc before (agf_of (heads_at at image g) ∷ []) (agfs_from at image (g + 1) (n - (g + 1)))
-      ∙ ap (λ (x : List SpaceHead). before ++ x) (sym (ap (agfs_from at image g) s ∙ next_agfs g (n - (g + 1))))
-      ∙ h
-
-  pub all_agfs : (g n : ℕ) (agfs all : List SpaceHead) → n ≤ g → agfs ++ agfs_from at image g (n - g) ≡ all → agfs ≡ all
-  all_agfs g n agfs all le h = sym (append-nil agfs) ∙ ap (λ (x : List SpaceHead). agfs ++ x) (sym (no_agf_left g n le)) ∙ h
-
-  agf_behind : (g n k : ℕ) (none : SpaceHead) → k < n → get_or (agfs_from at image g n) k none ≡ agf_of (heads_at at image (g + k))
-  unfolding agfs_from
-  agf_behind g zero k none lt = absurd (omega arith)
-  agf_behind g (suc n) zero none lt = let e : g + 0 ≡ g = omega arith in rw e refl
-  agf_behind g (suc n) (suc k) none lt = let e : g + suc k ≡ (g + 1) + k = omega arith in rw e (agf_behind (g + 1) n k none (omega (arith, lt)))
-
-  -- that of group g among them
-  pub agf_among : (n g : ℕ) (agfs : List SpaceHead) (none : SpaceHead) → agfs ≡ agfs_from at image 0 n → g < n → get_or agfs g none ≡ agf_of (heads_at at image g)
-  agf_among n g agfs none e lt =
-      let z : 0 + g ≡ g = omega arith in
-      ap (λ (x : List SpaceHead). get_or x g none) e ∙ (agf_behind 0 n g none lt ∙ ap (λ (k : ℕ). agf_of (heads_at at image k)) z)
-
--- block 0 of a group, as it was loaded
-pub heads_read : (at : Layout) (image : ℕ → List ℕ) (g : ℕ) (site : Site) (bytes : List ℕ) → site ≡ site_of at g → bytes ≡ group_blocks site image 0 → bytes ≡ heads_at at image g
-unfolding site_of
-heads_read at image g site bytes e h =
-    let zero_more : device_block_of at g 0 + 0 ≡ device_block_of at g 0 = omega arith in
-    h ∙ (ap (λ (s : Site). image (s.first + 0)) e ∙ ap image zero_more)
-
-pub first_inside : (at : Layout) (g : ℕ) (site : Site) → site ≡ site_of at g → 0 < group_len_of at g → 0 < site.bounds.length
-unfolding site_of
-first_inside at g site e h = subst (λ (s : Site). 0 < s.bounds.length) (sym e) h
-
-pub outside_not_full : (halt : Halt) → IsOutside halt → IsNotFull halt
-outside_not_full (halts.Head g head fault) out = tt
-outside_not_full halts.Full out = out
-outside_not_full halts.Failed out = tt
-outside_not_full halts.Memory out = tt
-
-pub head_not_full : (halt : Halt) → IsHead halt → IsNotFull halt
-head_not_full (halts.Head g head fault) h = tt
-head_not_full halts.Full h = h
-head_not_full halts.Failed h = tt
-head_not_full halts.Memory h = tt
-
-pub head_is_calm : (halt : Halt) → IsHead halt → is_failed halt ≡ false
-head_is_calm (halts.Head g head fault) h = refl
-head_is_calm halts.Full h = refl
-head_is_calm halts.Failed h = absurd h
-head_is_calm halts.Memory h = refl

@@ -13,7 +13,7 @@ use Rattle.tree_walk.specs.Meets.{CountedBy, MeetsTree}
 use Rattle.space_check.specs.Faults.{Reading}
 use Rattle.space_check.specs.Groups.{blocks_read, tree_of}
 use Rattle.space_check.specs.Progress.{HasRead}
-use Rattle.space_check.specs.Reads.{IsBad, IsReading, IsSound, RisesIfRead}
+use Rattle.space_check.specs.Reads.{IsBad, IsReading, IsSound}
 use Rattle.space_check.specs.declared.halt.Halt.{Halt}
 use Rattle.space_check.specs.declared.reads.IndexRead.{IndexRead}
 use Rattle.space_check.specs.declared.reads.IndexRead.TheVariants.{Whole, Bad}
@@ -25,10 +25,6 @@ whole_read at image g form root levels read h = h
 pub not_read : {R K : Type 0} (at : Layout) (image : ℕ → List ℕ) (g : ℕ) (form : Form R K) (root levels : ℕ) (fault : WalkFault) (result : Result (IndexRead R) Halt) → Refuses (read_tree form (site_of at g) (group_blocks (site_of at g) image) root levels) fault → ((read : Reading R) → Refuses read fault → IsReading read result) → IsReading (tree_of at image g form root levels) result
 unfolding tree_of
 not_read at image g form root levels fault result h so = so _ h
-
-pub rises_if_read : {R K : Type 0} (form : Form R K) (bounds : Bounds) (index : IndexRead R) → IsSound form bounds index → RisesIfRead form index
-rises_if_read form bounds (Whole read) sound = sound.rising
-rises_if_read form bounds (Bad block fault) sound = tt
 
 pub bad_is_sound : {R K : Type 0} (form : Form R K) (bounds : Bounds) (result : Result (IndexRead R) Halt) → IfOk result IsBad → IfOk result (IsSound form bounds)
 bad_is_sound form bounds (Ok (Whole read)) bad = absurd bad

@@ -1,21 +1,17 @@
 -- What a check of all groups does and how it ends, as the image decides it: its heads, then its units.
 use Rattle.std.specs.Prelude.{◌≡◌, ◌<◌, ℕ, zero, suc, ◌+◌, nat_lt, if◌then◌else◌, List, [], ◌∷◌, ◌++◌, length, Option, Some, None, Result, Ok, Err}
 use Rattle.std.specs.Global.{Vec}
-use Rattle.ag_headers.specs.Agf.{agf_fault, agf_of}
+use Rattle.ag_headers.specs.Agf.{agf_fault}
 use Rattle.ag_headers.specs.Agfl.{agfl_fault}
 use Rattle.ag_headers.specs.Agi.{agi_fault}
-use Rattle.ag_headers.specs.declared.agf.Agf.{Agf as SpaceHead}
 use Rattle.ag_headers.specs.declared.fault.HeadFault.{HeadFault}
 use Rattle.blk_device.specs.Causes.{HasCause}
-use Rattle.blk_device.specs.Contents.{Contents}
 use Rattle.blk_device.specs.Taken.{IsFront}
-use Rattle.blk_device.specs.declared.device.Region.TheVariants.{Image}
 use Rattle.fs_model.specs.declared.entry.Entry.{Entry}
 use Rattle.fs_model.specs.declared.unit.Head.{Head}
 use Rattle.fs_model.specs.declared.unit.Head.TheVariants.{Agf, Agi, Agfl}
 use Rattle.geom.specs.Layout.{Layout, device_block_of}
-use Rattle.space_check.specs.Events.{Event, Moment, moment, most_entries, AreDone, StopsIn}
-use Rattle.space_check.specs.Groups.{group_events}
+use Rattle.space_check.specs.Events.{Event, most_entries}
 use Rattle.space_check.specs.Progress.{is_failed}
 use Rattle.space_check.specs.declared.halt.Halt.{Halt}
 use Rattle.space_check.specs.declared.halt.Halt.TheVariants as halts
@@ -74,16 +70,6 @@ module _ (at : Layout) (image : ℕ → List ℕ) where
         | None ↦ bad_head_from (g + 1) n
       ]
 
-  -- the AGFs of n groups from g on
-  unfoldable pub agfs_from : ℕ → ℕ → List SpaceHead
-  agfs_from g zero = []
-  agfs_from g (suc n) = agf_of (heads_at g) ∷ agfs_from (g + 1) n
-
-  -- the units of n groups from g on
-  unfoldable pub events_from : ℕ → ℕ → List Event
-  events_from g zero = []
-  events_from g (suc n) = group_events at image g (agf_of (heads_at g)) ++ events_from (g + 1) n
-
   -- how many groups' heads are looked at: all, or those up to the first that is refused
   unfoldable pub looked_at : ℕ
   looked_at =
@@ -91,39 +77,6 @@ module _ (at : Layout) (image : ℕ → List ℕ) where
         | Some bad ↦ bad.0 + 1
         | None ↦ at.agcount
       ]
-
-  -- the units of all groups, where no head is refused
-  unfoldable pub units_events : List Event
-  units_events =
-      elim (bad_head_from 0 at.agcount) [
-        | Some bad ↦ []
-        | None ↦ events_from 0 at.agcount
-      ]
-
-  -- what a check of the image does: the heads of all groups first, and then the units group by group
-  unfoldable pub check_events : List Event
-  check_events = looks looked_at ++ units_events
-
-  -- how a check of the image ends that nothing stops
-  unfoldable pub checked : Checked
-  checked =
-      elim (bad_head_from 0 at.agcount) [
-        | Some bad ↦ RefusedHead bad.0 bad.1.0 bad.1.1
-        | None ↦ recorded [] check_events
-      ]
-
-  -- ---- the answer of a check, and how many blocks were counted as read before and after it
-
-  -- a head is refused once the heads up to it were looked at; else an event ended the check
-  abbrev pub StopsFor : Halt → (before after : Moment) → Type 0
-  StopsFor (halts.Head g head fault) before after = (bad_head_from 0 at.agcount ≡ Some (g, (head, fault))) × AreDone check_events before after
-  StopsFor halts.Full before after = StopsIn halts.Full check_events before after
-  StopsFor halts.Failed before after = StopsIn halts.Failed check_events before after
-  StopsFor halts.Memory before after = StopsIn halts.Memory check_events before after
-
-  abbrev pub IsCheck : (before after : ℕ) → Result (Vec Entry) CheckStop → Type 0
-  IsCheck before after (Ok journal) = (bad_head_from 0 at.agcount ≡ None) × AreDone check_events (moment [] before) (moment journal.items after)
-  IsCheck before after (Err stop) = StopsFor stop.cause (moment [] before) (moment stop.journal.items after)
 
 -- an answer is what the image decides; one that was stopped has a front of that journal
 abbrev pub MeetsHalt : Checked → Halt → (journal : List Entry) → Type 0
@@ -153,13 +106,3 @@ module _ (at : Layout) (image : ℕ → List ℕ) where
   abbrev pub LooksAtHeads : {T : Type 0} → (before after : ℕ) → Result T Halt → Type 0
   LooksAtHeads before after (Ok done) = (bad_head_from at image 0 at.agcount ≡ None) × (after ≡ before + at.agcount)
   LooksAtHeads before after (Err halt) = HaltsInHeads before after halt
-
-  -- how a check that began at `before` with an empty journal ends
-  abbrev pub EndsCheck : {T : Type 0} → (before after : Moment) → Result T Halt → Type 0
-  EndsCheck before after (Ok done) = (bad_head_from at image 0 at.agcount ≡ None) × AreDone (check_events at image) before after
-  EndsCheck before after (Err halt) = StopsFor at image halt before after
-
--- how it ends with this journal, where the device tells its content
-abbrev pub EndsTold : {T : Type 0} → Layout → Option Contents → Vec Entry → (reads reads' : ℕ) → Result T Halt → Type 0
-EndsTold at told journal reads reads' result =
-    (c : Contents) → told ≡ Some c → EndsCheck at (c Image) (moment [] reads) (moment journal.items reads') result

@@ -1,9 +1,7 @@
 -- What a step of the check tells, or why it ends the check.
 use Rattle.std.specs.Prelude.{◌≡◌, ◌<◌, ◌≤◌, ⊤, ℕ, ◌+◌, Bool, true, false, List, ◌++◌, length, Option, Some, None, Result, Ok, Err}
-use Rattle.std.specs.Global.{Vec}
 use Rattle.ag_headers.specs.declared.fault.HeadFault.{HeadFault}
 use Rattle.fs_model.specs.declared.entry.Entry.{Entry}
-use Rattle.fs_model.specs.declared.fault.Fault.{Fault}
 use Rattle.fs_model.specs.declared.unit.Head.{Head}
 use Rattle.space_check.specs.Events.{most_entries}
 use Rattle.space_check.specs.declared.halt.Halt.{Halt}
@@ -45,22 +43,10 @@ MeetsHead g first (Err halts.Full) = ⊥
 MeetsHead g first (Err halts.Failed) = ⊤
 MeetsHead g first (Err halts.Memory) = ⊤
 
--- these are the faults
-abbrev pub AreFaults : List Fault → Result (Vec Fault) Halt → Type 0
-AreFaults wanted (Ok faults) = faults.items ≡ wanted
-AreFaults wanted (Err halt) = IsOutside halt
-
 -- an event may begin, or the journal is full
 abbrev pub Begins : {T : Type 0} → (journal : List Entry) → Result T Halt → Type 0
 Begins journal (Ok done) = length journal < most_entries
 Begins journal (Err halt) = (halt ≡ halts.Full) × (most_entries ≤ length journal)
-
--- a head is refused
-abbrev pub IsHead : Halt → Type 0
-IsHead (halts.Head g head fault) = ⊤
-IsHead halts.Full = ⊥
-IsHead halts.Failed = ⊥
-IsHead halts.Memory = ⊥
 
 -- no journal was full
 abbrev pub IsNotFull : Halt → Type 0

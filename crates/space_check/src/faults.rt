@@ -9,8 +9,10 @@ use sblock::BlockFault;
 use std::alloc::{AllocError, Global};
 use xref_scrub::{Indexed, compare};
 
-// The fault of a tree that can't be read.
-fn unreadable<K: Indexed>(
+/// The one fault of a tree that can't be read: its block, group-relative, with the test that fails
+/// there. No memory is the one refusal
+/// (XFS Algorithms and Data Structures, "Short Format B+trees").
+pub fn unreadable<K: Indexed>(
     alloc: Global,
     block: u32,
     fault: BlockFault,

@@ -76,10 +76,9 @@ pub struct Journal {
 }
 
 impl Journal {
-    ghost use Rattle.std.specs.Prelude.{◌≡◌, ◌+◌, ◌<◌, ℕ, [], IfErr, length};
-    ghost use Rattle.space_check.specs.Events.{Does, moment, most_entries};
-    ghost use Rattle.space_check.specs.Groups.{skipped_entries, skipped_events, unit_entries, verdict_entries};
-    ghost use Rattle.space_check.specs.Progress.{Adds, Begins, IsOwn};
+    ghost use Rattle.std.specs.Prelude.{◌≡◌, []};
+    ghost use Rattle.space_check.specs.Groups.{unit_entries, verdict_entries};
+    ghost use Rattle.space_check.specs.Progress.{Adds, Begins};
 
     /// A journal without an entry (XFS Online Fsck Design, "Metadata Scrubbing").
     pub fn new(alloc: Global) -> Self
@@ -130,24 +129,5 @@ impl Journal {
             verdict,
         })?;
         Ok(())
-    }
-
-    // Adds that a unit was skipped, since the reverse mappings of its group can't be read.
-    fn skip_unit(&mut self, group: u32, unit: Unit) -> Result<(), Halt>
-        ensures { Adds self.old.entries.items (skipped_entries group unit) self.new.entries.items result }
-    {
-        self.add_verdict(group, unit, Verdict::Skipped(group, Unit::Rmap))
-    }
-
-    /// Skips free space, which had begun, and then reference counts of group `group`, since its
-    /// reverse mappings can't be read (XFS Online Fsck Design, "Metadata Scrubbing").
-    pub fn skip_group(&mut self, group: u32) -> Result<(), Halt>
-        requires room { length self.old.entries.items < most_entries }
-        ensures exact { (before n : ℕ) → Does (skipped_events group n) (moment self.old.entries.items before) (moment self.new.entries.items (before + n)) result }
-        ensures own { IfErr result IsOwn }
-    {
-        self.skip_unit(group, Unit::Free)?;
-        self.begin()?;
-        self.skip_unit(group, Unit::Refc)
     }
 }

@@ -1,19 +1,16 @@
-//! The check of free space and reference counts: the heads of all groups, and then, group by group,
-//! the space btrees and counters against what the reverse mappings give.
+//! What a check of an image is made of: why it ends, its journal, and the faults of a group's free
+//! space and reference counts, counters included, by what its reverse mappings give.
 #![tactic(auto)]
 
-mod check;
 mod faults;
-mod group;
 mod halt;
-mod heads;
 mod journal;
 mod judge;
 mod reads;
 mod stop;
 mod trees;
 
-pub use check::check_space;
+pub use faults::{add_blocks, unreadable};
 pub use halt::Halt;
 pub use journal::{Journal, MAX_ENTRIES};
 pub use judge::{judge_free, judge_shared};

@@ -1,5 +1,0 @@
-use Rattle.test_space.proofs.ended.check_blank.Given as goal
-
--- the ledger is the blank's
-abbrev pub ghosts-checked : goal.ghosts-checked
-ghosts-checked a = record { name = a.blank.name; parts = a.blank.parts }
