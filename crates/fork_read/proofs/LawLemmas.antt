@@ -194,7 +194,7 @@ module _ (at : Layout) (image : Image) (core : Core3) (fork : Fork) where
         by_more (Err u) more e own (inl none) = subst (λ zs. first_bad at fork zs ≡ Some fault) (sym (e ∙ ap (λ zs. (s.front ++ s.last ∷ []) ++ zs) none ∙ append-nil (s.front ++ s.last ∷ []))) own
         by_more (Err u) more e own (inr b) = subst (λ zs. first_bad at fork zs ≡ Some fault) (sym e) (key_begins more s.last s.front b s.below s.ended own)
 
-    good_walk : (r : Result Trail Trail) → walk_tree at image core fork ≡ r → walk_fault at image core fork ≡ None → (w : Trail) × (r ≡ Ok w) × (first_bad at fork w.mappings ≡ None)
+    pub good_walk : (r : Result Trail Trail) → walk_tree at image core fork ≡ r → walk_fault at image core fork ≡ None → (w : Trail) × (r ≡ Ok w) × (first_bad at fork w.mappings ≡ None)
     good_walk (Ok t) h good = (t, refl, (else_parts (first_bad at fork t.mappings) (block_fault (ends (root_level (area_of core fork)) t)) (sym (fault_at t (or_else (first_bad at fork t.mappings) (block_fault (ends (root_level (area_of core fork)) t))) h refl) ∙ good)).0)
     good_walk (Err t) h good = absurd (some_none faults.Block (else_parts (first_bad at fork t.mappings) (Some faults.Block) (sym (fault_bad t (or_else (first_bad at fork t.mappings) (Some faults.Block)) h refl) ∙ good)).1)
 

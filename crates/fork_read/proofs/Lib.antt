@@ -7,6 +7,7 @@ pub mod JoinLemmas
 pub mod JudgeLemmas
 pub mod LawLemmas
 pub mod LeafLemmas
+pub mod LeftLemmas
 pub mod NextLemmas
 pub mod PartLemmas
 pub mod PieceLemmas

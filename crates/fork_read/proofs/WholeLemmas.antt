@@ -29,7 +29,7 @@ pub resumed_same : (last : Option Last) (key : ℕ) → is_resumed 0 last key �
 resumed_same None key = nothing_below key
 resumed_same (Some last) key = refl
 
-passed_same : (level : ℕ) (e : Entry) (bytes : List ℕ) (t : Trail) → passed_from 0 level e bytes t ≡ passed level e bytes t
+pub passed_same : (level : ℕ) (e : Entry) (bytes : List ℕ) (t : Trail) → passed_from 0 level e bytes t ≡ passed level e bytes t
 unfolding passed_from
 passed_same level e bytes t = rw (resumed_same (t.last level) e.key) refl
 

@@ -1,11 +1,12 @@
 -- What the steps of a walk tell, where the device tells its content.
-use Rattle.std.specs.Prelude.{◌≡◌, ℕ, Bool, List, ◌∷◌, Option, Some, Result, IfOk}
+use Rattle.std.specs.Prelude.{◌≡◌, ℕ, ◌+◌, Bool, List, ◌∷◌, Option, Some, Result, IfOk}
 use Rattle.blk_device.specs.Contents.{Contents}
 use Rattle.blk_device.specs.declared.device.Region.TheVariants.{Image}
 use Rattle.byte_fields.specs.declared.block.Block.{Block}
 use Rattle.geom.specs.Layout.{Layout, split_of}
 use Rattle.dinode_core.specs.declared.inode.Core3.{Core3}
 use Rattle.dinode_core.specs.declared.mapping.Fork.{Fork}
+use Rattle.dinode_core.specs.Core.{core_of}
 use Rattle.dinode_core.specs.ForkTree.{Entry}
 use Rattle.fork_read.specs.declared.fault.ForkPiece.{ForkPiece}
 use Rattle.fork_read.specs.declared.fault.ReadFault.{ReadFault}
@@ -15,6 +16,7 @@ use Rattle.fork_read.specs.declared.walk.Stop.{Stop}
 use Rattle.fork_read.specs.Answers.{HasRead, IsStopped, bytes_of}
 use Rattle.fork_read.specs.Counted.{HasSpent, IsOwn, IsPaid, IsSpent}
 use Rattle.fork_read.specs.First.{FewRead, ended, walk_below}
+use Rattle.fork_read.specs.Pieces.{inode_bytes}
 use Rattle.fork_read.specs.Stuck.{HasCome, HasGone, HasSought}
 use Rattle.fork_read.specs.Walk.{HasStepped, entry_of, last_in, read_at, trail_of, walk_tasks}
 
@@ -66,6 +68,15 @@ SpendsPiece at told core fork from before now = (c : Contents) → told ≡ Some
 
 abbrev pub PaysPiece : Option Contents → Core3 → Fork → ℕ → Result ForkPiece ReadFault → ℕ → ℕ → Type 0
 PaysPiece told core fork from result before now = IfOk result (λ piece. (c : Contents) → told ≡ Some c → IsOwn core fork from before now piece)
+
+-- the same of a fork of the inode of this number, whose block is read first
+abbrev pub SpendsInode : Layout → Option Contents → ℕ → Fork → ℕ → ℕ → ℕ → Type 0
+SpendsInode at told ino fork from before now =
+    (c : Contents) → told ≡ Some c → IsSpent at (c Image) (core_of (inode_bytes at (c Image) ino)) fork from (before + 1) now
+
+abbrev pub PaysInode : Layout → Option Contents → ℕ → Fork → ℕ → Result ForkPiece ReadFault → ℕ → ℕ → Type 0
+PaysInode at told ino fork from result before now = IfOk result (λ piece. (c : Contents) → told ≡ Some c
+    → IsOwn (core_of (inode_bytes at (c Image) ino)) fork from (before + 1) now piece)
 
 -- the walk of these entries to their end, or to a bad block ..
 abbrev pub WalksBelow : Layout → Option Contents → Core3 → ℕ → List Entry → Seen → Result Bool ReadFault → Seen → Type 0

@@ -1,5 +1,5 @@
 -- Pieces of a fork one after another, and what they are in sum.
-use Rattle.std.specs.Prelude.{◌≡◌, ℕ, List, [], ◌∷◌, ◌++◌, map, Option, None, Some, ◌⊎◌}
+use Rattle.std.specs.Prelude.{◌≡◌, ℕ, ◌<◌, ◌≤◌, List, [], ◌∷◌, ◌++◌, length, map, Option, None, Some, ◌⊎◌}
 use Rattle.geom.specs.Layout.{Layout}
 use Rattle.dinode_core.specs.declared.inode.Core3.{Core3}
 use Rattle.dinode_core.specs.declared.mapping.Mapping.{Mapping}
@@ -7,10 +7,10 @@ use Rattle.dinode_core.specs.declared.mapping.Fork.{Fork}
 use Rattle.dinode_core.specs.declared.mapping.ForkFault.{ForkFault}
 use Rattle.dinode_core.specs.declared.mapping.ForkFault.TheVariants as faults
 use Rattle.dinode_core.specs.Inline.{first_bad}
-use Rattle.dinode_core.specs.ForkTree.{Image, Trail, met_of, start, walk_fault}
+use Rattle.dinode_core.specs.ForkTree.{Image, Trail, TreeBlock, met_of, start, walk_fault}
 use Rattle.fork_read.specs.declared.fault.ForkPiece.{ForkPiece}
 use Rattle.fork_read.specs.declared.tasks.Task.{Task}
-use Rattle.fork_read.specs.Parts.{IsPart}
+use Rattle.fork_read.specs.Parts.{Each, IsPart}
 use Rattle.fork_read.specs.Pieces.{IsForkFault, IsForkPiece}
 use Rattle.fork_read.specs.Stuck.{IsBehind}
 use Rattle.fork_read.specs.Walk.{first_tasks}
@@ -36,6 +36,20 @@ pub record IsWhole (at : Layout) (image : Image) (core : Core3) (fork : Fork) (m
   pub mappings_are : mappings ≡ (met_of at image core fork).mappings
   pub blocks_are : blocks ≡ map (λ b. b.block) (met_of at image core fork).blocks
 
+-- The first mapping that these pieces leave of the fork begins at this offset, and they have exactly the blocks of its
+-- btree whose first mapping is one of theirs.
+pub record LeavesRest (at : Layout) (image : Image) (core : Core3) (fork : Fork) (pieces : List ForkPiece) (next : ℕ) : Type 0 where
+  pub first : Mapping
+  pub more : List Mapping
+  pub mappings_are : (met_of at image core fork).mappings ≡ all_mappings pieces ++ first ∷ more
+  pub begins : first.offset ≡ next
+  pub own : List TreeBlock
+  pub later : List TreeBlock
+  pub blocks_are : (met_of at image core fork).blocks ≡ own ++ later
+  pub given : all_blocks pieces ≡ map (λ b. b.block) own
+  pub own_first : Each (λ b. b.before < length (all_mappings pieces)) own
+  pub later_first : Each (λ b. length (all_mappings pieces) ≤ b.before) later
+
 -- the last of these mappings has this fault by itself, whatever follows it
 pub record LastBad (at : Layout) (fork : Fork) (mappings : List Mapping) (fault : ForkFault) : Type 0 where
   pub front : List Mapping
@@ -60,6 +74,13 @@ pub record IsCut (at : Layout) (image : Image) (core : Core3) (fork : Fork) (fro
 abbrev pub PiecesJoin : Layout → Core3 → Fork → Type 0
 PiecesJoin at core fork =
     (image : Image) (pieces : List ForkPiece) → Follow at image core fork (Some 0) pieces None → IsWhole at image core fork (all_mappings pieces) (all_blocks pieces)
+
+-- pieces from 0 on of a fork without a fault leave something exactly where a mapping is left, and a block where its first
+-- mapping is left
+abbrev pub PiecesLeaveRest : Layout → Core3 → Fork → Type 0
+PiecesLeaveRest at core fork =
+    (image : Image) (pieces : List ForkPiece) (next : ℕ) → Follow at image core fork (Some 0) pieces (Some next) → 0 < next
+    → walk_fault at image core fork ≡ None → LeavesRest at image core fork pieces next
 
 -- the fault for which the next of pieces from 0 on is refused is the fork's first one, or no piece can begin behind it
 abbrev pub RefusalsAreFirst : Layout → Core3 → Fork → Type 0

@@ -68,10 +68,10 @@ pub fn load_core<D: Device, L: Ledger>(
     ensures cause { HasCause is_failed (D.faults dev.old) (D.faults dev.new) result }
     ensures agrees { AgreesTold cache.new (D.content dev.new) }
     ensures cached { CachesInode (layout geo.now) ino cache.old cache.new }
-    ensures few { steps.new.reads ≤ steps.old.reads + 1 }
+    ensures one { steps.new.reads ≡ steps.old.reads + 1 }
 {
     let Some(place) = geo.split_fs_block(ino / 8) else {
-        return Err(ReadFault::Core(CoreFault::Number));
+        unreachable!()
     };
     let at = geo.device_block(place.0, place.1);
     let block = match load(dev, cache, at, steps) {

@@ -1,6 +1,6 @@
 ghost use Rattle.geom.specs.Places.{layout};
 ghost use Rattle.fork_read.specs.Counted.{PiecesAreFew};
-ghost use Rattle.fork_read.specs.Whole.{FirstFaultTells, PiecesAreParts, PiecesJoin, RefusalsAreFirst};
+ghost use Rattle.fork_read.specs.Whole.{FirstFaultTells, PiecesAreParts, PiecesJoin, PiecesLeaveRest, RefusalsAreFirst};
 
 use dinode_core::{Core3, Fork};
 use geom::Geometry;
@@ -11,6 +11,13 @@ use geom::Geometry;
 /// (XFS Algorithms and Data Structures, "Data Fork".)
 pub fn pieces_join(core: &Core3, fork: Fork, geo: &Geometry)
     ensures { PiecesJoin (layout geo.now) core.now fork }
+{}
+
+/// Such pieces of a fork without a fault leave something exactly where a mapping is left: the first of
+/// those that are left begins at their `next`. They have the blocks of the btree whose first mapping is
+/// one of theirs, and no other. (XFS Algorithms and Data Structures, "Long Format B+trees".)
+pub fn pieces_leave_rest(core: &Core3, fork: Fork, geo: &Geometry)
+    ensures { PiecesLeaveRest (layout geo.now) core.now fork }
 {}
 
 /// The fault for which such a piece is refused is the fork's first one. The one exception is a piece

@@ -15,6 +15,7 @@ mod walk;
 pub use fault::{ForkPiece, ReadFault};
 pub use first::{first_fault, first_fault_of_core};
 pub use laws::{
-    first_fault_tells, pieces_are_few, pieces_are_parts, pieces_join, refusal_is_first,
+    first_fault_tells, pieces_are_few, pieces_are_parts, pieces_join, pieces_leave_rest,
+    refusal_is_first,
 };
 pub use piece::{fork_piece, piece_of_core};

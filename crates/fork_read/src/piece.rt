@@ -11,7 +11,7 @@ ghost use Rattle.dinode_core.specs.Inline.{form_fault, key_room, root_keys, root
 ghost use Rattle.dinode_core.specs.Shape.{size_of};
 ghost use Rattle.fork_read.specs.Answers.{is_failed};
 ghost use Rattle.fork_read.specs.Pieces.{AreInRange, CachesInode, IsAnswer, IsForkAnswer, IsRefused, IsSized, IsTreeAnswer};
-ghost use Rattle.fork_read.specs.Told.{PaysPiece, SpendsPiece};
+ghost use Rattle.fork_read.specs.Told.{PaysInode, PaysPiece, SpendsInode, SpendsPiece};
 ghost use Rattle.fork_read.specs.Walk.{pruned, tasks_of};
 
 use crate::fault::{ForkPiece, ReadFault};
@@ -142,12 +142,10 @@ pub fn piece_of_core<D: Device, L: Ledger>(
     piece_of(alloc, mappings.as_slice(), &[], from, None)
 }
 
-/// The next mappings of a fork: those that begin at the offset `from` or behind it, at most 512, and
-/// the blocks of its btree whose first mapping isn't one of an earlier piece, at most 128 of which are
-/// read, from the device itself. Where `next` is given, a subtree that begins there is left, and at
-/// least one mapping came. The core's first fault is refused, and the fork's: the first of what was
-/// met, which `first_fault` tells of the whole fork. The number of a btree's mappings isn't compared with the core's. (XFS Algorithms and Data
-/// Structures, "Data Fork" and "Long Format B+trees".)
+/// The mappings of a fork that begin at the offset `from` or behind it, at most 512, and the blocks of
+/// its btree whose first mapping is one of them. `next` is where the first one begins that is left. The
+/// first fault of what was met is refused, the core's before the fork's; the number of a btree's mappings
+/// is left to the caller (XFS Algorithms and Data Structures, "Long Format B+trees").
 pub fn fork_piece<D: Device, L: Ledger>(
     alloc: Global,
     dev: &mut D,
@@ -169,6 +167,8 @@ pub fn fork_piece<D: Device, L: Ledger>(
     ensures agrees { AgreesTold cache.new (D.content dev.new) }
     ensures cached { CachesInode (layout geo.now) ino cache.old cache.new }
     ensures few { steps.new.reads ≤ steps.old.reads + 129 }
+    ensures spent { SpendsInode (layout geo.now) (D.content dev.old) ino fork from steps.old.reads steps.new.reads }
+    ensures paid { PaysInode (layout geo.now) (D.content dev.old) ino fork from result steps.old.reads steps.new.reads }
 {
     let core = match load_core(dev, cache, geo, ino, steps) {
         Ok(core) => core,

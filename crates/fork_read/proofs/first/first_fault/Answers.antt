@@ -11,7 +11,7 @@ pub returns-in-Err-clause-exact : goal.returns-in-Err-clause-exact
 returns-in-Err-clause-exact g c = λ m e. core_refused (layout c.args.geo.now) (m Image) c.args.ino c.args.fork c.in-Err.fault (c.in-Err.ensures.core m e)
 
 pub returns-in-Err-clause-each : goal.returns-in-Err-clause-each
-returns-in-Err-clause-each g c = λ m e. omega (arith, c.load_core.ensures.few)
+returns-in-Err-clause-each g c = λ m e. omega (arith, c.load_core.ensures.one)
 
 pub returns-clause-exact : goal.returns-clause-exact
 returns-clause-exact g c = λ m e.
@@ -23,7 +23,7 @@ returns-clause-each g c = λ m e.
     let core = c.in-Ok.ensures.core m e in
     let few = c.first_fault_of_core.ensures.each m (c.load_core.ensures.reading.same ∙ e) in
     let same = ap (λ (x : Core3). most_met (layout c.args.geo.now) (m Image) x c.args.fork) core.1 in
-    omega (arith, c.load_core.ensures.few, few, same)
+    omega (arith, c.load_core.ensures.one, few, same)
 
 pub returns-clause-reading : goal.returns-clause-reading
 returns-clause-reading g c =
