@@ -1,11 +1,15 @@
 -- The need of a unit.
-use Rattle.std.proofs.Common.{◌≡◌, ℕ, zero, suc, ◌+◌, ◌-◌, ◌<◌, ◌≤◌, ◌^◌, Bool, true, false, cond, [], ◌∷◌, refl, ap, sym, subst, ◌∙◌, inl, inr, arith}
-use Rattle.std.specs.Prelude.{◌↔◌, ◌⊎◌, nat_lt}
+use Rattle.std.proofs.Common.{◌≡◌, ℕ, zero, suc, ◌+◌, ◌-◌, ◌*◌, ◌<◌, ◌≤◌, ◌^◌, Bool, true, false, cond, List, [], ◌∷◌, refl, ap, sym, subst, ◌∙◌, inl, inr, arith}
+use Rattle.std.specs.Prelude.{◌↔◌, ◌⊎◌, ◌==◌, nat_lt, if◌then◌else◌}
+use Rattle.std.specs.Int.{div_ceil}
 use Rattle.std.specs.List.{count_by, sum_by}
-use Rattle.std.proofs.lemmas.Bool.{cases_lt, lt-ltb, le-ltb}
+use Rattle.std.proofs.Math.Nat.{add-mul, lt_of_mul-lt-mul_right}
+use Rattle.std.proofs.lemmas.Bool.{cases_lt, eqb-true, lt-ltb, le-ltb, ltb-true, true≢false}
+use Rattle.std.proofs.lemmas.Grind.{div_ceil_times}
 use Rattle.std.proofs.lemmas.List.Sums.{sum_by-cons}
-use Rattle.bulk_load.specs.Shapes.{HasLevel, IsShape, start, width}
-use Rattle.bulk_load.proofs.ShapeLemmas.{enough, items_next, rises, six_levels, some_wide, start_on, start_up}
+use Rattle.bulk_load.specs.Shapes.{HasLevel, IsShape, leaves_for, start, width}
+use Rattle.bulk_load.proofs.ShapeLemmas.{enough, items_next, leaf_room, node_room, rises, six_levels, some_wide, start_none, start_on, start_up}
+use Rattle.sblock.specs.Kinds.{leaf_most_of, node_most_of}
 use Rattle.fs_change.specs.Switch.{kind_need, need, need_of}
 use Rattle.fs_derive.specs.Lists.{numbers}
 use Rattle.fs_model.specs.declared.unit.Unit.{Unit as ScrubUnit}
@@ -14,7 +18,7 @@ use Rattle.fs_state.specs.State.{State}
 use Rattle.sblock.specs.declared.kind.Kind.{Kind}
 use Rattle.sblock.specs.declared.kind.Kind.TheVariants.{Bno, Cnt, Rmap, Refc, Ino, Fino}
 use Rattle.unit_plan.specs.Need.{AreTreesOf, IsTreeOf}
-use Rattle.plan_laws.specs.Agreed.{IsListed, NeedAgrees, TreeNeedAgrees}
+use Rattle.plan_laws.specs.Agreed.{IsListed, NeedAgrees, NeedRises, TreeNeedAgrees}
 
 -- how many of some numbers pass, where the first l do and the others don't
 count_front : (t : ℕ → Bool) (a n l : ℕ) → l ≤ n → ((j : ℕ) → a ≤ j → j < a + l → t j ≡ true) → ((j : ℕ) → a + l ≤ j → t j ≡ false) → count_by t (numbers a n) ≡ l
@@ -115,6 +119,72 @@ tree_need_lem kind n blocks few = (
   λ h. of_shape kind n h.0 blocks h.1 (let levels = six_levels kind n h.0 blocks h.1 few in omega (arith, levels)),
   λ e. subst (λ (x : ℕ). IsTreeOf kind n x) (sym e) (shaped kind n (omega (arith, e, few))),
 )
+
+-- ---- more records need no fewer blocks
+
+ceil_rises : (a c b : ℕ) → 0 < b → a ≤ c → div_ceil a b ≤ div_ceil c b
+ceil_rises a c b some le = below (div_ceil a b) (div_ceil c b) (div_ceil_times a b some).1 (div_ceil_times c b some).0
+  where
+    below : (x y : ℕ) → x * b < a + b → c ≤ y * b → x ≤ y
+    below x y low high =
+        let e : (y + 1) * b ≡ y * b + 1 * b = add-mul y 1 b in
+        let lt : x < y + 1 = lt_of_mul-lt-mul_right b (omega (arith, low, high, le, e)) in
+        omega (arith, lt)
+
+leaves_rise : (kind : Kind) (n m : ℕ) → n ≤ m → width kind n 0 ≤ width kind m 0
+unfolding width leaves_for
+leaves_rise kind n m le = by_tests (n == 0) (m == 0) refl refl
+  where
+    most : 0 < leaf_most_of kind
+    most = let room = (leaf_room kind).0 in omega (arith, room)
+
+    by_tests : (s t : Bool) → (n == 0) ≡ s → (m == 0) ≡ t → (if s then 1 else div_ceil n (leaf_most_of kind)) ≤ (if t then 1 else div_ceil m (leaf_most_of kind))
+    by_tests true true d e = omega arith
+    by_tests false true d e =
+        let zero_m = eqb-true m 0 e in
+        let zero_n : n ≡ 0 = omega (arith, le, zero_m) in
+        absurd (true≢false (sym (ap (λ (x : ℕ). x == 0) zero_n) ∙ d))
+    by_tests true false d e = subst (λ (t : Bool). 1 ≤ (if t then 1 else div_ceil m (leaf_most_of kind))) e (some_wide kind m 0)
+    by_tests false false d e = ceil_rises n m (leaf_most_of kind) most le
+
+widths_rise : (kind : Kind) (n m j : ℕ) → n ≤ m → width kind n j ≤ width kind m j
+unfolding width
+widths_rise kind n m zero le = leaves_rise kind n m le
+widths_rise kind n m (suc j) le = ceil_rises (width kind n j) (width kind m j) (node_most_of kind) (let room = (node_room kind).0 in omega (arith, room)) (widths_rise kind n m j le)
+
+starts_rise : (kind : Kind) (n m l : ℕ) → n ≤ m → start kind n l ≤ start kind m l
+starts_rise kind n m zero le = let a = start_none kind n in let b = start_none kind m in omega (arith, a, b)
+starts_rise kind n m (suc l) le =
+    let a = start_on kind n l in
+    let b = start_on kind m l in
+    let c = starts_rise kind n m l le in
+    let d = widths_rise kind n m l le in
+    omega (arith, a, b, c, d)
+
+count_rises : (t u : ℕ → Bool) → ((j : ℕ) → t j ≡ true → u j ≡ true) → (xs : List ℕ) → count_by t xs ≤ count_by u xs
+count_rises t u also [] = omega arith
+count_rises t u also (x ∷ xs) =
+    let a : count_by t (x ∷ xs) ≡ cond {A = ℕ} (t x) 1 0 + count_by t xs = sum_by-cons (λ y. cond {A = ℕ} (t y) 1 0) x xs in
+    let b : count_by u (x ∷ xs) ≡ cond {A = ℕ} (u x) 1 0 + count_by u xs = sum_by-cons (λ y. cond {A = ℕ} (u y) 1 0) x xs in
+    let c = count_rises t u also xs in
+    let d = one (t x) (u x) (also x) in
+    omega (arith, a, b, c, d)
+  where
+    one : (s v : Bool) → (s ≡ true → v ≡ true) → cond {A = ℕ} s 1 0 ≤ cond {A = ℕ} v 1 0
+    one true true h = omega arith
+    one true false h = absurd (true≢false (sym (h refl)))
+    one false true h = omega arith
+    one false false h = omega arith
+
+pub need_rises_lem : NeedRises
+unfolding need_of
+need_rises_lem kind n m le =
+    let wider : (j : ℕ) → nat_lt 1 (width kind n j) ≡ true → nat_lt 1 (width kind m j) ≡ true =
+    λ j wide. lt-ltb 1 (width kind m j) (let lt = ltb-true 1 (width kind n j) wide in let up = widths_rise kind n m j le in omega (arith, lt, up)) in
+    let levels = count_rises (λ j. nat_lt 1 (width kind n j)) (λ j. nat_lt 1 (width kind m j)) wider (numbers 0 8) in
+    let few = starts_rise kind n m (1 + count_by (λ j. nat_lt 1 (width kind n j)) (numbers 0 8)) le in
+    let more = start_up kind m (1 + count_by (λ j. nat_lt 1 (width kind n j)) (numbers 0 8)) (1 + count_by (λ j. nat_lt 1 (width kind m j)) (numbers 0 8)) (omega (arith, levels)) in
+    omega (arith, few, more)
 
 -- ---- of a unit
 

@@ -1,5 +1,5 @@
 -- The need and the spare blocks of a unit, as they are planned and as a step of a repair has them.
-use Rattle.std.specs.Prelude.{◌≡◌, ◌↔◌, ◌<◌, ◌^◌, ℕ, Option, IfSome, length}
+use Rattle.std.specs.Prelude.{◌≡◌, ◌↔◌, ◌<◌, ◌≤◌, ◌^◌, ℕ, Option, IfSome, length}
 use Rattle.fs_change.specs.Choice.{is_spare, spare_block}
 use Rattle.fs_change.specs.Switch.{need, need_of, prepared}
 use Rattle.fs_derive.specs.Derive.{derive}
@@ -25,6 +25,10 @@ LowestAgrees = (a : State) (g : ℕ) (unit : ScrubUnit) (lowest : Option ℕ)
 -- the blocks of a new btree of n records, where they are as few as a group can have
 abbrev pub TreeNeedAgrees : Type 0
 TreeNeedAgrees = (kind : Kind) (n blocks : ℕ) → blocks < 2 ^ 32 → IsTreeOf kind n blocks ↔ (blocks ≡ need_of kind n)
+
+-- a btree of more records needs no fewer blocks
+abbrev pub NeedRises : Type 0
+NeedRises = (kind : Kind) (n m : ℕ) → n ≤ m → need_of kind n ≤ need_of kind m
 
 -- the list of this kind that the unit's switch would derive has n records
 abbrev pub IsListed : State → ℕ → ScrubUnit → Kind → ℕ → Type 0

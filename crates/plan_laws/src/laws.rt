@@ -1,4 +1,4 @@
-ghost use Rattle.plan_laws.specs.Agreed.{LowestAgrees, NeedAgrees, SpareAgrees, TreeNeedAgrees};
+ghost use Rattle.plan_laws.specs.Agreed.{LowestAgrees, NeedAgrees, NeedRises, SpareAgrees, TreeNeedAgrees};
 ghost use Rattle.fs_model.specs.declared.unit.Unit.TheVariants.{Free, Refc};
 ghost use Rattle.plan_laws.specs.Losing.{LostNothing, LostOld, LostUnclaimed, LostUnlisted};
 ghost use Rattle.plan_laws.specs.Lying.{AreClaimedOnce, LieApart};
@@ -18,6 +18,13 @@ pub fn spare_agrees()
 pub fn need_agrees()
     ensures tree { TreeNeedAgrees }
     ensures unit { NeedAgrees }
+{}
+
+/// A law: a btree of more records needs no fewer blocks, so that what an edit needs, beside the root that
+/// is there, is less than what a whole new tree of as many records as it may leave would have
+/// (XFS Online Fsck Design, "Reserving New B+Tree Blocks").
+pub fn need_rises()
+    ensures { NeedRises }
 {}
 
 /// A law: where pieces of claims have no overlap, in whatever order they were handed in, the reverse

@@ -4,4 +4,6 @@
 
 mod laws;
 
-pub use laws::{lost_agrees, need_agrees, pieces_claim_once, pieces_lie_apart, spare_agrees};
+pub use laws::{
+    lost_agrees, need_agrees, need_rises, pieces_claim_once, pieces_lie_apart, spare_agrees,
+};

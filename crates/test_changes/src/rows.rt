@@ -1,4 +1,4 @@
-ghost use Rattle.test_changes.specs.Bounds.{ClosedGates, DoTurn, LimboDue, ListStays, ListTaken, MarksBounded, NoFile, TrimsFront, Uncounted};
+ghost use Rattle.test_changes.specs.Bounds.{ClosedGates, DoTurn, FitsTrees, LimboDue, ListLeft, ListStays, ListTaken, MarksBounded, NoFile, TrimsFront, TrimsLong, TurnsFront, Uncounted};
 ghost use Rattle.test_changes.specs.Crashes.{ClaimsKept, CutReserved, CutRun, CutSwitched, EitherRoot, GivenUpSpace, GivenUpWhole};
 ghost use Rattle.test_changes.specs.Scans.{BehindCursor, HeldInode};
 ghost use Rattle.test_changes.specs.Files.{ConvertedPiece, CutUnmapping, GrowingFile, MappedHalfway, MarkedOnce, OwnerFound, SharedPieceRow, ShrinkingFile};
@@ -219,6 +219,26 @@ pub fn do_turn()
 /// What a mark by itself may not say.
 pub fn marks_bounded()
     ensures { MarksBounded }
+{}
+
+/// A mark by itself comes of a trimming only where the list has more than 64 blocks.
+pub fn trims_long()
+    ensures { TrimsLong }
+{}
+
+/// A list that an edit finds too short has at least what the entry's edits can't have taken.
+pub fn list_left()
+    ensures { ListLeft }
+{}
+
+/// Inode btrees turn no more blocks than they may take of the list and put onto it.
+pub fn fits_trees()
+    ensures { FitsTrees }
+{}
+
+/// An inode btree takes the front of the list, and no block behind it.
+pub fn turns_front()
+    ensures { TurnsFront }
 {}
 
 /// Behind closed gates nothing is chosen.

@@ -11,4 +11,4 @@ use Rattle.test_changes.proofs.rows.left_alone.Goals as goal
 
 pub returns : goal.returns
 unfolding computing leaves_one
-returns c = ((Rmap ∷ [], left_alone, leaves_one before_step 32 6 (first_of (before_step.chains 0)) (rest_of (before_step.chains 0)) refl refl refl refl refl refl refl refl refl, tt, ((refl, refl, (ltb-true 0 2 refl, ltb-true 1 3 refl, leb-true 2 3 refl)), and_marked, stands left_alone and_marked (entries.Marked 0 Rmap (Short 0 2)) (refl, ltb-true 0 2 refl, refl) refl, refl)), refl, refl)
+returns c = ((Rmap ∷ [], left_alone, leaves_one before_step 32 6 (first_of (before_step.chains 0)) (rest_of (before_step.chains 0)) refl refl refl refl refl refl refl refl refl, tt, ((refl, refl, (ltb-true 0 2 refl, ltb-true 2 3 refl, (leb-true 0 2 refl, leb-true 0 0 refl))), and_marked, stands left_alone and_marked (entries.Marked 0 Rmap (Short 0 2)) (refl, ltb-true 0 2 refl, refl) refl, refl)), refl, refl)
