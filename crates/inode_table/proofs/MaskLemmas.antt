@@ -2,7 +2,7 @@
 use Rattle.std.proofs.Common.{◌≡◌, ◌≢◌, ℕ, suc, ◌+◌, ◌-◌, ◌*◌, ◌/◌, ◌%◌, ◌^◌, ◌<◌, refl, sym, ap, ◌∙◌, arith}
 use Rattle.std.proofs.Common.{inl, inr, min, bit_and, w64}
 use Rattle.std.specs.Int.{bit_not}
-use Rattle.std.proofs.Math.Nat.{div-add-mod, mul_comm, mod-lt}
+use Rattle.std.proofs.Math.Nat.{add-mul, div-add-mod, mul_comm, mod-lt}
 use Rattle.std.proofs.lemmas.Bool.{cases_lt}
 use Rattle.std.proofs.lemmas.Nat.Bits.{bit_at_and, bit_at_above, bit_at_clear_other}
 use Rattle.std.specs.Int.{bit_at}
@@ -66,6 +66,19 @@ one_more n m k h =
   where
     sums : (p q nh mh nl ml nd md : ℕ) → p ≡ nh + nl → q ≡ mh + ml → nh ≡ nd + 0 → mh ≡ md + 1 → ml ≡ nl → md ≡ nd → q ≡ p + 1
     sums p q nh mh nl ml nd md a b c d e f = omega arith
+
+-- so the numbers themselves differ by that bit's
+pub sum_more : (n m k : ℕ) → OneMore n m k → m ≡ n + 2 ^ k
+sum_more n m k h =
+    sums (2 ^ k) (n / 2 ^ k) (m / 2 ^ k) (n % 2 ^ k) (m % 2 ^ k) n m (parts n k) (parts m k) (same_low n m k h) (halves (n / 2 ^ k) (m / 2 ^ k) (same_half n m k h) h.clear h.set)
+  where
+    halves : (x y : ℕ) → y / 2 ≡ x / 2 → x % 2 ≡ 0 → y % 2 ≡ 1 → y ≡ x + 1
+    halves x y e f g = let a = parts x 1 in let b = parts y 1 in omega (arith, a, b, e, f, g)
+
+    sums : (p x y l r n m : ℕ) → n ≡ x * p + l → m ≡ y * p + r → r ≡ l → y ≡ x + 1 → m ≡ n + p
+    sums p x y l r n m a b e f =
+        let g : y * p ≡ x * p + 1 * p = ap (λ (t : ℕ). t * p) f ∙ add-mul x 1 p in
+        omega (arith, a, b, e, g)
 
 min_none : (x : ℕ) → min 0 x ≡ 0
 min_none x = omega arith

@@ -1,6 +1,6 @@
-ghost use Rattle.std.specs.Prelude.{◌≡◌, ◌≢◌, ◌<◌, ◌+◌, ◌-◌, ◌*◌, ◌^◌, ◌==◌, ◌↔◌, ℕ, count_ones, IfSome, IsNone, Some, None, if◌then◌else◌};
+ghost use Rattle.std.specs.Prelude.{◌≡◌, ◌≢◌, ◌<◌, ◌+◌, ◌-◌, ◌^◌, ◌↔◌, ℕ, count_ones, IfSome, IsNone};
 ghost use Rattle.std.specs.Int.{bit_at};
-ghost use Rattle.inode_table.specs.Masks.{IsFree};
+ghost use Rattle.inode_table.specs.Masks.{IsFree, fino_of, unused_chunk};
 
 use ino_recs::InoRec;
 
@@ -94,7 +94,7 @@ pub fn give(rec: &InoRec, slot: u8) -> InoRec
 /// What the btree of chunks with free inodes has of a chunk: its record, or none where no inode of it
 /// is free (XFS Algorithms and Data Structures, "Inode B+trees").
 pub fn fino_record(rec: &InoRec) -> Option<InoRec>
-    ensures { result ≡ (if rec.now.freecount == 0 then None else Some rec.now) }
+    ensures { result ≡ fino_of rec.now }
 {
     if rec.freecount == 0 {
         return None;
@@ -106,7 +106,7 @@ pub fn fino_record(rec: &InoRec) -> Option<InoRec>
 /// (XFS Algorithms and Data Structures, "Inode Allocation").
 pub fn fresh_chunk(block: u32) -> InoRec
     requires { block < 2 ^ 29 }
-    ensures { result ≡ record { startino = 8 * block; holemask = 0; count = 64; freecount = 64; free = 2 ^ 64 - 1 } }
+    ensures { result ≡ unused_chunk block }
 {
     InoRec {
         startino: BLOCK_INODES * block,

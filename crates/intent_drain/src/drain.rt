@@ -114,6 +114,7 @@ impl Drain {
         requires room { length (holds_of self.old) < vec_capacity self.old.holds }
         ensures held { holds_of self.new ≡ holds_of self.old ++ record { ino = ino; holder = holder } ∷ [] }
         ensures exact { (i : ℕ) → holder_in (holds_of self.new) i ≡ (if i == ino then Some holder else holder_in (holds_of self.old) i) }
+        ensures room { vec_capacity self.new.holds ≡ vec_capacity self.old.holds }
         ensures gates { SameGates self.old self.new }
         ensures chains { SameChains self.old self.new }
     {
@@ -124,6 +125,7 @@ impl Drain {
     pub fn let_go(&mut self, ino: u64)
         ensures left { holds_of self.new ≡ without (holds_of self.old) ino }
         ensures exact { (i : ℕ) → holder_in (holds_of self.new) i ≡ (if i == ino then None else holder_in (holds_of self.old) i) }
+        ensures room { vec_capacity self.new.holds ≡ vec_capacity self.old.holds }
         ensures gates { SameGates self.old self.new }
         ensures chains { SameChains self.old self.new }
     {

@@ -1,5 +1,5 @@
-ghost use Rattle.std.specs.Prelude.{◌≡◌, ◌<◌, ◌≤◌, ◌+◌, ◌-◌, ◌^◌, sum_by, reverse, length};
-ghost use Rattle.root_switch.specs.Totals.{last_count};
+ghost use Rattle.std.specs.Prelude.{◌≡◌, ◌<◌, ◌≤◌, ◌+◌, ◌^◌, sum_by, reverse, length};
+ghost use Rattle.root_switch.specs.Totals.{beside_roots, last_count};
 
 use ino_recs::InoRec;
 use span_recs::SpanRec;
@@ -64,7 +64,7 @@ pub fn blocks_beside_roots(bno: u32, cnt: u32, rmap: u32) -> u32
     requires cnt { 0 < cnt }
     requires rmap { 0 < rmap }
     requires fits { bno + cnt + rmap < 2 ^ 32 }
-    ensures { result ≡ (bno - 1) + (cnt - 1) + (rmap - 1) }
+    ensures { result ≡ beside_roots bno cnt rmap }
 {
     (bno - 1) + (cnt - 1) + (rmap - 1)
 }

@@ -1,3 +1,5 @@
 pub mod Forks
 pub mod Groups
+pub mod Inodes
 pub mod Limbo
+pub mod Switches

@@ -1,11 +1,15 @@
 ghost use Rattle.std.specs.Prelude.{◌≡◌, ◌-◌, ℕ, List, length, take};
+ghost use Rattle.dinode_core.specs.declared.inode.Core3.{Core3};
+ghost use Rattle.fs_change.specs.Marks.{longest_list};
 ghost use Rattle.fs_change.specs.Step.{to_trim};
 ghost use Rattle.span_recs.specs.declared.refcount.RefcRec.{RefcRec};
 ghost use Rattle.rule_laws.specs.Forks.{AddsAlike, ConvertsAlike, OccupiedAlike, PieceAlike, TakesAlike};
 ghost use Rattle.rule_laws.specs.Groups.{ChoosesAlike, CountsAlike, QuietAlike};
+ghost use Rattle.rule_laws.specs.Inodes.{CoresAlike, FindsLowest, FindsNone, GivesInode, MakesAlike, TakesInode, TurnsAlike};
 ghost use Rattle.rule_laws.specs.Limbo.{LeavesAlike, LongestAlike, OwnersAlike};
+ghost use Rattle.rule_laws.specs.Switches.{LastIsGreatest, SumsAlike, SwitchesAlike};
 
-use free_space::WANTED_LISTED;
+use free_space::{MOST_LISTED, WANTED_LISTED};
 
 /// A law: a mapping that the rule adds to a fork's list in order makes the list that a step has, and the
 /// rule finds an offset occupied where a step would not find all of the mapping's free
@@ -28,10 +32,11 @@ pub fn converts_alike()
     ensures { ConvertsAlike }
 {}
 
-/// A law: the entries that the rule gives back of a free list are those that a step may trim
-/// (XFS Algorithms and Data Structures, "AG Free List").
+/// A law: the entries that the rule gives back of a free list are those that a step may trim, of a list
+/// with more blocks than one that isn't trimmed (XFS Algorithms and Data Structures, "AG Free List").
 pub fn trims_alike()
-    ensures { (list : List ℕ) → take (length list - WANTED_LISTED) list ≡ to_trim list }
+    ensures given { (list : List ℕ) → take (length list - WANTED_LISTED) list ≡ to_trim list }
+    ensures longest { MOST_LISTED ≡ longest_list }
 {}
 
 /// A law: the run that the rule chooses of groups is the one that a step takes of the usable ones, and it
@@ -64,4 +69,42 @@ pub fn leaves_alike()
 /// (XFS Algorithms and Data Structures, "AG Free Space Block").
 pub fn switches_alike()
     ensures { LongestAlike }
+{}
+
+/// A law: the totals of free space that the rule tells of the records by count are those of a step: all
+/// their blocks, and those of the longest run
+/// (XFS Algorithms and Data Structures, "AG Free Space Block").
+pub fn totals_alike()
+    ensures sums { SumsAlike }
+    ensures longest { LastIsGreatest }
+{}
+
+/// A law: each counter of the heads that the rule makes is the one of the state that a switch reaches, where
+/// the rule is given the blocks of the new trees and the totals of what they hold
+/// (XFS Algorithms and Data Structures, "AG Free Space Block", "AG Inode Management").
+pub fn counters_alike()
+    ensures { SwitchesAlike }
+{}
+
+/// A law: the record of a chunk of which the rule takes an inode, or gives one back, is the one that a step
+/// has, and the lowest free inode is the same
+/// (XFS Algorithms and Data Structures, "Inode B+trees").
+pub fn inodes_alike()
+    ensures taken { TakesInode }
+    ensures given { GivesInode }
+    ensures lowest { FindsLowest }
+    ensures none { FindsNone }
+{}
+
+/// A law: both inode btrees after a step have what the rule tells of the chunk, and a new chunk's record
+/// is the rule's (XFS Algorithms and Data Structures, "Inode B+trees", "Inode Allocation").
+pub fn chunks_alike()
+    ensures turned { TurnsAlike }
+    ensures made { MakesAlike }
+{}
+
+/// A law: the cores that the rule makes of an inode that is taken, given back, or made with its chunk are
+/// those that a step has (XFS Algorithms and Data Structures, "On-disk Inode").
+pub fn cores_alike()
+    ensures { (core : Core3) (uid ino : ℕ) (uuid : List ℕ) → CoresAlike core uid ino uuid }
 {}

@@ -1,5 +1,7 @@
-use defer_chain::{Chain, ChainInode};
+use defer_chain::{Chain, ChainInode, Stretch, first_stretch};
+use fs_state::{Intent, IntentKind};
 use intent_drain::{Drain, Gate, Holder};
+use span_recs::RefcRec;
 use std::test::Fail;
 
 const INODE: ChainInode = ChainInode { ino: 195, uid: 7 };
@@ -64,5 +66,89 @@ fn sixteen_chains_are_open_at_most(rt: HostRuntime) -> Result<(), Fail> {
     assert_eq!(rt; drain.free_number(), Some(4));
     assert!(rt; drain.chain(3).is_some());
     assert!(rt; drain.chain(16).is_none());
+    Ok(())
+}
+
+// A chain that owes one reverse mapping to the group.
+#[tactic(auto, unfolding(defer_chain::specs::Steps::in_order))]
+fn owing(group: u32) -> Chain {
+    let mut chain = Chain::new(1, INODE, None);
+    chain.put(&[Intent {
+        kind: IntentKind::RmapAdd,
+        ino: 195,
+        word: 0,
+        group,
+        block: 40,
+        count: 1,
+    }]);
+    chain
+}
+
+#[test]
+fn a_group_closes_once_no_chain_owes_it_anything(rt: HostRuntime) -> Result<(), Fail> {
+    let mut drain = Drain::new(rt.alloc(), 65_536)?;
+    drain.set_chain(15, Some(owing(65_535)));
+    assert_eq!(rt; drain.close(65_535), Err(1));
+    assert_eq!(rt; drain.gate(65_535), Gate::Closing);
+    assert_eq!(rt; drain.close(0), Ok(()));
+    drain.set_chain(0, Some(owing(65_535)));
+    assert_eq!(rt; drain.close(65_535), Err(2));
+    drain.set_chain(15, None);
+    drain.set_chain(0, None);
+    assert_eq!(rt; drain.close(65_535), Ok(()));
+    assert_eq!(rt; drain.gate(65_535), Gate::Closed);
+    Ok(())
+}
+
+#[test]
+fn the_scan_holds_an_inode_like_a_chain(rt: HostRuntime) -> Result<(), Fail> {
+    let mut drain = Drain::new(rt.alloc(), 1)?;
+    drain.hold(u64::MAX, Holder::Scan);
+    assert_eq!(rt; drain.holder(u64::MAX), Some(Holder::Scan));
+    assert_eq!(rt; drain.holder(0), None);
+    drain.let_go(0);
+    assert_eq!(rt; drain.holder(u64::MAX), Some(Holder::Scan));
+    Ok(())
+}
+
+#[test]
+fn counts_below_at_and_above_the_cap_are_told(rt: HostRuntime) -> Result<(), Fail> {
+    for owners in [2, 4_294_967_199, 4_294_967_200, u32::MAX] {
+        let over = RefcRec {
+            start: 40,
+            count: 1,
+            refcount: owners,
+        };
+        assert_eq!(rt;
+            first_stretch(40, 1, Some(over), None),
+            Stretch { count: 1, owners }
+        );
+    }
+    Ok(())
+}
+
+#[test]
+fn a_stretch_ends_with_its_record_and_before_the_next(rt: HostRuntime) -> Result<(), Fail> {
+    for (count, stretch) in [(1, 1), (7, 7), (8, 8), (9, 8), (2_097_151, 8)] {
+        assert_eq!(rt;
+            first_stretch(40, count, None, Some(48)),
+            Stretch {
+                count: stretch,
+                owners: 1
+            }
+        );
+        let over = RefcRec {
+            start: 32,
+            count: 16,
+            refcount: 3,
+        };
+        assert_eq!(rt;
+            first_stretch(40, count, Some(over), None),
+            Stretch {
+                count: stretch,
+                owners: 3
+            }
+        );
+    }
     Ok(())
 }

@@ -7,6 +7,8 @@ mod chains;
 #[cfg(test)]
 mod chunks;
 #[cfg(test)]
+mod fork_refusals;
+#[cfg(test)]
 mod forks;
 #[cfg(test)]
 mod heads;
@@ -16,3 +18,5 @@ mod limbo;
 mod rows;
 #[cfg(test)]
 mod space;
+#[cfg(test)]
+mod space_refusals;

@@ -1,6 +1,7 @@
-use block_reap::{LimboRun, next, unit_owner};
+use block_reap::{LimboRun, Memory, next, put, unit_owner};
 use fs_model::Unit;
 use rmap_recs::Owner;
+use std::alloc::Global;
 use std::test::Fail;
 
 const AG: u64 = 0xffff_ffff_ffff_fffb;
@@ -37,6 +38,30 @@ fn owners_of_what_a_switch_leaves(rt: HostRuntime) -> Result<(), Fail> {
     ];
     for (unit, owner) in rows {
         assert_eq!(rt; unit_owner(unit), owner);
+    }
+    Ok(())
+}
+
+// What is reaped next once one block waits; none where it has no number behind it.
+fn reaped(alloc: Global, block: u32, owner: u64) -> Result<Option<LimboRun>, Memory> {
+    if block == u32::MAX {
+        return Ok(None);
+    }
+    let mut limbo = Vec::with_capacity(alloc, 1)?;
+    put(&mut limbo, block, owner);
+    Ok(next(&limbo))
+}
+
+#[test]
+fn a_block_that_waits_is_reaped_with_its_owner(rt: HostRuntime) -> Result<(), Fail> {
+    let rows = [
+        (0, AG, Some(run(0, 1, AG))),
+        (268_435_455, INOBT, Some(run(268_435_455, 1, INOBT))),
+        (4_294_967_294, 0, Some(run(4_294_967_294, 1, 0))),
+        (u32::MAX, AG, None),
+    ];
+    for (block, owner, found) in rows {
+        assert_eq!(rt; reaped(rt.alloc(), block, owner), Ok(found));
     }
     Ok(())
 }
