@@ -62,7 +62,7 @@ module _ (a x : State) (g : ℕ) (at : x.geometry ≡ a.geometry) (fork : x.fork
       ++ flat_map (λ ino. mapping_claims (at i) g (Attr ino) ino attribute (read_fork (fork i ino forks.Attr)).mappings) (inodes_same i)
       ++ flat_map (λ ino. fork_tree_claims (at i) g ino 0 (read_fork (fork i ino forks.Data)).blocks ++ fork_tree_claims (at i) g ino attribute (read_fork (fork i ino forks.Attr)).blocks) (inodes_same i)
 
-  claims_same : claims x g ≡ claims a g
+  pub claims_same : claims x g ≡ claims a g
   unfolding claims
   claims_same = λ i. metadata_same i ++ forks_same i
 
@@ -88,7 +88,7 @@ edit_parts left k f p = by (is_edited left p k)
     by true = record { list = refl; blocks = λ j. blocks_in_tree k j (record (p.tree k) { reading = with_recs (f (recs_of (p.tree k).reading)) (p.tree k).reading }) p.tree (recs_put (f (recs_of (p.tree k).reading)) (p.tree k).reading); reserve = refl; limbo = refl }
     by false = same_parts p
 
-own_group : (g : ℕ) (f : Group → Group) (a : State) → SameParts (a.group g) (f (a.group g)) → SameParts (a.group g) ((in_group g f a).group g)
+pub own_group : (g : ℕ) (f : Group → Group) (a : State) → SameParts (a.group g) (f (a.group g)) → SameParts (a.group g) ((in_group g f a).group g)
 own_group g f a s = subst (SameParts (a.group g)) (sym (ap (λ t. cond t (f (a.group g)) (a.group g)) (eq-eqb g g refl))) s
 
 -- ---- steps

@@ -1,15 +1,15 @@
-mod Blocks
+pub mod Blocks
 pub mod Covers
 mod First
-mod Follow
+pub mod Follow
 pub mod Framed
 pub mod Free
-mod Guards
+pub mod Guards
 mod Holders
 mod Lists
-mod Mappings
-mod Runs
-mod Shapes
+pub mod Mappings
+pub mod Runs
+pub mod Shapes
 pub mod Spans
-mod Stated
+pub mod Stated
 pub mod Sums

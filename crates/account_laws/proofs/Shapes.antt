@@ -52,7 +52,7 @@ rest_stays i rest c h =
 
 -- ---- a stretch of a count
 
-none_behind : (more : Bool) (k : IntentKind) (rest : List Intent) → is_ref more k ≡ true → IsShape (k ∷ kinds rest) → rest ≡ []
+pub none_behind : (more : Bool) (k : IntentKind) (rest : List Intent) → is_ref more k ≡ true → IsShape (k ∷ kinds rest) → rest ≡ []
 none_behind true RefMore [] h s = refl
 none_behind false RefLess [] h s = refl
 none_behind true RefMore (j ∷ rest) h s = absurd s

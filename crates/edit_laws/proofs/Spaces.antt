@@ -98,7 +98,7 @@ module _ (rs : List SpanRec) (run s : SpanRec) (apart : AreApart 0 rs) (pos : 0 
       put_apart front 0 (put_all by_start (only_if k back) rest) (with_back k f) (omega arith) (omega (arith, lt)) (front_gap lt k f)
   with_both false k e f = with_back k f
 
-take_apart : (rs : List SpanRec) (run : SpanRec) → AreApart 0 rs → 0 < run.count → is_some (holder_of rs run) ≡ true → AreApart 0 (take_span by_start rs run rs)
+pub take_apart : (rs : List SpanRec) (run : SpanRec) → AreApart 0 rs → 0 < run.count → is_some (holder_of rs run) ≡ true → AreApart 0 (take_span by_start rs run rs)
 unfolding take_span
 take_apart rs run apart pos some =
     let w = whole_of (holder_of rs run) some in
@@ -295,13 +295,13 @@ module _ (rs : List SpanRec) (run : SpanRec) (apart : AreApart 0 rs) (pos : 0 < 
         some_blocks : (m n : ℕ) → 0 < m + run.count + n
         some_blocks m n = omega (arith, pos)
 
-    give_apart : AreApart 0 (give_span by_start rs run rs)
+    pub give_apart : AreApart 0 (give_span by_start rs run rs)
     unfolding give_span
     give_apart = given_by (before_run rs run) (behind_run rs run) (is_before (before_run rs run) refl) (is_behind (behind_run rs run) refl)
 
 -- ---- which blocks lie in them
 
-apart_maximal : (from : ℕ) (rs : List SpanRec) → AreApart from rs → AreMaximal from (map run_of rs)
+pub apart_maximal : (from : ℕ) (rs : List SpanRec) → AreApart from rs → AreMaximal from (map run_of rs)
 apart_maximal from [] h = tt
 apart_maximal from (r ∷ rs) h = (h.0, h.1, apart_maximal (r.start + r.count + 1) rs h.2)
 
@@ -317,7 +317,7 @@ module _ (b : ℕ) where
       zero_more : (m : ℕ) → m ≡ 0 + m
       zero_more m = omega arith
 
-  has_spans : (rs : List SpanRec) → holds (map run_of rs) b ≡ nat_lt 0 (spans_at rs b)
+  pub has_spans : (rs : List SpanRec) → holds (map run_of rs) b ≡ nat_lt 0 (spans_at rs b)
   has_spans [] = refl
   has_spans (r ∷ rs) = one_more (in_span r.start r.count b) (holds (map run_of rs) b) (spans_at rs b) (has_spans rs)
 
@@ -325,7 +325,7 @@ module _ (b : ℕ) where
   any_covers [] = refl
   any_covers (r ∷ ms) = one_more (in_span r.start r.count b) (list_any (covers b) ms) (covers_at ms b) (any_covers ms)
 
-  free_covers : (ms : List RmapRec) → is_free ms b ≡ not (nat_lt 0 (covers_at ms b))
+  pub free_covers : (ms : List RmapRec) → is_free ms b ≡ not (nat_lt 0 (covers_at ms b))
   unfolding is_free
   free_covers ms = ap not (any_covers ms)
 

@@ -57,7 +57,7 @@ pub stands_by : (a x b : State) (g : ℕ) (left : List Kind) (h : ℕ) (unit : S
 stands_by a x b g left h unit splits l holds trusted =
     holds_alike x b splits (none_moves_from a x b g left l splits) h unit (holds (subst (λ (p : Group). TrustedIn p unit) (same_group a x b g left l h) trusted))
 
-reading_trusted : (t : Trust) (k j : Kind) (p : Group) → ((set_trust t k p).tree j).reading ≡ (p.tree j).reading
+pub reading_trusted : (t : Trust) (k j : Kind) (p : Group) → ((set_trust t k p).tree j).reading ≡ (p.tree j).reading
 reading_trusted t Bno Bno p = refl
 reading_trusted t Cnt Cnt p = refl
 reading_trusted t Rmap Rmap p = refl
@@ -66,13 +66,13 @@ reading_trusted t Ino Ino p = refl
 reading_trusted t Fino Fino p = refl
 reading_trusted t k j p = refl
 
-one_trusted : (t : Trust) (k : Kind) (p : Group) → AlikeGroup p (set_trust t k p)
+pub one_trusted : (t : Trust) (k : Kind) (p : Group) → AlikeGroup p (set_trust t k p)
 one_trusted t k p = record { list = refl; counters = refl; reading = λ j. reading_trusted t k j p; reserve = refl; limbo = refl }
 
 then_trusted : (t : Trust) (k : Kind) (p q : Group) → AlikeGroup p q → AlikeGroup p (set_trust t k q)
 then_trusted t k p q o = record { list = o.list; counters = o.counters; reading = λ j. reading_trusted t k j q ∙ o.reading j; reserve = o.reserve; limbo = o.limbo }
 
-all_trusted : (t : Trust) (ks : List Kind) (p : Group) → AlikeGroup p (set_trusts t ks p)
+pub all_trusted : (t : Trust) (ks : List Kind) (p : Group) → AlikeGroup p (set_trusts t ks p)
 all_trusted t [] p = only_same p
 all_trusted t (k ∷ ks) p = then_trusted t k p (set_trusts t ks p) (all_trusted t ks p)
 

@@ -1,12 +1,12 @@
-mod Ending
-mod Groups
-mod Keeping
-mod Listed
-mod Made
-mod Owners
-mod Pieces
-mod Releases
-mod Same
-mod Switches
-mod Totals
-mod Units
+pub mod Ending
+pub mod Groups
+pub mod Keeping
+pub mod Listed
+pub mod Made
+pub mod Owners
+pub mod Pieces
+pub mod Releases
+pub mod Same
+pub mod Switches
+pub mod Totals
+pub mod Units

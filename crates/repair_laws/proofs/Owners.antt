@@ -47,7 +47,7 @@ use Rattle.repair_laws.proofs.Units.{maps_good}
 
 -- ---- how often a number stands in a list
 
-times_both : (b : ℕ) (xs ys : List ℕ) → times b (xs ++ ys) ≡ times b xs + times b ys
+pub times_both : (b : ℕ) (xs ys : List ℕ) → times b (xs ++ ys) ≡ times b xs + times b ys
 times_both b [] ys = zero_more (times b ys)
   where
     zero_more : (n : ℕ) → n ≡ 0 + n
@@ -184,7 +184,7 @@ pub is_not : (k : Bool) → not k ≡ true → k ≡ false
 is_not true h = absurd (true≢false (sym h))
 is_not false h = refl
 
-lies_inside : (len b : ℕ) (cs : List Claimed) → list_all (λ c. nat_lt c.block len) cs ≡ true → 1 ≤ weigh (owned_by b) cs → b < len
+pub lies_inside : (len b : ℕ) (cs : List Claimed) → list_all (λ c. nat_lt c.block len) cs ≡ true → 1 ≤ weigh (owned_by b) cs → b < len
 lies_inside len b [] h some = absurd (omega (arith, some))
 lies_inside len b (c ∷ cs) h some =
     let p = and_parts (nat_lt c.block len) (list_all (λ x. nat_lt x.block len) cs) h in

@@ -63,16 +63,16 @@ elsewhere_keeps a b left e h unit splits s chunks none out stands = beside a b l
 
 -- ---- counters of inodes
 
-follow_same : (c n : ℕ) → c < 2 ^ 32 → follow c n n ≡ c
+pub follow_same : (c n : ℕ) → c < 2 ^ 32 → follow c n n ≡ c
 follow_same c n h = omega (arith, h)
 
 -- a counter of blocks stays where its tree does
-kept_count : (kept : Bool) (c n m : ℕ) → c < 2 ^ 32 → m ≡ n → (if kept then follow c n m else c) ≡ c
+pub kept_count : (kept : Bool) (c n m : ℕ) → c < 2 ^ 32 → m ≡ n → (if kept then follow c n m else c) ≡ c
 kept_count true c n m h e = ap (λ (x : ℕ). follow c n x) e ∙ follow_same c n h
 kept_count false c n m h e = refl
 
 -- the four counters of inodes are the same
-record SameCounts (p q : Group) : Type 0 where
+pub record SameCounts (p q : Group) : Type 0 where
   pub count : q.counters Count ≡ p.counters Count
   pub free : q.counters Freecount ≡ p.counters Freecount
   pub ino : q.counters Iblocks ≡ p.counters Iblocks
@@ -84,7 +84,7 @@ none_counted p = record { count = refl; free = refl; ino = refl; fino = refl }
 both_counted : (p q r : Group) → SameCounts p q → SameCounts q r → SameCounts p r
 both_counted p q r s t = record { count = t.count ∙ s.count; free = t.free ∙ s.free; ino = t.ino ∙ s.ino; fino = t.fino ∙ s.fino }
 
-moves_counted : (kept : Bool) (left ks : List Kind) (p q : Group) → Inside kept left ks p q → q.tree Ino ≡ p.tree Ino → q.tree Fino ≡ p.tree Fino → p.counters Iblocks < 2 ^ 32 → p.counters Fblocks < 2 ^ 32 → SameCounts p q
+pub moves_counted : (kept : Bool) (left ks : List Kind) (p q : Group) → Inside kept left ks p q → q.tree Ino ≡ p.tree Ino → q.tree Fino ≡ p.tree Fino → p.counters Iblocks < 2 ^ 32 → p.counters Fblocks < 2 ^ 32 → SameCounts p q
 moves_counted kept left [] p q i ino fino c d = subst (SameCounts p) (sym i) (none_counted p)
 moves_counted kept left (k ∷ ks) p q i ino fino c d = record {
   count = ap (λ (r : Group). r.counters Count) i.is;
@@ -122,7 +122,7 @@ owned_counted left units.Refc e true p = given_counted left (unit_owner units.Re
 owned_counted left units.Inode e false p = both_counted p (take_owner left (number_of Ag) e p) _ (taken_counted left (number_of Ag) e p) (given_counted left (unit_owner units.Inode) e (take_owner left (number_of Ag) e p))
 owned_counted left units.Refc e false p = both_counted p (take_owner left (number_of Ag) e p) _ (taken_counted left (number_of Ag) e p) (given_counted left (unit_owner units.Refc) e (take_owner left (number_of Ag) e p))
 
-reserved_counted : (left : List Kind) (g : ℕ) (unit : ScrubUnit) (block : ℕ) (spare : Bool) (a : State) → SameCounts (a.group g) ((reserved left g unit block spare a).group g)
+pub reserved_counted : (left : List Kind) (g : ℕ) (unit : ScrubUnit) (block : ℕ) (spare : Bool) (a : State) → SameCounts (a.group g) ((reserved left g unit block spare a).group g)
 unfolding reserved
 reserved_counted left g unit block spare a =
     let p : Group = a.group g in
@@ -143,7 +143,7 @@ reaped_in left owner e p =
     by true s = s
     by false s = record { count = s.count; free = s.free; ino = s.ino; fino = s.fino }
 
-reaped_counted : (left : List Kind) (owner : ℕ) (e : Extent) (a : State) → SameCounts (a.group e.group) ((reaped left owner e a).group e.group)
+pub reaped_counted : (left : List Kind) (owner : ℕ) (e : Extent) (a : State) → SameCounts (a.group e.group) ((reaped left owner e a).group e.group)
 unfolding reaped
 reaped_counted left owner e a = subst (SameCounts (a.group e.group)) (sym (in_own_group e.group (reap_in left owner e) a)) (reaped_in left owner e (a.group e.group))
 

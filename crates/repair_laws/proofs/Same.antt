@@ -75,7 +75,7 @@ sum_same : (f h : ℕ → ℕ) (xs : List ℕ) → ((x : ℕ) → In x xs → f 
 sum_same f h [] e = refl
 sum_same f h (x ∷ xs) e = sum_by-cons f x xs ∙ ap₂ (λ (m n : ℕ). m + n) (e x (inl refl)) (sum_same f h xs (λ y i. e y (inr i))) ∙ sym (sum_by-cons h x xs)
 
-in_numbers : (from n x : ℕ) → In x (numbers from n) → x < from + n
+pub in_numbers : (from n x : ℕ) → In x (numbers from n) → x < from + n
 in_numbers from zero x i = absurd i
 in_numbers from (suc n) x (inl e) = omega (arith, e)
 in_numbers from (suc n) x (inr i) = let h = in_numbers (from + 1) n x i in omega (arith, h)
@@ -90,7 +90,7 @@ passes p (y ∷ ys) x i = (elim (p y) as (λ b. p y ≡ b → In x (cond b (y �
   | false ↦ λ e j. let r = passes p ys x j in (r.0, inr r.1)
 ]) refl i
 
-in_map : (f : ℕ → ℕ) (xs : List ℕ) (y : ℕ) → In y (map f xs) → (x : ℕ) × In x xs × (f x ≡ y)
+pub in_map : (f : ℕ → ℕ) (xs : List ℕ) (y : ℕ) → In y (map f xs) → (x : ℕ) × In x xs × (f x ≡ y)
 in_map f [] y i = absurd i
 in_map f (x ∷ xs) y (inl e) = (x, inl refl, e)
 in_map f (x ∷ xs) y (inr i) = let r = in_map f xs y i in (r.0, inr r.1, r.2)
@@ -100,7 +100,7 @@ in_both [] ys x i = inr i
 in_both (y ∷ xs) ys x (inl e) = inl (inl e)
 in_both (y ∷ xs) ys x (inr i) = elim (in_both xs ys x i) [ inl h ↦ inl (inr h) | inr h ↦ inr h ]
 
-in_flat : (f : ℕ → List ℕ) (xs : List ℕ) (y : ℕ) → In y (flat_map f xs) → (x : ℕ) × In x xs × In y (f x)
+pub in_flat : (f : ℕ → List ℕ) (xs : List ℕ) (y : ℕ) → In y (flat_map f xs) → (x : ℕ) × In x xs × In y (f x)
 in_flat f [] y i = absurd i
 in_flat f (x ∷ xs) y i = elim (in_both (f x) (flat_map f xs) y i) [
   | inl h ↦ (x, inl refl, h)

@@ -40,7 +40,7 @@ rest_false : (a b : Bool) → (a || b) ≡ false → b ≡ false
 rest_false true b h = absurd (true≢false h)
 rest_false false b h = h
 
-tree_other : (k j : Kind) (i : Index (RecOf k)) (f : (l : Kind) → Index (RecOf l)) → (number_of k == number_of j) ≡ false → tree_only k i f j ≡ f j
+pub tree_other : (k j : Kind) (i : Index (RecOf k)) (f : (l : Kind) → Index (RecOf l)) → (number_of k == number_of j) ≡ false → tree_only k i f j ≡ f j
 tree_other Bno Bno i f h = absurd (true≢false h)
 tree_other Cnt Cnt i f h = absurd (true≢false h)
 tree_other Rmap Rmap i f h = absurd (true≢false h)
@@ -53,7 +53,7 @@ held_other : (recs : (k : Kind) → List (RecOf k)) (ks : List Kind) (p : Group)
 held_other recs [] p j h = refl
 held_other recs (k ∷ ks) p j h = tree_other k j _ (hold recs ks p).tree (first_false _ (is_among j ks) h) ∙ held_other recs ks p j (rest_false _ (is_among j ks) h)
 
-placed_other : (blocks : Kind → List ℕ) (ks : List Kind) (p : Group) (j : Kind) → is_among j ks ≡ false → (in_trees blocks ks p).tree j ≡ p.tree j
+pub placed_other : (blocks : Kind → List ℕ) (ks : List Kind) (p : Group) (j : Kind) → is_among j ks ≡ false → (in_trees blocks ks p).tree j ≡ p.tree j
 placed_other blocks [] p j h = refl
 placed_other blocks (k ∷ ks) p j h = tree_other k j _ (in_trees blocks ks p).tree (first_false _ (is_among j ks) h) ∙ placed_other blocks ks p j (rest_false _ (is_among j ks) h)
 
@@ -213,7 +213,7 @@ switched_keeps a b left g own root second h unit splits s chunks where_is stands
 
 -- ---- what a switch makes
 
-reading_of : {R : Type 0} (r : Reading R) → is_readable r ≡ true → r ≡ Readable (recs_of r) (blocks_of r)
+pub reading_of : {R : Type 0} (r : Reading R) → is_readable r ≡ true → r ≡ Readable (recs_of r) (blocks_of r)
 reading_of (Readable recs blocks) h = refl
 reading_of (Unreadable block fault claims) h = absurd (true≢false (sym h))
 

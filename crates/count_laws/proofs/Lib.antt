@@ -1,0 +1,5 @@
+pub mod Counts
+pub mod Lists
+pub mod Shown
+mod Stated
+mod Steps

@@ -1,0 +1,4 @@
+mod Finished
+mod Members
+mod Nobodys
+mod Others

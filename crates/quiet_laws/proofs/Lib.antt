@@ -1,0 +1,5 @@
+mod Counts
+mod Few
+mod Ordered
+mod Owners
+mod Whole
