@@ -12,8 +12,8 @@ import sys
 
 sys.dont_write_bytecode = True
 
-from xfs_forks import BTREE, EXTENTS, FORMAT, LITERAL, NUMBER, Fork
-from xfs_formats import INODE
+from xfs_forks import group_block, level_sizes, put_literal, write_tree
+from xfs_formats import BTREE, CORE
 from xfs_image import Image
 from thin_files import files_of
 
@@ -23,12 +23,13 @@ FIRST_BLOCK, SHARED_BLOCKS = 64, 10000
 def main():
     image, mappings = Image.opened(sys.argv[1]), int(sys.argv[2])
     block, at = next(files_of(image))
-    fork = Fork(image, image.get(block, NUMBER, at), 1, FIRST_BLOCK)
-    entries = [(2 * i, 2 << fork.bits | FIRST_BLOCK + i % SHARED_BLOCKS) for i in range(mappings)]
-    area = fork.area(entries)
-    image.block(block)[at + LITERAL : at + INODE] = area
-    image.put(block, FORMAT, BTREE, at)
-    image.set(block, EXTENTS, mappings, at)
+    number = image.get(block, CORE["number"], at)
+    first, shared = (group_block(image, group, FIRST_BLOCK) for group in (1, 2))
+    entries = [(2 * i, shared + i % SHARED_BLOCKS, 1, 0) for i in range(mappings)]
+    sizes = level_sizes(mappings)
+    put_literal(image, number, 0, write_tree(image, number, entries, sizes, range(first, first + sum(sizes))))
+    image.put(block, CORE["format"], BTREE, at)
+    image.set(block, CORE["nextents"], mappings, at)
     image.save()
 
 

@@ -25,7 +25,7 @@ room=$(mktemp -d) || exit 1
 trap 'rm -rf -- "$room"' EXIT
 cd -- "$room" || exit 1
 
-for part in cases heads trees records xfsprogs; do
+for part in cases heads trees records inodes forks xfsprogs damages fields; do
   # shellcheck disable=SC1090
   . "$top/tests/images/$part.sh"
 done
@@ -47,9 +47,9 @@ three_levels
 by_hand
 records
 sharing
-inode_faults
-evidence
 counters
+inodes
+forks
 groups
 full_journal
 
@@ -58,7 +58,10 @@ if ! command -v mkfs.xfs >/dev/null || ! command -v xfs_db >/dev/null; then
     { apt-get update && apt-get install -y xfsprogs; } >>apt.log 2>&1 </dev/null
 fi
 if command -v mkfs.xfs >/dev/null && command -v xfs_db >/dev/null; then
+  pieces_by_db
   new_images
+  aged_images
+  damages
   for image in "${images[@]}"; do
     used "$image"
   done

@@ -9,9 +9,18 @@ from typing import Callable
 
 BLOCK, SECTOR, INODE = 4096, 512, 512
 NONE = 0xFFFFFFFF
-UNWRITTEN = 1 << 61
-INODE_CHECKSUM = 100
-OWNER_FS, OWNER_AG, OWNER_INOBT, OWNER_INODES, OWNER_REFC = ((1 << 64) - n for n in (3, 5, 6, 7, 8))
+ATTRIBUTE, FORK_TREE, UNWRITTEN = 1 << 63, 1 << 62, 1 << 61
+OWNER_FS, OWNER_LOG, OWNER_AG, OWNER_INOBT, OWNER_INODES, OWNER_REFC, OWNER_COW = ((1 << 64) - n for n in range(3, 10))
+# the names of these owners in a report
+SPECIAL_OWNERS = {
+    OWNER_FS: "fs",
+    OWNER_LOG: "log",
+    OWNER_AG: "ag",
+    OWNER_INOBT: "inobt",
+    OWNER_INODES: "inodes",
+    OWNER_REFC: "refc",
+    OWNER_COW: "cow",
+}
 
 
 def table_of_checksums():
@@ -24,6 +33,8 @@ def table_of_checksums():
 
 
 CHECKSUMS = table_of_checksums()
+# byte k of each number of the table
+CHECKSUM_BYTES = [bytes(number >> 8 * k & 0xFF for number in CHECKSUMS) for k in range(4)]
 
 
 def crc32c(data):
@@ -32,6 +43,24 @@ def crc32c(data):
     for byte in data:
         register = register >> 8 ^ CHECKSUMS[(register ^ byte) & 0xFF]
     return register ^ 0xFFFFFFFF
+
+
+def row_of(data):
+    return int.from_bytes(data, "little")
+
+
+def crc32c_of_each(parts):
+    """The Castagnoli checksums of parts of one length. Many are summed at a time, byte by byte, which is faster."""
+    if len(parts) < 32:
+        return [crc32c(part) for part in parts]
+    joined, many, size = b"".join(parts), len(parts), len(parts[0])
+    register = [row_of(b"\xff" * many)] * 4  # the lowest byte of each first
+    for place in range(size):
+        index = (register[0] ^ row_of(joined[place::size])).to_bytes(many, "little")
+        shifted = [row_of(index.translate(table)) for table in CHECKSUM_BYTES]
+        register = [above ^ byte for above, byte in zip(register[1:], shifted)] + shifted[3:]
+    rows = [row.to_bytes(many, "little") for row in register]
+    return [row_of(of) ^ NONE for of in zip(*rows)]
 
 
 @dataclass(frozen=True)
@@ -106,6 +135,38 @@ AGFL = Head(
 )
 HEADS = {"sb": SUPERBLOCK, "agf": AGF, "agi": AGI, "agfl": AGFL}
 
+# the core of an inode, as far as it isn't all zeros here
+CORE = (
+    numbers(0, "magic", "mode", width=2)
+    | numbers(4, "version", "format", width=1)
+    | numbers(16, "nlink")
+    | numbers(24, "big_nextents", width=8)
+    | numbers(56, "size", "nblocks", width=8)
+    | numbers(76, "nextents")
+    | numbers(80, "anextents", width=2)
+    | numbers(82, "forkoff", "aformat", width=1)
+    | numbers(96, "next_unlinked")
+    | numbers(120, "flags2", width=8)
+    | numbers(152, "number", width=8)
+    | numbers(160, "uuid", width=16)
+)
+CORE_MAGIC, INODE_CHECKSUM = b"IN", 100
+DEVICE, LOCAL, EXTENTS, BTREE = range(4)
+DIRECTORY, FILE = 0o40755, 0o100644
+SHARES_BLOCKS = 2  # of flags2
+LITERAL, LITERAL_SIZE = 176, INODE - 176
+
+# the header of a block of a fork's btree
+FORK_HEADER = (
+    numbers(0, "magic")
+    | numbers(4, "level", "numrecs", width=2)
+    | numbers(8, "leftsib", "rightsib", "blkno", "lsn", width=8)
+    | numbers(40, "uuid", width=16)
+    | numbers(56, "owner", width=8)
+)
+FORK_MAGIC, FORK_HEADER_SIZE, FORK_CHECKSUM = b"BMA3", 72, 64
+NOBODY = 0xFFFFFFFFFFFFFFFF
+
 # the header of a block of a short-form btree
 HEADER = (
     numbers(0, "magic")
@@ -178,6 +239,10 @@ class Kind:
     def slot(self):
         """The bytes of the key, or the two keys, of one child."""
         return self.key.size * (2 if self.high else 1)
+
+    def key_order(self, key):
+        """The order of the keys that nodes have, which for reverse mappings are low keys."""
+        return (*key[:2], key[2] & ~UNWRITTEN) if self.high else self.order(key)
 
     @property
     def leaf_most(self):

@@ -2,14 +2,22 @@
 from dataclasses import dataclass
 from itertools import islice
 
+from xfs_forks import group_block, level_sizes, place_of, spread, write_file
 from xfs_formats import (
     AGF,
     AGFL,
     AGI,
     BLOCK,
+    CORE,
+    CORE_MAGIC,
+    DIRECTORY,
+    EXTENTS,
+    FILE,
+    FORK_TREE,
     INODE,
     INODE_CHECKSUM,
     KINDS,
+    LOCAL,
     NONE,
     OWNER_AG,
     OWNER_FS,
@@ -17,28 +25,21 @@ from xfs_formats import (
     OWNER_INODES,
     OWNER_REFC,
     SECTOR,
+    SHARES_BLOCKS,
     SUPERBLOCK,
-    numbers,
 )
-from xfs_forks import sizes_of, write_mappings
 from xfs_image import Image, Node, Tree
 
 UUID = int.from_bytes(range(1, 17), "big")
 ROOTS = {"bno": 1, "cnt": 2, "ino": 3, "fino": 4, "rmap": 5, "refc": 6}
 LIST = range(7, 19)
 CHUNK = range(24, 32)
-FIRST_INODE, INODES = CHUNK[0] * BLOCK // INODE, 64
-FREE_MASK = 0xFFFFFFFFFFFFFFF8
+CHUNK_BLOCKS, INODES = len(CHUNK), 64
+FIRST_INODE = CHUNK[0] * BLOCK // INODE
+ALL_FREE = (1 << INODES) - 1
 FIRST_ROOM = CHUNK[-1] + 1
-OWNER_PIECES, OFFSET_STEP, GROUP_STEP, FORK_TREE = FIRST_INODE + 3, 1 << 20, 1 << 22, 1 << 62
-# the fields of an inode that isn't all zeros
-CORE = (
-    numbers(0, "magic", "mode", width=2)
-    | numbers(4, "version", "format", width=1)
-    | numbers(96, "next_unlinked")
-    | numbers(152, "number", width=8)
-    | numbers(160, "uuid", width=16)
-)
+# the file whose blocks the pieces are, and how far apart the offsets lie that share a block
+OWNER_PIECES, OFFSET_STEP, MOST_SHARERS = FIRST_INODE + 3, 1 << 20, 3
 
 
 @dataclass(frozen=True)
@@ -51,6 +52,22 @@ class Plan:
     shared: int = 0
     half: bool = False
     bare: bool = False
+    chunks: int = 0
+
+    @property
+    def sharers(self):
+        """Of each piece the number of offsets that share it."""
+        return [1 if i >= self.shared else 3 if i % 8 == 7 else 2 for i in range(self.pieces)]
+
+    @property
+    def fork_sizes(self):
+        """The blocks of each level of the btree of the file whose blocks the pieces of all groups are."""
+        return level_sizes(self.groups * sum(self.sharers), self.half)
+
+    @property
+    def first_chunk(self):
+        """The first block of the chunks at the end of group 0, that are beside the first one."""
+        return (self.length // CHUNK_BLOCKS - self.chunks) * CHUNK_BLOCKS
 
     def level_sizes(self, kind, records):
         """The number of blocks of each level, leaves first."""
@@ -62,53 +79,61 @@ class Plan:
         return sizes
 
 
-def spread(entries, parts):
-    """Cuts a list into so many parts, of which the first may have one more."""
-    entries, (least, more) = iter(entries), divmod(len(entries), parts)
-    return [list(islice(entries, least + (i < more))) for i in range(parts)]
+@dataclass(frozen=True)
+class Beside:
+    """Blocks of a group beside those that each group has, one range behind the other."""
+
+    ag: int
+    refc: int
+    inobt: int
+    fork: int
+
+    @property
+    def first_of_fork(self):
+        return FIRST_ROOM + self.ag + self.refc + self.inobt
+
+    @property
+    def first_piece(self):
+        return self.first_of_fork + self.fork
 
 
 def pieces_from(plan, first):
     """Each piece's block and how many offsets share it."""
-    for i in range(plan.pieces):
-        sharers = 1 if i >= plan.shared else 3 if i % 8 == 7 else 2
+    for i, sharers in enumerate(plan.sharers):
         yield first + 2 * i + i // 2, sharers
 
 
-def fork_blocks(plan):
-    """How many blocks the btree of the file has that all pieces belong to; they lie in group 0."""
-    return sum(sizes_of(plan.groups * sum(sharers for _, sharers in pieces_from(plan, 0))))
-
-
-def first_piece(plan, group, beside_ag, beside_refc):
-    return FIRST_ROOM + beside_ag + beside_refc + fork_blocks(plan) * (group == 0)
-
-
-def offsets_of(group, i, sharers):
-    """The offsets of the file that have piece i of a group."""
-    return [i + OFFSET_STEP * n + GROUP_STEP * group for n in range(sharers)]
-
-
-def mappings_of(plan, group, beside_ag, beside_refc):
-    """The reverse mappings, where trees have so many blocks beside their roots."""
-    pieces = first_piece(plan, group, beside_ag, beside_refc)
+def mappings_of(plan, group, beside):
+    """The reverse mappings."""
     owned = [
-        (0, 1, OWNER_FS),
-        (ROOTS["bno"], 2, OWNER_AG),
-        (ROOTS["ino"], 2, OWNER_INOBT),
-        (ROOTS["rmap"], 1, OWNER_AG),
-        (ROOTS["refc"], 1, OWNER_REFC),
-        (LIST[0], len(LIST), OWNER_AG),
-        (CHUNK[0], len(CHUNK) * (group == 0), OWNER_INODES),
-        (FIRST_ROOM, beside_ag, OWNER_AG),
-        (FIRST_ROOM + beside_ag, beside_refc, OWNER_REFC),
+        (0, 1, OWNER_FS, 0),
+        (ROOTS["bno"], 2, OWNER_AG, 0),
+        (ROOTS["ino"], 2, OWNER_INOBT, 0),
+        (ROOTS["rmap"], 1, OWNER_AG, 0),
+        (ROOTS["refc"], 1, OWNER_REFC, 0),
+        (LIST[0], len(LIST), OWNER_AG, 0),
+        (CHUNK[0], CHUNK_BLOCKS * (group == 0), OWNER_INODES, 0),
+        (FIRST_ROOM, beside.ag, OWNER_AG, 0),
+        (FIRST_ROOM + beside.ag, beside.refc, OWNER_REFC, 0),
+        (FIRST_ROOM + beside.ag + beside.refc, beside.inobt, OWNER_INOBT, 0),
+        (beside.first_of_fork, beside.fork, OWNER_PIECES, FORK_TREE),
     ]
-    mappings = [(start, count, owner, 0) for start, count, owner in owned if count]
-    tree = fork_blocks(plan) * (group == 0)
-    mappings += [(pieces - tree, tree, OWNER_PIECES, FORK_TREE)] if tree else []
-    for i, (block, sharers) in enumerate(pieces_from(plan, pieces)):
-        mappings += [(block, 1, OWNER_PIECES, offset) for offset in offsets_of(group, i, sharers)]
+    mappings = [mapping for mapping in owned if mapping[1]]
+    for i, (block, sharers) in enumerate(pieces_from(plan, beside.first_piece)):
+        steps = range(MOST_SHARERS * group, MOST_SHARERS * group + sharers)
+        mappings += [(block, 1, OWNER_PIECES, i + OFFSET_STEP * step) for step in steps]
+    if group == 0 and plan.chunks:
+        mappings.append((plan.first_chunk, CHUNK_BLOCKS * plan.chunks, OWNER_INODES, 0))
     return mappings
+
+
+def chunks_of(plan, group):
+    """The records of inode chunks: the first one with the inodes that are allocated, others with none."""
+    if group:
+        return []
+    allocated = OWNER_PIECES - FIRST_INODE + (plan.pieces > 0)
+    masks = {CHUNK[0]: ALL_FREE >> allocated << allocated} | {plan.first_chunk + CHUNK_BLOCKS * i: ALL_FREE for i in range(plan.chunks)}
+    return [(block * BLOCK // INODE, 0, INODES, mask.bit_count(), mask) for block, mask in masks.items()]
 
 
 def free_space(mappings, length):
@@ -121,14 +146,20 @@ def free_space(mappings, length):
     return free
 
 
+def beside_of(plan, group, levels):
+    """What the trees have beside their roots, and the file its btree's blocks."""
+    beside = {name: sum(sizes) - 1 for name, sizes in levels.items()}
+    fork = 0 if group else sum(plan.fork_sizes)
+    in_ag, in_inobt = beside["bno"] + beside["cnt"] + beside["rmap"], beside["ino"] + beside["fino"]
+    return Beside(in_ag, beside["refc"], in_inobt, fork)
+
+
 def records_of(plan, group, beside):
-    """The records of each tree, where trees have so many blocks beside their roots."""
-    beside_ag = beside["bno"] + beside["cnt"] + beside["rmap"]
-    mappings = mappings_of(plan, group, beside_ag, beside["refc"])
+    """The records of each tree."""
+    mappings = mappings_of(plan, group, beside)
     free = [] if plan.bare else free_space(mappings, plan.length)
-    mask = FREE_MASK - 8 * (plan.pieces > 0)
-    chunks = [(FIRST_INODE, 0, INODES, mask.bit_count(), mask)] if group == 0 else []
-    pieces = pieces_from(plan, first_piece(plan, group, beside_ag, beside["refc"]))
+    chunks = chunks_of(plan, group)
+    pieces = pieces_from(plan, beside.first_piece)
     return {
         "bno": free,
         "cnt": sorted(free, key=KINDS["cnt"].order),
@@ -139,19 +170,25 @@ def records_of(plan, group, beside):
     }
 
 
+def fits(plan, group, beside):
+    """The pieces lie in the group, and in front of further chunks."""
+    blocks = [block for block, _ in pieces_from(plan, beside.first_piece)]
+    end = plan.length if group else plan.first_chunk
+    return max(blocks, default=beside.first_piece - 1) < end
+
+
 def settled_records(plan, group):
     """The records of each tree, and its levels; what the trees need is itself mapped."""
-    beside = dict.fromkeys(KINDS, 0)
+    levels = {name: [1] for name in KINDS}
     while True:
+        beside = beside_of(plan, group, levels)
         records = records_of(plan, group, beside)
-        levels = {name: plan.level_sizes(KINDS[name], len(of)) for name, of in records.items()}
-        needed = {name: sum(sizes) - 1 for name, sizes in levels.items()}
-        if needed == beside:
-            start, count, _, _ = records["rmap"][-1]
-            if start + count > plan.length:
+        needed = {name: plan.level_sizes(KINDS[name], len(of)) for name, of in records.items()}
+        if needed == levels:
+            if not fits(plan, group, beside):
                 raise SystemExit("the pieces don't fit")
             return records, levels
-        beside = needed
+        levels = needed
 
 
 def tree_from(kind, group, records, sizes, root, room):
@@ -241,33 +278,42 @@ def write_head(image, group, head, values):
     image.mend(number, head.start, SECTOR, head.checksum)
 
 
-def write_inodes(image):
-    directory, file = (0o40755, 1), (0o100000, 2)
-    for i in range(INODES):
-        mode, form = [directory, file, file, (0, 0)][min(i, 3)]
-        number = FIRST_INODE + i
-        block, start = number * INODE // BLOCK, number * INODE % BLOCK
-        values = {"magic": 0x494E, "mode": mode, "version": 3, "format": form}
-        values |= {"next_unlinked": NONE, "number": number, "uuid": UUID}
-        image.fill(block, CORE, values, start)
-        image.mend(block, start, INODE, INODE_CHECKSUM)
+def core_values(plan, number):
+    """The fields of an inode of the image."""
+    i = number - FIRST_INODE
+    mode, form = [(DIRECTORY, LOCAL), (0o100000, EXTENTS), (0o100000, EXTENTS), (0, 0)][min(i, 3)]
+    values = {"magic": int.from_bytes(CORE_MAGIC, "big"), "mode": mode, "version": 3, "format": form}
+    values |= {"next_unlinked": NONE, "number": number, "uuid": UUID}
+    if number == OWNER_PIECES and plan.pieces:
+        values |= {"mode": FILE, "nlink": 1, "flags2": SHARES_BLOCKS * (plan.shared > 0)}
+    return values
 
 
-def write_pieces(image, plan, first):
-    """The file that the pieces of all groups belong to, which begin at these blocks."""
-    bits = (plan.length - 1).bit_length()
-    mappings = [
-        (offset, group << bits | block)
-        for group, start in enumerate(first)
-        for i, (block, sharers) in enumerate(pieces_from(plan, start))
-        for offset in offsets_of(group, i, sharers)
-    ]
-    if mappings:
-        write_mappings(image, OWNER_PIECES, sorted(mappings), 0, first[0] - fork_blocks(plan))
+def write_inodes(image, plan):
+    """The cores of all chunks."""
+    firsts = [start for start, *_ in chunks_of(plan, 0)]
+    places = [(number, *place_of(image, number)) for first in firsts for number in range(first, first + INODES)]
+    for number, block, start in places:
+        image.fill(block, CORE, core_values(plan, number), start)
+    image.mend_each([(block, start) for _, block, start in places], INODE, INODE_CHECKSUM)
+
+
+def file_mappings(image, group, mappings):
+    """Of the reverse mappings of a group those of the file's own blocks, as its fork has them."""
+    of_file = [mapping for mapping in mappings if mapping[2] == OWNER_PIECES and mapping[3] < FORK_TREE]
+    return [(offset, group_block(image, group, start), count, 0) for start, count, _, offset in of_file]
+
+
+def write_pieces(image, plan, mappings):
+    """The file whose blocks the pieces are. Its btree lies where the first group has room for it."""
+    first = next((start for start, _, _, word in mappings[0] if word == FORK_TREE), 0)
+    own = [mapping for group, of in enumerate(mappings) for mapping in file_mappings(image, group, of)]
+    places = range(first, first + sum(plan.fork_sizes))
+    write_file(image, OWNER_PIECES, sorted(own), plan.fork_sizes, places)
 
 
 def write_group(image, plan, group):
-    """Writes a group, and returns the block where its pieces begin."""
+    """A group but for its inodes; returns its reverse mappings."""
     records, levels = settled_records(plan, group)
     write_superblock(image, plan, group)
     write_agf(image, plan, group, records, levels)
@@ -276,14 +322,14 @@ def write_group(image, plan, group):
     room = iter(range(FIRST_ROOM, plan.length))
     for name in ["bno", "cnt", "rmap", "refc", "ino", "fino"]:
         tree_from(KINDS[name], group, records[name], levels[name], ROOTS[name], room).write(image)
-    beside = {name: sum(sizes) - 1 for name, sizes in levels.items()}
-    return first_piece(plan, group, beside["bno"] + beside["cnt"] + beside["rmap"], beside["refc"])
+    return records["rmap"]
 
 
 def fresh(path, plan):
     """The sound image."""
     image = Image.made(path, plan.groups, plan.length)
-    first = [write_group(image, plan, group) for group in range(plan.groups)]
-    write_inodes(image)
-    write_pieces(image, plan, first)
+    mappings = [write_group(image, plan, group) for group in range(plan.groups)]
+    write_inodes(image, plan)
+    if plan.pieces:
+        write_pieces(image, plan, mappings)
     return image

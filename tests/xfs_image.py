@@ -4,6 +4,9 @@ from itertools import islice
 
 from xfs_formats import (
     BLOCK,
+    CORE_MAGIC,
+    FORK_CHECKSUM,
+    FORK_MAGIC,
     HEADER,
     HEADER_CHECKSUM,
     HEADER_SIZE,
@@ -17,7 +20,7 @@ from xfs_formats import (
     SUPERBLOCK,
     Field,
     Kind,
-    crc32c,
+    crc32c_of_each,
 )
 
 
@@ -75,14 +78,22 @@ class Image:
         block = self.read(number)
         if bytes(block[:4]) in MAGICS:
             return 0, BLOCK, HEADER_CHECKSUM
+        if block[:4] == FORK_MAGIC:
+            return 0, BLOCK, FORK_CHECKSUM
         start = offset // INODE * INODE
-        return (start, INODE, INODE_CHECKSUM) if block[start : start + 2] == b"IN" else None
+        return (start, INODE, INODE_CHECKSUM) if block[start : start + 2] == CORE_MAGIC else None
 
     def mend(self, number, start, size, place):
         """Sums `size` bytes from `start`, with the checksum at `place` of them as zero."""
-        block = self.block(number)
-        block[start + place : start + place + 4] = bytes(4)
-        block[start + place : start + place + 4] = crc32c(block[start : start + size]).to_bytes(4, "little")
+        self.mend_each([(number, start)], size, place)
+
+    def mend_each(self, parts, size, place):
+        """The same of many parts of blocks, each told by its block and start."""
+        for number, start in parts:
+            self.block(number)[start + place : start + place + 4] = bytes(4)
+        sums = crc32c_of_each([self.block(number)[start : start + size] for number, start in parts])
+        for (number, start), of in zip(parts, sums):
+            self.block(number)[start + place : start + place + 4] = of.to_bytes(4, "little")
 
     def set(self, number, field, value, start=0):
         """Puts a value, and mends the checksum of the sector, block or inode that holds it."""
@@ -148,10 +159,13 @@ class Tree:
         return [record for leaf in self.root.rows()[0] for record in leaf.entries]
 
     def write(self, image):
-        for row in self.root.rows():
+        rows = self.root.rows()
+        for row in rows:
             beside = [NONE, *(node.block for node in row), NONE]
             for node, left, right in zip(row, beside, beside[2:]):
                 self.write_node(image, node, left, right)
+        blocks = [(self.group * image.length + node.block, 0) for row in rows for node in row]
+        image.mend_each(blocks, BLOCK, HEADER_CHECKSUM)
 
     def write_node(self, image, node, left, right):
         number = self.group * image.length + node.block
@@ -167,7 +181,6 @@ class Tree:
         }
         image.block(number)[HEADER_SIZE:] = self.content(node).ljust(BLOCK - HEADER_SIZE, b"\0")
         image.fill(number, HEADER, header)
-        image.mend(number, 0, BLOCK, HEADER_CHECKSUM)
 
     def content(self, node):
         """What follows the header."""

@@ -6,8 +6,7 @@
 
 Prints the lines that a check of the image is to print. The superblock and the heads of all groups are
 to be sound: they aren't tested here. With --lines each line of standard input is the name of an image;
-before what is printed of it stands a line `= G KIND BLOCK FAULT` for each btree that can't be read, and
-behind it a line `done`, or one that says what is wrong.
+behind what is printed of it stands a line `done`, or one that begins with `failed: ` and says what is wrong.
 
 It shares no code with the checker, and little with what makes the images: the places of fields.
 """
@@ -17,33 +16,44 @@ from functools import cached_property
 
 sys.dont_write_bytecode = True
 
-from xfs_forks import BTREE, CHECKSUM, ENTRIES, INLINE, LITERAL, LITERAL_SIZE, unpacked
-from xfs_forks import HEADER as FORK_HEADER, MAGIC as FORK_MAGIC, NONE as NOBODY
+from xfs_forks import MOST as ENTRIES
+from xfs_forks import unpacked
 from xfs_formats import (
     AGF,
     AGFL,
     AGI,
+    ATTRIBUTE,
     BLOCK,
+    BTREE,
+    FORK_CHECKSUM,
+    FORK_MAGIC,
+    FORK_TREE,
     HEADER,
     HEADER_CHECKSUM,
     HEADER_SIZE,
     INODE,
     INODE_CHECKSUM,
     KINDS,
+    LITERAL,
+    LITERAL_SIZE,
+    NOBODY,
     NONE,
     OWNER_AG,
     OWNER_FS,
     OWNER_INOBT,
     OWNER_INODES,
+    OWNER_LOG,
     OWNER_REFC,
     SUPERBLOCK,
     UNWRITTEN,
-    crc32c,
+    crc32c_of_each,
 )
+from xfs_formats import EXTENTS as INLINE
+from xfs_formats import FORK_HEADER_SIZE as FORK_HEADER
+from xfs_formats import SPECIAL_OWNERS as OWNER_NAMES
 from xfs_image import Image
 
-OWNER_LOG = (1 << 64) - 4
-ATTRIBUTE, FORK_TREE, OFFSETS = 1 << 63, 1 << 62, 1 << 54
+OFFSETS = 1 << 54
 TREE_OWNERS = {
     "bno": OWNER_AG,
     "cnt": OWNER_AG,
@@ -52,7 +62,6 @@ TREE_OWNERS = {
     "ino": OWNER_INOBT,
     "fino": OWNER_INOBT,
 }
-OWNER_NAMES = {(1 << 64) - n: name for n, name in enumerate(["fs", "log", "ag", "inobt", "inodes", "refc", "cow"], 3)}
 TURNS = ["magic", "level", "count", "sibling", "place", "owner", "uuid", "checksum", "order", "key", "range", "later"]
 
 
@@ -68,9 +77,28 @@ def number_in(data, at, width):
     return int.from_bytes(data[at : at + width], "big")
 
 
+# what was summed before, with its checksum: most images differ from the one before in a block alone
+SUMS, MOST_SUMS = {}, 8192
+
+
+def sums_of(parts):
+    """The checksum of each of these parts, which have one length."""
+    unknown = list({part for part in parts if part not in SUMS})
+    if len(SUMS) + len(unknown) > MOST_SUMS:
+        SUMS.clear()
+        unknown = list(set(parts))
+    SUMS.update(zip(unknown, crc32c_of_each(unknown)))
+    return [SUMS[part] for part in parts]
+
+
+def have_sums(parts, place):
+    """Whether the checksum of each part, at this place of it, is right."""
+    cleared = [bytes(data[:place]) + bytes(4) + bytes(data[place + 4 :]) for data in parts]
+    return [of.to_bytes(4, "little") == bytes(data[place : place + 4]) for data, of in zip(parts, sums_of(cleared))]
+
+
 def has_sum(data, place):
-    cleared = bytes(data[:place]) + bytes(4) + bytes(data[place + 4 :])
-    return crc32c(cleared).to_bytes(4, "little") == bytes(data[place : place + 4])
+    return have_sums([data], place)[0]
 
 
 def first_failing(tests):
@@ -333,25 +361,31 @@ class Group:
                 held.update(range(start, start + count))
         return {block // 8 for block in held if block % 8 == 0 and all(block + i in held for i in range(8))}
 
-    def core(self, unit, i):
-        """The bytes of an inode of a unit, and why it doesn't verify."""
+    def core_fault(self, unit, i, data, has_right_sum):
+        """Why an inode of a unit doesn't verify."""
         block, slot = 8 * unit + i // 8, i % 8
-        data = self.system.read(self.number, block)[slot * INODE : (slot + 1) * INODE]
-        return data, first_failing(
+        return first_failing(
             [
                 (data[:2] == b"IN", "magic"),
                 (data[4] == 3, "version"),
                 (number_in(data, 152, 8) == self.system.inode(self.number, block, slot), "number"),
-                (has_sum(data, INODE_CHECKSUM), "checksum"),
+                (has_right_sum, "checksum"),
                 (bytes(data[160:176]) == self.system.uuid, "uuid"),
             ]
         )
+
+    def cores(self, unit):
+        """The bytes of each inode of a unit, and why it doesn't verify."""
+        blocks = [self.system.read(self.number, 8 * unit + i) for i in range(8)]
+        cores = [block[at : at + INODE] for block in blocks for at in range(0, BLOCK, INODE)]
+        sums = have_sums(cores, INODE_CHECKSUM)
+        return [(data, self.core_fault(unit, i, data, right)) for i, (data, right) in enumerate(zip(cores, sums))]
 
     @cached_property
     def units(self):
         """The cores of each unit that is listed and lies in the group, in order."""
         listed = sorted(self.listed_by_inodes | self.listed_by_owners)
-        return {unit: [self.core(unit, i) for i in range(64)] for unit in listed if 8 * unit + 7 < self.length}
+        return {unit: self.cores(unit) for unit in listed if 8 * unit + 7 < self.length}
 
     @cached_property
     def chunks(self):
@@ -474,7 +508,7 @@ class Fork:
             and number_in(data, 24, 8) == (place[0] * self.system.length + place[1]) * 8
             and number_in(data, 56, 8) == self.number
             and bytes(data[40:56]) == self.system.uuid
-            and has_sum(data, CHECKSUM)
+            and has_sum(data, FORK_CHECKSUM)
             and first == key
             and number_in(data, 8, 8) == before
             and next_one == pointer
@@ -683,26 +717,17 @@ def report(path):
     return Check(System(path)).run()
 
 
-def unread(check):
-    """Each btree that can't be read, with its first bad block."""
-    for group in check.groups:
-        for name, tree in group.trees.items():
-            if tree.bad:
-                yield f"= {group.number} {name} {tree.bad[0]} {tree.bad[1]}"
-
-
 def main():
     if sys.argv[1:] != ["--lines"]:
         print("\n".join(report(sys.argv[1])))
         return
     for line in sys.stdin:
         try:
-            check = Check(System(line.strip()))
-            for shown in [*unread(check), *check.run(), "done"]:
+            for shown in [*report(line.strip()), "done"]:
                 print(shown)
             sys.stdout.flush()
         except Exception as fault:
-            print(f"{type(fault).__name__}: {fault}", flush=True)
+            print(f"failed: {type(fault).__name__}: {fault}", flush=True)
 
 
 if __name__ == "__main__":

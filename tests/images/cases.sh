@@ -3,77 +3,33 @@
 # Sourced by real_images.sh, which sets $top, $program and works in a folder of its own.
 . "$top/tests/verdict.sh"
 
+# The number of groups of the image on hand.
+group_count=1
+
 lines() { printf '%s\n' "$@"; }
 
-# sound N: what a check says first of N groups, where all inodes and reverse mappings are good.
-sound() {
-  local group unit
-  for unit in inode rmap; do
-    for ((group = 0; group < $1; group++)); do
-      lines "$group $unit good"
-    done
-  done
-}
+# report LINE..: what a check says of the image on hand where these lines tell all faults and all units
+# that were given up, each with its group in front.
+report() { lines "$@" | awk -v groups="$group_count" -f "$top/tests/images/report.awk"; }
 
-# spaces N [FIRST]: and then of the space of N groups that is good, from group FIRST on.
-spaces() {
-  local group first=${2:-0}
-  for ((group = first; group < first + $1; group++)); do
-    lines "$group free good" "$group refc good"
-  done
-}
+# goods: what a check says where all groups are good.
+goods() { report; }
 
-# goods N: what a check says of N groups that are good.
-goods() {
-  sound "$1"
-  spaces "$1"
-}
-
-# space GROUP UNIT LINE..: what a check says of the space of a group where one unit has these faults.
-space() {
+# faulty GROUP UNIT LINE..: what a check says where this unit alone has these faults.
+faulty() {
   local group=$1 unit=$2
   shift 2
-  [ "$unit" = free ] || lines "$group free good"
   set -- "${@/#counter/$unit counter}"
-  lines "${@/#/$group }" "$group $unit faulty $#"
-  [ "$unit" = refc ] || lines "$group refc good"
+  report "${@/#/$group }"
 }
 
-# faulty 0 UNIT LINE..: what a check says of an image of one group where one of these units has faults.
-faulty() {
-  sound 1
-  space "$@"
-}
-
-# skipped GROUP: what a check says of the space of a group whose reverse mappings aren't good.
-skipped() { lines "$1 free skipped $1 rmap" "$1 refc skipped $1 rmap"; }
-
-# mapped LINE..: what a check says of an image of one group whose reverse mappings have these faults.
-mapped() {
-  lines '0 inode good' "${@/#/0 rmap }" "0 rmap faulty $#"
-  skipped 0
-}
-
-# inodes LINE..: what a check says of an image of one group whose inodes have these faults.
-inodes() {
-  lines "${@/#/0 }" "0 inode faulty $#" '0 rmap skipped 0 inode'
-  skipped 0
-}
-
-# gave_up UNIT EVIDENCE: what a check says of an image of one group whose inodes or reverse mappings are
-# given up.
-gave_up() {
-  if [ "$1" = inode ]; then
-    lines "0 inode gaveup $2" '0 rmap skipped 0 inode'
-  else
-    lines '0 inode good' "0 rmap gaveup $2"
-  fi
-  skipped 0
-}
-
-# unit_of TREE: the unit that a tree of the space belongs to.
+# unit_of TREE: the unit that a tree belongs to.
 unit_of() {
-  if [ "$1" = refc ]; then echo refc; else echo free; fi
+  case $1 in
+  bno | cnt) echo free ;;
+  ino | fino) echo inode ;;
+  *) echo "$1" ;;
+  esac
 }
 
 # expect NAME STATUS STDOUT WORD..: runs the program with the words. A file that the last word
@@ -97,11 +53,9 @@ advised() {
   verdict "$1, on standard error" $? 'expected:' "$2" 'found:' "$(head -n 5 stderr)"
 }
 
-# model IMAGE: what tests/xfs_model.py says that a check shows is in $modelled, and the btrees that it can't
-# read are in $unread, a line `G KIND BLOCK FAULT` for each.
+# model IMAGE: what tests/xfs_model.py says that a check shows is in $modelled.
 model() {
   local line shown=()
-  unread=()
   printf '%s\n' "$1" >&"$ask_model"
   while read -r line <&"$model_answer"; do
     case $line in
@@ -109,30 +63,38 @@ model() {
       modelled=$(lines "${shown[@]}")
       return 0
       ;;
-    '= '*) unread+=("${line#= }") ;;
-    *Error:*) break ;;
+    failed:*) break ;;
     *) shown+=("$line") ;;
     esac
   done
-  modelled="the model: $line"
+  modelled="the model $line"
   return 1
 }
 
-# checked NAME STDOUT IMAGE: a check whose status follows from its lines. Where an image isn't refused, the
-# model has to say the same; STDOUT ? is what the model says.
+# Whether the model says too what a check shows; not of large images, which it takes long for.
+has_model=yes
+
+# checked NAME STDOUT IMAGE: what a check shows. Where an image isn't refused, the model has to say the same;
+# STDOUT ? is what the model says.
 checked() {
-  local name=$1 stdout=$2 status=0
-  if [[ $stdout != image* && $stdout != group* ]]; then
+  local name=$1 stdout=$2
+  if [[ $has_model = yes && $stdout != image* && $stdout != group* ]]; then
     model "$3"
     [ "$stdout" != '?' ] || stdout=$modelled
     [ "$stdout" = "$modelled" ] || verdict "$name, by the model" 1 'expected:' "$stdout" 'found:' "$modelled"
   fi
-  case $stdout in
+  shown "$name" "$stdout" "$3"
+}
+
+# shown NAME STDOUT IMAGE: a check prints these lines, and its status follows from them.
+shown() {
+  local status=0
+  case $2 in
   image* | group*) status=4 ;;
   *gaveup*) status=6 ;;
   *faulty* | *skipped*) status=1 ;;
   esac
-  expect "$name" "$status" "$stdout" check "$3"
+  expect "$1" "$status" "$2" check "$3"
 }
 
 # Starts tests/make_image.py, which waits for lines with the words for one image each, and
@@ -153,43 +115,67 @@ make_image() {
   while read -r line <&"$answer"; do
     [ "$line" != 'done' ] || return 0
     printed+=("$line")
-    [[ $line != *Error:* && $line != SystemExit:* ]] || break
+    [[ $line != failed:* ]] || break
   done
   return 1
 }
 
 # build NAME OPTION..: a sound image of tests/make_image.py, which the next cases begin with.
 build() {
-  built=$1
+  local options
+  built=$1 group_count=1 looked=''
   shift
+  options=" $* "
+  [[ $options != *' --groups '* ]] || group_count=${options##* --groups }
+  group_count=${group_count%% *}
   make_image sound.img "$@" || verdict "made: $built" 1 "${printed[@]}"
 }
 
-# made NAME STDOUT EDIT..: the sound image with these edits.
+# edited NAME EDIT..: made.img is the sound image with these edits.
+edited() {
+  local name=$1
+  shift
+  cp --sparse=always -- sound.img made.img
+  [ $# = 0 ] || make_image made.img --on "$@" || {
+    verdict "$name" 1 "${printed[@]}"
+    return 1
+  }
+}
+
+# made NAME STDOUT EDIT..: what a check says of the sound image with these edits.
 made() {
   local name="made: $built, $1" stdout=$2
   shift 2
-  cp --sparse=always -- sound.img made.img
-  if [ $# = 0 ] || make_image made.img --on "$@"; then
-    checked "$name" "$stdout" made.img
-  else
-    verdict "$name" 1 "${printed[@]}"
-  fi
+  edited "$name" "$@" && checked "$name" "$stdout" made.img
 }
 
-# look TREE [GROUP]: the blocks of a tree of a group of the sound image, of group 0 where nothing is said. $leaves
-# has those of level 0, $nodes those of level 1, and $root is the highest.
+# look TREE: the blocks of a tree of group 0 of the sound image. $leaves has those of level 0,
+# $nodes those of level 1, $root is the highest, and $of_tree names all, parted by colons.
 look() {
   local line
-  leaves=() nodes=()
-  make_image sound.img --on --tree "${2:-0}:$1"
+  leaves=() nodes=() of_tree='' looked=$1
+  make_image sound.img --on --tree "0:$1"
   for line in "${printed[@]}"; do
     root=${line##* }
+    of_tree+=:$root
     case $line in
     '0 '*) leaves+=("$root") ;;
     '1 '*) nodes+=("$root") ;;
     esac
   done
+  of_tree=${of_tree#:}
+}
+
+# bad NAME TREE BLOCK FAULT EDIT..: the first fault of a tree of group 0. Blocks that the tree doesn't claim any
+# more are extra in the reverse mappings, unless these or the inodes are bad.
+bad() {
+  local tree=$2 fault="0 $2 block $3 $4" name="made: $built, $2, $1" lost=()
+  shift 4
+  [ "$looked" = "$tree" ] || look "$tree"
+  case $(unit_of "$tree") in
+  free | refc) lost=(--lost "0:$tree:$of_tree") ;;
+  esac
+  edited "$name" "$@" "${lost[@]}" && checked "$name" "$(report "${printed[@]/#/0 }" "$fault")" made.img
 }
 
 # read_records TREE: the records of a tree of group 0 of the sound image are in $records.

@@ -75,9 +75,11 @@ superblock_faults() {
   advised 'reverse mappings off' 'mkfs.xfs -m rmapbt=1'
   made 'features of both fields' 'image feature 4' --head 0:sb:features_ro_compat:0x1f \
     --head 0:sb:features_incompat:1
-  made 'features that may be on' "$(goods 1)" --head 0:sb:features_incompat:0xeb
-  made 'features that may be off' "$(goods 1)" --head 0:sb:features_ro_compat:7 \
+  made 'features that may be on' "$(goods)" --head 0:sb:features_incompat:0xeb
+  made 'features that may be off' "$(goods)" --head 0:sb:features_ro_compat:7 \
     --head 0:sb:features_incompat:2
+  made 'without counters of blocks of inode btrees these are not judged' "$(goods)" \
+    --head 0:sb:features_ro_compat:7 --head 0:agi:iblocks:7 --head 0:agi:fblocks:0
   for field in agcount:0 agcount:2 agcount:65537 agblocks:63 agblocks:268435457 agblklog:7 agblklog:9 \
     dblocks:257 dblocks:63 dblocks:0; do
     made "$field" 'image counts' --head "0:sb:$field"
@@ -92,19 +94,28 @@ superblock_faults() {
   done
 }
 
-# A log of its own has to lie in one group, and has its blocks by a reverse mapping.
+# A log of its own has to lie in one group, and is mapped there like anything else.
 logs() {
+  local four=(--head 0:sb:logstart:60 --head 0:sb:logblocks:4)
+  local one=(--head 0:sb:logblocks:1)
   build 'log' --groups 2 --blocks 64
-  made 'a log in the last blocks' "$(goods 2)" --head 0:sb:logstart:60 --head 0:sb:logblocks:4 \
-    --add 0:rmap:60:4:-4:0 --change 0:bno:1:count:28 --change 0:cnt:1:count:28 --head 0:agf:freeblks:33 \
-    --head 0:agf:longest:28
-  made 'a log without a mapping' "$(lines '0 inode good' '1 inode good' '0 rmap missing 60 4 log 0 -' \
-    '0 rmap faulty 1' '1 rmap good'; skipped 0; spaces 1 1)" --head 0:sb:logstart:60 --head 0:sb:logblocks:4
+  made 'a log in the last blocks that is not mapped' "$(faulty 0 rmap 'rmap missing 60 4 log 0 -')" "${four[@]}"
+  made 'a log in the last blocks' "$(goods)" "${four[@]}" --add 0:rmap:60:4:-4:0 \
+    --change 0:bno:1:count:28 --change 0:cnt:1:count:28 --head 0:agf:freeblks:33 --head 0:agf:longest:28
+  made 'a log that is mapped and not taken from free space' \
+    "$(faulty 0 free 'bno missing 32 28' 'bno extra 32 32' 'cnt missing 32 28' 'cnt extra 32 32' \
+      'counter freeblks 37 33' 'counter longest 32 28')" "${four[@]}" --add 0:rmap:60:4:-4:0
+  made 'a mapping of a log that is not there' "$(faulty 0 rmap 'rmap extra 60 4 log 0 -')" --add 0:rmap:60:4:-4:0
   made 'a log past its group' 'image counts' --head 0:sb:logstart:60 --head 0:sb:logblocks:5
   made 'a log of no blocks' 'image counts' --head 0:sb:logstart:60 --head 0:sb:logblocks:0
-  made 'a log over the trees of the second group' \
-    "$(lines '0 inode good' '1 inode gaveup overlap 1 log tree-bno' '0 rmap skipped 1 inode' \
-    '1 rmap skipped 1 inode'; skipped 0; skipped 1)" --head 0:sb:logstart:65 --head 0:sb:logblocks:63
+  made 'a log in the free blocks of the second group' "$(faulty 1 rmap 'rmap missing 32 4 log 0 -')" \
+    --head 0:sb:logstart:96 --head 0:sb:logblocks:4
+  made 'a log over all of the second group' "$(report '1 inode gaveup overlap 1 log tree-bno')" \
+    --head 0:sb:logstart:65 --head 0:sb:logblocks:63
+  made 'a log over the free list' "$(report '0 inode gaveup overlap 7 log list')" --head 0:sb:logstart:7 "${one[@]}"
+  made 'a log over the free inode btree' "$(report '0 inode gaveup overlap 4 log tree-fino')" \
+    --head 0:sb:logstart:4 "${one[@]}"
+  made 'a log over a chunk' "$(report '0 inode gaveup overlap 31 log chunk')" --head 0:sb:logstart:31 "${one[@]}"
   made 'a log at block 0 of a group' 'image counts' --head 0:sb:logstart:64 --head 0:sb:logblocks:4
   made 'a log in a group that is not there' 'image counts' --head 0:sb:logstart:129 --head 0:sb:logblocks:4
 }
@@ -125,6 +136,31 @@ head_faults() {
   each_with_later 'group 0 agfl' faults edits '--xor 0:2044:1'
 }
 
+# free_space START:COUNT ..: edits that put these two runs or three in the place of the two of the sound
+# image, by start, with their counters; $space has them.
+free_space() {
+  local i tree run sum=0 longest=0
+  space=(--drop 0:bno:0 --drop 0:bno:0 --drop 0:cnt:0 --drop 0:cnt:0)
+  for run in "$@"; do
+    space+=(--add "0:bno:$run" --add "0:cnt:$run")
+    sum=$((sum + ${run#*:})) longest=$((${run#*:} > longest ? ${run#*:} : longest))
+  done
+  space+=(--head "0:agf:freeblks:$sum" --head "0:agf:longest:$longest")
+}
+
+# another_list NAME LINES RUNS MAPPINGS EDIT..: a free list of other blocks. LINES is what is wrong in the
+# reverse mappings as they are; MAPPINGS are edits of these that fit, and then the RUNS are free.
+another_list() {
+  local name=$1 wrong=$2 runs=$3 mappings=$4
+  shift 4
+  # shellcheck disable=SC2086
+  made "$name, not mapped" "$(report "$wrong")" "$@"
+  # shellcheck disable=SC2086
+  free_space $runs
+  # shellcheck disable=SC2086
+  made "$name" "$(goods)" "$@" $mappings "${space[@]}"
+}
+
 free_lists() {
   local i ring=(--head 0:agf:flfirst:116 --head 0:agf:fllast:2 --head 0:agf:flcount:6)
   local full=(--head 0:agf:fllast:118 --head 0:agf:flcount:119)
@@ -132,32 +168,39 @@ free_lists() {
   made 'block 9 twice' 'group 0 agfl freelist 3' --head 0:agfl:bno2:9 --head 0:agfl:bno3:9
   made 'block 0' 'group 0 agfl freelist 0' --head 0:agfl:bno0:0
   made 'a block outside' 'group 0 agfl freelist 11' --head 0:agfl:bno11:256
-  made 'the last block of the group' \
-    "$(mapped 'missing 7 11 ag 0 -' 'extra 7 12 ag 0 -' 'missing 255 1 ag 0 -')" --head 0:agfl:bno11:255
+  another_list 'the last block of the group' \
+    "$(lines '0 rmap missing 7 11 ag 0 -' '0 rmap extra 7 12 ag 0 -' '0 rmap missing 255 1 ag 0 -')" \
+    '18:6 32:223' '--change 0:rmap:5:count:11 --add 0:rmap:255:1:-5:0' --head 0:agfl:bno11:255
   made 'the first of two' 'group 0 agfl freelist 4' --head 0:agfl:bno4:256 --head 0:agfl:bno9:0
-  made 'an entry that is not active' "$(goods 1)" --head 0:agfl:bno12:7 --head 0:agfl:bno118:256
+  made 'an entry that is not active' "$(goods)" --head 0:agfl:bno12:7 --head 0:agfl:bno118:256
   made 'a first place outside' 'group 0 agfl freelist 119' --head 0:agf:flfirst:119
   made 'a last place outside' 'group 0 agfl freelist 119' --head 0:agf:fllast:119
   made 'too many' 'group 0 agfl freelist 119' --head 0:agf:flcount:120
   made 'a count that does not fit' 'group 0 agfl freelist 119' --head 0:agf:flcount:11
   made 'places before blocks' 'group 0 agfl freelist 119' --head 0:agf:flcount:13 --head 0:agfl:bno0:0
-  made 'empty' "$(mapped 'extra 7 12 ag 0 -')" --head 0:agf:flfirst:1 --head 0:agf:fllast:0 \
-    --head 0:agf:flcount:0
-  made 'empty, at other places' "$(mapped 'extra 7 12 ag 0 -')" --head 0:agf:flfirst:7 \
-    --head 0:agf:fllast:30 --head 0:agf:flcount:0
+  another_list 'empty' '0 rmap extra 7 12 ag 0 -' '7:17 32:224' '--drop 0:rmap:5' \
+    --head 0:agf:flfirst:1 --head 0:agf:fllast:0 --head 0:agf:flcount:0
+  another_list 'empty, at other places' '0 rmap extra 7 12 ag 0 -' '7:17 32:224' '--drop 0:rmap:5' \
+    --head 0:agf:flfirst:7 --head 0:agf:fllast:30 --head 0:agf:flcount:0
   for i in 116 117 118; do
     ring+=(--head "0:agfl:bno$i:$((i + 100))")
   done
-  made 'around the end' "$(mapped 'missing 7 3 ag 0 -' 'extra 7 12 ag 0 -' 'missing 216 3 ag 0 -')" \
-    "${ring[@]}"
+  another_list 'around the end' \
+    "$(lines '0 rmap missing 7 3 ag 0 -' '0 rmap extra 7 12 ag 0 -' '0 rmap missing 216 3 ag 0 -')" \
+    '10:14 32:184 219:37' '--change 0:rmap:5:count:3 --add 0:rmap:216:3:-5:0' "${ring[@]}"
   made 'around the end, a block twice' 'group 0 agfl freelist 1' "${ring[@]}" --head 0:agfl:bno117:8
   made 'around the end, a block outside' 'group 0 agfl freelist 118' "${ring[@]}" --head 0:agfl:bno118:0 \
     --head 0:agfl:bno1:0
   for i in {12..118}; do
     full+=(--head "0:agfl:bno$i:$((i + 100))")
   done
-  made 'full' "$(mapped 'missing 112 107 ag 0 -')" "${full[@]}"
+  another_list 'full' '0 rmap missing 112 107 ag 0 -' '19:5 32:80 219:37' '--add 0:rmap:112:107:-5:0' "${full[@]}"
   made 'full, the last block twice' 'group 0 agfl freelist 118' "${full[@]}" --head 0:agfl:bno118:217
+  for i in 1:tree-bno 2:tree-cnt 3:tree-ino 4:tree-fino 5:tree-rmap 6:tree-refc 24:chunk; do
+    made "a block of ${i#*:}" "$(report "0 inode gaveup overlap ${i%:*} list ${i#*:}")" --head "0:agfl:bno4:${i%:*}"
+  done
+  made 'the first block of two' "$(report '0 inode gaveup overlap 5 list tree-rmap')" --head 0:agfl:bno2:27 \
+    --head 0:agfl:bno4:5
 }
 
 # All heads of all groups come before the first unit, in the order AGF, AGI, AGFL.
@@ -169,9 +212,11 @@ order_of_causes() {
   made 'group 1 before group 2' 'group 1 agi length' --head 1:agi:length:63 --head 2:agf:magic:0
   made 'the last group before the units' 'group 2 agfl seqno' --head 2:agfl:seqno:1 --spoil 0:bno:0:0:70
   made 'the superblock before the heads' 'image counts' --head 0:sb:agcount:4 --head 0:agf:magic:0
-  made 'the copies of the superblock are not read' "$(goods 3)" --head 1:sb:magic:0 --xor 128:300:1
-  made 'the inodes of all groups before the first mappings' \
-    "$(lines '0 ino block 3 checksum' '0 inode faulty 1' '1 ino block 3 level' '1 inode faulty 1' '2 inode good'
-    lines '0 rmap skipped 0 inode' '1 rmap skipped 0 inode' '2 rmap skipped 0 inode'
-    skipped 0; skipped 1; skipped 2)" --spoil 0:ino:0:0:70 --head 1:agi:level:7
+  made 'the copies of the superblock are not read' "$(goods)" --head 1:sb:magic:0 --xor 128:300:1
+  made 'the inodes of each group before all that needs them' \
+    "$(report '0 fino block 4 checksum' '1 ino block 3 level' '2 fino block 4 place')" \
+    --spoil 0:fino:0:0:70 --head 1:agi:level:7 --node 2:fino:0:0:blkno:0 --spoil 0:rmap:0:0:70 --drop 1:bno:0
+  made 'the reverse mappings of each group before free space' \
+    "$(report '0 rmap block 5 checksum' '2 rmap extra 40 1 cow 0 -' '1 refc extra 32 1 2')" \
+    --spoil 0:rmap:0:0:70 --add 2:rmap:40:1:-9:0 --add 1:refc:32:1:2 --spoil 0:bno:0:0:70
 }

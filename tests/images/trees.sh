@@ -1,19 +1,6 @@
 # shellcheck shell=bash disable=SC2034,SC2154
 # Blocks of trees that can't be read, on images of tests/make_image.py: trees of one leaf, of two
-# and of three levels, of the four kinds that a check reads.
-
-# bad NAME TREE BLOCK FAULT EDIT..: the first fault of a tree of the sound image, by the model's reading. What
-# the check shows then is by the model, too: a block that says that it is another, and one that can't be reached
-# any more, aren't the tree's, and the reverse mappings differ from that.
-bad() {
-  local name="$2, $1" wanted="0 $2 $3 $4" line found=1
-  shift 4
-  made "$name" '?' "$@"
-  for line in "${unread[@]}"; do
-    [ "$line" != "$wanted" ] || found=0
-  done
-  [ "$found" = 0 ] || verdict "made: $built, $name, by the model" 1 'expected:' "$wanted" 'found:' "${unread[@]}"
-}
+# and of three levels, of all six kinds.
 
 # leaf_faults TREE BLOCK MOST ORDER RANGE: the tests of a leaf, alone and with what is tested after
 # them. A right sibling is tested only once the tree was walked. ORDER and RANGE are edits that bring
@@ -48,33 +35,37 @@ leaf_faults() {
   bad 'range and a right sibling' "$tree" "$block" range $range $node "$at:rightsib:7"
 }
 
-# where_named TREE BLOCK ROOT LEVELS: what the head says of a tree of one leaf.
+# where_named TREE BLOCK HEAD ROOT LEVELS OTHER: what the head says of a tree of one leaf. OTHER is the root of a
+# tree of another kind.
 where_named() {
-  local tree=$1 block=$2 root=$3 levels=$4 number
+  local tree=$1 block=$2 pointer=$3:$4 levels=$3:$5 other=$6 number
   for number in 0 256 4294967295; do
-    bad "root $number" "$tree" "$number" range --head "0:agf:$root:$number"
+    bad "root $number" "$tree" "$number" range --head "0:$pointer:$number"
   done
   for number in 0 2 10; do
-    bad "levels $number" "$tree" "$block" level --head "0:agf:$levels:$number"
+    bad "levels $number" "$tree" "$block" level --head "0:$levels:$number"
   done
   for number in 0:65535 0:255 10:9; do
     bad "levels ${number%:*} and a block of level ${number#*:}" "$tree" "$block" level \
-      --node "0:$tree:0:0:level:${number#*:}" --head "0:agf:$levels:${number%:*}"
+      --node "0:$tree:0:0:level:${number#*:}" --head "0:$levels:${number%:*}"
   done
-  bad 'levels and a root outside' "$tree" 256 range --head "0:agf:$root:256" --head "0:agf:$levels:0"
-  bad 'levels and the magic' "$tree" "$block" magic --node "0:$tree:0:0:magic:0" --head "0:agf:$levels:0"
-  bad 'the root of another kind' "$tree" 3 magic --head "0:agf:$root:3"
+  bad 'levels and a root outside' "$tree" 256 range --head "0:$pointer:256" --head "0:$levels:0"
+  bad 'levels and the magic' "$tree" "$block" magic --node "0:$tree:0:0:magic:0" --head "0:$levels:0"
+  bad 'the root of another kind' "$tree" "$other" magic --head "0:$pointer:$other"
 }
 
 single_leaves() {
   local span
   build 'one leaf'
-  where_named bno 1 bnoroot bnolevel
-  where_named cnt 2 cntroot cntlevel
-  where_named rmap 5 rmaproot rmaplevel
-  where_named refc 6 refcntroot refcntlevel
+  where_named bno 1 agf bnoroot bnolevel 3
+  where_named cnt 2 agf cntroot cntlevel 3
+  where_named rmap 5 agf rmaproot rmaplevel 3
+  where_named refc 6 agf refcntroot refcntlevel 3
+  where_named ino 3 agi root level 4
+  where_named fino 4 agi free_root free_level 3
   bad 'nine levels, and pointers that are zero' bno 1 range --node 0:bno:0:0:level:8 --head 0:agf:bnolevel:9
   bad 'nine levels, and no pointer' refc 6 count --node 0:refc:0:0:level:8 --head 0:agf:refcntlevel:9
+  bad 'nine levels, and pointers that are zero' ino 3 range --node 0:ino:0:0:level:8 --head 0:agi:level:9
   leaf_faults bno 1 505 '--node 0:bno:0:0:record.1.start:19' '--node 0:bno:0:0:record.0.count:0'
   leaf_faults cnt 2 505 '--node 0:cnt:0:0:record.0.count:225' '--node 0:cnt:0:0:record.0.start:0'
   leaf_faults rmap 5 168 '--node 0:rmap:0:0:record.1.start:0 --node 0:rmap:0:0:record.1.owner:7' \
@@ -82,6 +73,11 @@ single_leaves() {
   # two records that belong to nothing, in a leaf that can't be read
   make_image sound.img --on --add 0:refc:40:1:2 --add 0:refc:50:1:2
   leaf_faults refc 6 336 '--node 0:refc:0:0:record.1.start:40' '--node 0:refc:0:0:record.0.refs:1'
+  build 'one leaf of two chunks' --chunks 1
+  leaf_faults ino 3 252 '--node 0:ino:0:0:record.1.startino:192' '--node 0:ino:0:0:record.0.count:63'
+  leaf_faults fino 4 252 '--node 0:fino:0:0:record.1.startino:192' '--node 0:fino:0:0:record.0.count:63'
+  both_unreadable
+  unowned_roots
 
   build 'numbers of a record'
   for span in 0:5 19:0 250:7 256:1 2147483647:2 19:4294967295; do
@@ -93,36 +89,107 @@ single_leaves() {
   done
   bad 'range of no references' refc 6 range --add 0:refc:40:1:0
   bad 'range of one reference' refc 6 range --add 0:refc:40:1:1
-  bad 'a staging record' refc 6 later --add 0:refc:0x80000028:1:1
-  bad 'a staging record of no blocks' refc 6 later --add 0:refc:0x80000000:0:0
+  made 'refc, a staging record' "$(report '0 refc gaveup later refc 6')" --add 0:refc:0x80000028:1:1
+  made 'refc, a staging record of no blocks' "$(report '0 refc gaveup later refc 6')" --add 0:refc:0x80000000:0:0
   bad 'range before a staging record' refc 6 range --add 0:refc:40:0:2 --add 0:refc:0x80000028:1:1
+  numbers_of_chunks
 }
 
-# mapping NAME STDOUT RECORD: one more reverse mapping.
-mapping() { made "mapping $1" "$2" --add "0:rmap:$3"; }
+# numbers_of_chunks: the only record of the inode btrees, by its start, holes, count, free ones and their bits.
+numbers_of_chunks() {
+  local tree block record
+  for tree in ino:3 fino:4; do
+    block=${tree#*:} tree=${tree%:*}
+    # no chunk begins at 193, at 0, or behind the group; 64 is the only count; and as many are free as there
+    # are bits
+    for record in 193:0:64:0:0 0:0:64:1:1 2048:0:64:1:1 192:0:63:1:1 192:0:0:0:0 192:0:64:61:0xf 192:0:64:1:0; do
+      bad "range $record" "$tree" "$block" range --drop "0:$tree:0" --add "0:$tree:$record"
+    done
+    made "$tree, a chunk that is not whole" "$(report "0 inode gaveup later $tree $block")" \
+      --change "0:$tree:0:holemask:1"
+    bad 'range before a chunk that is not whole' "$tree" "$block" range --add "0:$tree:64:0:64:2:1" \
+      --change "0:$tree:1:holemask:1"
+  done
+  bad 'a chunk without a free inode' fino 4 range --change 0:fino:0:freecount:0 --change 0:fino:0:mask:0
+  made 'a chunk that is not whole, in both trees' "$(report '0 inode gaveup later ino 3')" \
+    --change 0:ino:0:holemask:1 --change 0:fino:0:holemask:1
+  build 'a group of 100 blocks' --blocks 100
+  bad 'a chunk of which four blocks lie in the group' ino 3 range --add 0:ino:768:0:64:1:1
+}
+
+# both_unreadable: chunks are listed by the inode btree and by the reverse mappings. One of the two is enough.
+both_unreadable() {
+  build 'which trees list a chunk'
+  made 'neither' "$(report '0 inode gaveup badtree rmap 5')" --spoil 0:ino:0:0:70 --spoil 0:rmap:0:0:70
+  made 'neither, and the reverse mappings by their order' "$(report '0 inode gaveup badtree rmap 5')" \
+    --spoil 0:ino:0:0:70 --node 0:rmap:0:0:record.2.start:0
+  made 'the reverse mappings' "$(report '0 ino block 3 checksum' '0 fino block 4 checksum')" \
+    --spoil 0:ino:0:0:70 --spoil 0:fino:0:0:70
+  made 'the inode btree' "$(report '0 rmap block 5 checksum')" --spoil 0:rmap:0:0:70
+}
+
+# unowned_roots: where a root isn't named as one of its tree, it is nobody's. The reverse mappings that fit this
+# are right then, and what they leave is compared with the other tree.
+unowned_roots() {
+  local edit free=('cnt missing 1 1' 'counter freeblks 229 230')
+  local by_count=('bno missing 2 1' 'counter freeblks 229 230')
+  build 'roots that are not named'
+  for edit in magic:0 place:blkno:0 owner:1 uuid:7; do
+    made "bno, ${edit%%:*}" "$(faulty 0 free "bno block 1 ${edit%%:*}" "${free[@]}")" \
+      --node "0:bno:0:0:${edit#place:}" --change 0:rmap:1:start:2 --change 0:rmap:1:count:1
+    made "cnt, ${edit%%:*}" "$(faulty 0 free "${by_count[0]}" "cnt block 2 ${edit%%:*}" "${by_count[1]}")" \
+      --node "0:cnt:0:0:${edit#place:}" --change 0:rmap:1:count:1
+    made "refc, ${edit%%:*}" "$(report '0 bno missing 6 1' '0 cnt missing 6 1' '0 free counter freeblks 229 230' \
+      "0 refc block 6 ${edit%%:*}")" --node "0:refc:0:0:${edit#place:}" --drop 0:rmap:4
+  done
+}
+
+# mapping NAME LINE RECORD: one more reverse mapping, of which nobody knows.
+mapping() { made "mapping $1" "$(faulty 0 rmap "$2")" --add "0:rmap:$3"; }
 
 mappings() {
-  local owner word shown
+  local owner word
   build 'numbers of a mapping'
   for owner in 0:0 195:195 2047:2047 -3:fs -4:log -5:ag -6:inobt -7:inodes -8:refc -9:cow; do
-    mapping "of owner ${owner%:*}" "$(mapped "extra 40 1 ${owner#*:} 0 -")" "40:1:${owner%:*}:0"
+    mapping "of owner ${owner%:*}" "rmap extra 40 1 ${owner#*:} 0 -" "40:1:${owner%:*}:0"
   done
   for owner in -1 -2 -10 2048 0x7fffffffffffffff; do
-    mapping "of owner $owner" "$(mapped 'block 5 range')" "40:1:$owner:0"
+    mapping "of owner $owner" 'rmap block 5 range' "40:1:$owner:0"
   done
-  for word in '0x8000000000000005 5 a' '0x4000000000000000 0 t' '0xc000000000000000 0 at' \
-    '0x2000000000000005 5 u' '0x3fffffffffffff 18014398509481983 -'; do
-    shown=${word#* } word=${word%% *}
-    mapping "with word $word" "$(mapped "extra 40 1 195 $shown")" "40:1:195:$word"
+  for word in 0x8000000000000005:'5 a' 0x4000000000000000:'0 t' 0xc000000000000000:'0 at' \
+    0x2000000000000005:'5 u' 0x3fffffffffffff:'18014398509481983 -'; do
+    mapping "with word ${word%:*}" "rmap extra 40 1 195 ${word#*:}" "40:1:195:${word%:*}"
   done
   for word in 0x4000000000000001 0x6000000000000000 0xa000000000000000 0x1000000000000000 0x40000000000000; do
-    mapping "with word $word" "$(mapped 'block 5 range')" "40:1:195:$word"
+    mapping "with word $word" 'rmap block 5 range' "40:1:195:$word"
   done
-  mapping 'past the last offset' "$(mapped 'block 5 range')" 40:2:195:0x3fffffffffffff
-  mapping 'of a group with an offset' "$(mapped 'block 5 range')" 40:1:-5:1
-  mapping 'of a group that is unwritten' "$(mapped 'block 5 range')" 40:1:-5:0x2000000000000000
-  mapping 'of no blocks' "$(mapped 'block 5 range')" 40:0:195:0
-  mapping 'past the group' "$(mapped 'block 5 range')" 255:2:195:0
+  mapping 'past the last offset' 'rmap block 5 range' 40:2:195:0x3fffffffffffff
+  mapping 'of a group with an offset' 'rmap block 5 range' 40:1:-5:1
+  mapping 'of a group that is unwritten' 'rmap block 5 range' 40:1:-5:0x2000000000000000
+  mapping 'of no blocks' 'rmap block 5 range' 40:0:195:0
+  mapping 'past the group' 'rmap block 5 range' 255:2:195:0
+  not_taken
+}
+
+# owned NAME WORD OF EDIT..: block 40 is owned, mapped, and still free by both btrees and counters. The edits
+# let its owner have it.
+owned() {
+  local name=$1 mapping=$2
+  shift 2
+  made "block 40 is $name, and free" "$(faulty 0 free 'bno missing 32 8' 'bno extra 32 224' 'bno missing 41 215' \
+    'cnt missing 32 8' 'cnt missing 41 215' 'cnt extra 32 224' 'counter freeblks 229 228' \
+    'counter longest 224 215')" --add "0:rmap:40:1:$mapping" "$@"
+}
+
+# not_taken: free space by the reverse mappings of different owners.
+not_taken() {
+  owned "a file's" 195:0 --file 195 --map 195:data:0:40:1:-
+  owned "a file's at another offset" 195:7 --file 195 --map 195:data:7:40:1:-
+  owned "a file's at the last offset" 195:0x3fffffffffffff --file 195 --map 195:data:0x3fffffffffffff:40:1:-
+  owned "a file's that isn't written" 195:0x2000000000000007 --file 195 --map 195:data:7:40:1:u
+  owned "a file's attributes" 195:0x8000000000000005 --file 195 --map 195:attr:5:40:1:-
+  owned 'in the free list' -5:0 --head 0:agf:flcount:13 --head 0:agf:fllast:12 --head 0:agfl:bno12:40
+  owned 'in the log' -4:0 --head 0:sb:logstart:40 --head 0:sb:logblocks:1
 }
 
 # spoiled_everywhere TREE: one byte at each place of a tree of two or three levels.
@@ -147,7 +214,8 @@ spoiled_everywhere() {
 # joined TREE LEAST NODE_MOST EDIT..: how the blocks of a tree fit together, which has two leaves
 # at least, each of LEAST records or more. The edits make the rest of the first two keys equal.
 joined() {
-  local tree=$1 least=$2 node_most=$3 last
+  local tree=$1 least=$2 node_most=$3 last start=start
+  [[ $tree != *ino ]] || start=startino
   look "$tree"
   last=$((${#leaves[@]} - 1))
   bad 'a wrong left sibling' "$tree" "${leaves[1]}" sibling --node "0:$tree:0:1:leftsib:7"
@@ -166,13 +234,13 @@ joined() {
   bad 'a pointer to block 0' "$tree" "$root" range --node "0:$tree:-1:0:pointer.1:0"
   bad 'a pointer outside' "$tree" "$root" range --node "0:$tree:-1:0:pointer.-1:0xffffffff"
   bad 'keys that are equal' "$tree" "$root" order \
-    --node "0:$tree:-1:0:key.1.start:$(got "$tree:-1:0:key.0.start")" "${@:4}"
+    --node "0:$tree:-1:0:key.1.$start:$(got "$tree:-1:0:key.0.$start")" "${@:4}"
 }
 
 two_levels() {
   local tree
   build 'two levels' --blocks 4000 --pieces 1200 --shared 700
-  made 'sound' "$(goods 1)"
+  made 'sound' "$(goods)"
   for tree in bno cnt rmap refc; do
     spoiled_everywhere "$tree"
   done
@@ -199,7 +267,7 @@ second_leaves() {
   bad 'one pointer alone' bno "${leaves[0]}" sibling --node 0:bno:1:0:numrecs:1
   bad 'one leaf twice' bno "${leaves[0]}" sibling --node "0:bno:1:0:pointer.1:${leaves[0]}"
   bad 'a leaf left out' bno "${leaves[1]}" sibling --node "0:bno:1:0:pointer.0:${leaves[1]}"
-  made 'bno, another count in a key' "$(goods 1)" --node 0:bno:1:0:key.1.count:99
+  made 'bno, another count in a key' "$(goods)" --node 0:bno:1:0:key.1.count:99
   look cnt
   bad 'another count in a key' cnt "$root" key --node 0:cnt:1:0:key.-1.count:4
   bad 'another start in a key' cnt "$root" key --node 0:cnt:1:0:key.-1.start:4
@@ -220,7 +288,7 @@ second_leaves() {
   last=$(($(got rmap:0:0:numrecs) - 1))
   bad 'the last record of a leaf and the next' rmap "${leaves[1]}" order \
     --change "0:rmap:$last:start:$next" --change "0:rmap:$last:word:0x3ffffffffffff"
-  made 'rmap, the flag of unwritten in its keys' "$(goods 1)" \
+  made 'rmap, the flag of unwritten in its keys' "$(goods)" \
     --node "0:rmap:1:0:key.1.word:$(($(got rmap:1:0:key.1.word) | 1 << 61))" \
     --node "0:rmap:1:0:high.0.word:$(($(got rmap:1:0:high.0.word) | 1 << 61))"
 }
@@ -253,30 +321,30 @@ too_few() {
 shapes() {
   build '505 records' --blocks 2000 --pieces 504
   look bno
-  made 'one leaf' "$(goods 1)"
+  made 'one leaf' "$(goods)"
   verdict 'made: 505 records are one leaf' $((${#leaves[@]} != 1)) "${#leaves[@]} leaves"
   build '506 records' --blocks 2000 --pieces 505
   look bno
-  made 'two leaves' "$(goods 1)"
+  made 'two leaves' "$(goods)"
   verdict 'made: 506 records are two leaves' $((${#leaves[@]} != 2)) "${#leaves[@]} leaves"
   build 'leaves half full' --blocks 4000 --pieces 1200 --shared 700 --half
-  made 'sound' "$(goods 1)"
+  made 'sound' "$(goods)"
   too_few bno 252
   too_few cnt 252
   too_few rmap 84
   too_few refc 168
   build 'several groups of two levels' --groups 3 --blocks 4000 --pieces 1200 --shared 700
   look bno
-  made 'sound' "$(goods 3)"
-  look bno 1
+  made 'sound' "$(goods)"
   made 'a byte of a leaf of the second' \
-    "$(sound 3; spaces 1; space 1 free "bno block ${leaves[1]} checksum"; spaces 1 2)" --spoil 1:bno:0:1:70
+    "$(faulty 1 free "bno block ${leaves[1]} checksum")" --spoil 1:bno:0:1:70
 }
 
 three_levels() {
   local tree
   build 'three levels' --blocks 220000 --pieces 84700 --shared 84700 --half
-  made 'sound' "$(goods 1)"
+  made 'sound' "$(goods)"
+  local has_model=no
   for tree in bno cnt rmap refc; do
     spoiled_everywhere "$tree"
   done
