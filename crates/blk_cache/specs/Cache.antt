@@ -30,5 +30,5 @@ abbrev pub Stays : BlkCache → BlkCache → Type 0
 Stays old new = (capacity_of new ≡ capacity_of old) × (entries_of new ≡ entries_of old)
 
 -- the block is kept in front with these bytes; where nothing of it was kept, it may stay so
-abbrev pub Keeps : ℕ → Block → BlkCache → BlkCache → Type 0
-Keeps at block old new = (capacity_of new ≡ capacity_of old) × KeepsIn at block (capacity_of old) (entries_of old) (entries_of new)
+abbrev pub KeepsInFront : ℕ → Block → BlkCache → BlkCache → Type 0
+KeepsInFront at block old new = (capacity_of new ≡ capacity_of old) × KeepsIn at block (capacity_of old) (entries_of old) (entries_of new)

@@ -39,7 +39,7 @@ impl BlkCache {
     ghost use Rattle.blk_device.specs.Contents.{Contents, Holds, put};
     ghost use Rattle.blk_device.specs.Crash.{NoMore, Elapses};
     ghost use Rattle.blk_device.specs.declared.device.Region.TheVariants.{Image};
-    ghost use Rattle.blk_cache.specs.Cache.{entries_of, capacity_of, kept, Agrees, AgreesTold, Keeps, Stays};
+    ghost use Rattle.blk_cache.specs.Cache.{entries_of, capacity_of, kept, Agrees, AgreesTold, KeepsInFront, Stays};
 
     /// A cache that keeps nothing yet, and at most `capacity` blocks; with 0 it never keeps one.
     pub fn new(alloc: Global, capacity: usize) -> Result<Self, Memory>
@@ -57,7 +57,7 @@ impl BlkCache {
     // A copy of the block that is kept, which becomes the most recently used.
     fn copy_kept(&mut self, at: u64) -> Option<Block>
         ensures value { result ≡ lookup (nat_eq at) (entries_of self.old) }
-        ensures found { IfSome result (λ block. Keeps at block self.old self.new) }
+        ensures found { IfSome result (λ block. KeepsInFront at block self.old self.new) }
         ensures missed { IfNone result (Stays self.old self.new) }
     {
         match &mut self.blocks {
@@ -68,7 +68,7 @@ impl BlkCache {
 
     /// Keeps the bytes that were written to an image block, in place of what was kept of it.
     pub fn note_written(&mut self, at: u64, block: &Block)
-        ensures keeps { Keeps at block.now self.old self.new }
+        ensures keeps { KeepsInFront at block.now self.old self.new }
         ensures agrees { (contents : Contents) → Agrees self.old contents → Agrees self.new (put Image at block.now.bytes contents) }
     {
         if let Some(blocks) = &mut self.blocks {
@@ -101,7 +101,7 @@ impl BlkCache {
         ensures cause { HasCause any_error (D.faults dev.old) (D.faults dev.new) result }
 
         // What is kept afterwards.
-        ensures keeps { OnOk result (Keeps at into.new self.old self.new) }
+        ensures keeps { OnOk result (KeepsInFront at into.new self.old self.new) }
         ensures failed { OnErr result (Stays self.old self.new) }
         ensures agrees { AgreesTold self.new (D.content dev.new) }
     {

@@ -12,7 +12,7 @@ use Rattle.space_check.specs.Groups.{event}
 use Rattle.space_check.specs.Progress.{Adds, Begins}
 use Rattle.space_check.specs.declared.halt.Halt.{Halt}
 use Rattle.space_check.specs.declared.halt.Halt.TheVariants.{Memory}
-use Rattle.check_phases.specs.Kept.{AreKept, Keeps, StopsKept, begun_of, group_kept, phase_kept}
+use Rattle.check_phases.specs.Kept.{AreKept, KeepsEvents, StopsKept, begun_of, group_kept, phase_kept}
 use Rattle.check_phases.specs.Phases.{Phase}
 use Rattle.check_phases.proofs.PartLemmas.{last_part, next_part}
 
@@ -50,7 +50,7 @@ stops_early es fs a b s = record {
   read = omega (arith, s.read, begun_more b.journal s.rest fs);
 }
 
-pub then_keeps : {T : Type 0} (es fs : List Event) (a b c : Moment) (result : Result T Halt) → AreKept es a b → Keeps fs b c result → Keeps (es ++ fs) a c result
+pub then_keeps : {T : Type 0} (es fs : List Event) (a b c : Moment) (result : Result T Halt) → AreKept es a b → KeepsEvents fs b c result → KeepsEvents (es ++ fs) a c result
 then_keeps es fs a b c (Ok done) first second = both_kept es fs a b c first second
 then_keeps es fs a b c (Err halt) first s = record {
   done = es ++ s.done;
@@ -60,8 +60,8 @@ then_keeps es fs a b c (Err halt) first s = record {
   read = omega (arith, first.read, s.read, reads_both es s.done);
 }
 
-pub as_kept : {T : Type 0} (es fs : List Event) (a b : Moment) (result : Result T Halt) → es ≡ fs → Keeps es a b result → Keeps fs a b result
-as_kept es fs a b result same h = subst (λ (x : List Event). Keeps x a b result) same h
+pub as_kept : {T : Type 0} (es fs : List Event) (a b : Moment) (result : Result T Halt) → es ≡ fs → KeepsEvents es a b result → KeepsEvents fs a b result
+as_kept es fs a b result same h = subst (λ (x : List Event). KeepsEvents x a b result) same h
 
 -- ---- one event
 
@@ -82,7 +82,7 @@ cut_kept e es a b room same read =
     record { done = []; rest = e ∷ es; whole = refl; entries = same ∙ sym (append-nil a.journal); read = omega (arith, read, here) }
 
 -- it was done, or there was no memory for its entries
-pub one_kept : {T : Type 0} (e : Event) (a b : Moment) (result : Result T Halt) → length a.journal < most_entries → Adds a.journal e.entries b.journal result → b.reads ≤ a.reads + e.reads → Keeps (e ∷ []) a b result
+pub one_kept : {T : Type 0} (e : Event) (a b : Moment) (result : Result T Halt) → length a.journal < most_entries → Adds a.journal e.entries b.journal result → b.reads ≤ a.reads + e.reads → KeepsEvents (e ∷ []) a b result
 one_kept e a b (Ok done) room added read = record { entries = added ∙ ap (λ (x : List Entry). a.journal ++ x) (sym (append-nil e.entries)); read = omega (arith, read) }
 one_kept e a b (Err halt) room added read = cut_kept e [] a b room added.1 read
 

@@ -27,7 +27,7 @@ use Rattle.space_check.specs.declared.halt.Halt.{Halt}
 use Rattle.space_check.specs.declared.halt.Halt.TheVariants as halts
 use Rattle.tree_blocks.specs.declared.tree.TreeRead.{TreeRead}
 use Rattle.check_phases.specs.Checks.{Checks}
-use Rattle.check_phases.specs.Kept.{AreKept, Keeps, KeepsBoth, KeepsCounts, KeepsFree, KeepsGroup, KeepsTold, StopsKept, begun_of, come, group_kept, kept_event, mapped_reads, most_in, phase_kept, unit_kept}
+use Rattle.check_phases.specs.Kept.{AreKept, KeepsEvents, KeepsBoth, KeepsCounts, KeepsFree, KeepsGroup, KeepsTold, StopsKept, begun_of, come, group_kept, kept_event, mapped_reads, most_in, phase_kept, unit_kept}
 use Rattle.check_phases.specs.Phases.{Inodes, Phase, Space, group_events, lacks_nothing, phase_events, unit_event, units_in}
 use Rattle.check_phases.specs.declared.tally.Tally.{Tally}
 use Rattle.check_phases.proofs.KeptLemmas.{as_kept, cut_kept, groups_begun, groups_ended, groups_go_on, groups_stop, none_begun, one_kept, stops_early, then_keeps}
@@ -87,7 +87,7 @@ unread_front halt es fs a b reads alike s same =
     }
 
 -- nothing was read for them
-pub unread : {T : Type 0} (es fs : List Event) (ps : List Bool) (a b : Tally) (reads : ℕ) (result : Result T Halt) → AreAlike es fs → Checks es ps a b result → Keeps fs (come a reads) (come b reads) result
+pub unread : {T : Type 0} (es fs : List Event) (ps : List Bool) (a b : Tally) (reads : ℕ) (result : Result T Halt) → AreAlike es fs → Checks es ps a b result → KeepsEvents fs (come a reads) (come b reads) result
 unread es fs ps a b reads (Ok done) alike h = record { entries = h.0.added ∙ ap (λ (x : List Entry). a.journal.entries.items ++ x) (alike_entries es fs alike); read = omega arith }
 unread es fs ps a b reads (Err (halts.Head g head fault)) alike h = absurd h.ended
 unread es fs ps a b reads (Err halts.Full) alike h = unread_front halts.Full es fs a b reads alike h (ap (λ (m : Moment). m.journal) h.ended.1)
@@ -100,7 +100,7 @@ module _ (a : State) (g : ℕ) (unit : ScrubUnit) (most : ℕ) where
   abbrev here : Event
   here = event most (entries_after a g unit None)
 
-  pub unit_keeps : {T : Type 0} (before after : Tally) (first reads : ℕ) (result : Result T Halt) (j : Judged) → IsJudged a g unit j → length before.journal.entries.items < most_entries → Adds before.journal.entries.items (entries_by g unit j) after.journal.entries.items result → reads ≤ first + most → Keeps (here ∷ []) (come before first) (come after reads) result
+  pub unit_keeps : {T : Type 0} (before after : Tally) (first reads : ℕ) (result : Result T Halt) (j : Judged) → IsJudged a g unit j → length before.journal.entries.items < most_entries → Adds before.journal.entries.items (entries_by g unit j) after.journal.entries.items result → reads ≤ first + most → KeepsEvents (here ∷ []) (come before first) (come after reads) result
   unit_keeps before after first reads result j is room added read =
       one_kept here (come before first) (come after reads) result room (subst (λ (es : List Entry). Adds before.journal.entries.items es after.journal.entries.items result) (entries_said a g unit j is) added) read
 

@@ -44,9 +44,9 @@ pub record StopsKept (events : List Event) (before after : Moment) : Type 0 wher
   pub entries : after.journal ≡ before.journal ++ entries_of done
   pub read : after.reads ≤ before.reads + (reads_of done + begun_of after.journal rest)
 
-abbrev pub Keeps : {T : Type 0} → List Event → (before after : Moment) → Result T Halt → Type 0
-Keeps events before after (Ok done) = AreKept events before after
-Keeps events before after (Err halt) = StopsKept events before after
+abbrev pub KeepsEvents : {T : Type 0} → List Event → (before after : Moment) → Result T Halt → Type 0
+KeepsEvents events before after (Ok done) = AreKept events before after
+KeepsEvents events before after (Err halt) = StopsKept events before after
 
 -- how far a check has come that counted so many blocks as read
 abbrev pub come : Tally → ℕ → Moment
@@ -85,7 +85,7 @@ most_in at image g units.Refc = shared_reads at image g (heads_of at image g).ag
 
 -- these events
 abbrev pub KeepsTold : {T : Type 0} → Option Contents → (Image → List Event) → Tally → ℕ → Tally → ℕ → Result T Halt → Type 0
-KeepsTold told events before reads after reads' result = (c : Contents) → told ≡ Some c → Keeps (events (c regions.Image)) (come before reads) (come after reads') result
+KeepsTold told events before reads after reads' result = (c : Contents) → told ≡ Some c → KeepsEvents (events (c regions.Image)) (come before reads) (come after reads') result
 
 -- the units of a group in a phase, and those of these groups
 abbrev pub KeepsGroup : {T : Type 0} → Layout → Option Contents → Phase → (ℕ → Option Place) → ℕ → Tally → ℕ → Tally → ℕ → Result T Halt → Type 0
@@ -102,7 +102,7 @@ unit_kept at image g unit = kept_event (most_in at image) (opened_state at image
 -- it begins once the reverse mappings were read, behind so many blocks
 abbrev pub KeepsMapped : {T : Type 0} → Layout → Option Contents → (Image → List Event) → ℕ → Agf → TreeRead RmapRec → Tally → ℕ → Tally → ℕ → Result T Halt → Type 0
 KeepsMapped at told events g agf mapped before reads after reads' result = (c : Contents) → told ≡ Some c
-    → IsMapped at (c regions.Image) g agf mapped → (first : ℕ) → reads ≤ first + mapped_reads at (c regions.Image) g agf → Keeps (events (c regions.Image)) (come before first) (come after reads') result
+    → IsMapped at (c regions.Image) g agf mapped → (first : ℕ) → reads ≤ first + mapped_reads at (c regions.Image) g agf → KeepsEvents (events (c regions.Image)) (come before first) (come after reads') result
 
 -- free space, by these reverse mappings, which were read before; both; reference counts
 abbrev pub KeepsFree : {T : Type 0} → Layout → Option Contents → ℕ → Agf → TreeRead RmapRec → Tally → ℕ → Tally → ℕ → Result T Halt → Type 0
@@ -114,4 +114,4 @@ KeepsBoth at told g agf mapped before reads after reads' result =
 
 abbrev pub KeepsCounts : {T : Type 0} → Layout → Option Contents → ℕ → Agf → TreeRead RmapRec → Tally → ℕ → Tally → ℕ → Result T Halt → Type 0
 KeepsCounts at told g agf mapped before reads after reads' result = (c : Contents) → told ≡ Some c
-    → IsMapped at (c regions.Image) g agf mapped → Keeps (unit_kept at (c regions.Image) g units.Refc ∷ []) (come before reads) (come after reads') result
+    → IsMapped at (c regions.Image) g agf mapped → KeepsEvents (unit_kept at (c regions.Image) g units.Refc ∷ []) (come before reads) (come after reads') result

@@ -1,6 +1,6 @@
 -- What a piece of a fork is, by the bytes of an image.
 use Rattle.std.specs.Prelude.{◌≡◌, ℕ, ◌*◌, ◌/◌, ◌%◌, ◌<◌, ◌≤◌, length, true, false, List, [], map, take, drop, Option, Some, None, Result, Ok, Err, All, IfSome, ◌⊎◌, ⊤}
-use Rattle.blk_cache.specs.Cache.{Keeps, Stays}
+use Rattle.blk_cache.specs.Cache.{KeepsInFront, Stays}
 use Rattle.blk_cache.specs.declared.cache.BlkCache.{BlkCache}
 use Rattle.byte_fields.specs.FirstFailing.{Decodes}
 use Rattle.byte_fields.specs.declared.block.Block.{Block}
@@ -123,7 +123,7 @@ IsAnswer at image ino fork from (Err Memory) = ⊤
 
 -- a cache keeps what it kept, but for the block at this place, which may be in front now
 abbrev pub CachesAt : ℕ → BlkCache → BlkCache → Type 0
-CachesAt at old new = Stays old new ⊎ ((block : Block) × Keeps at block old new)
+CachesAt at old new = Stays old new ⊎ ((block : Block) × KeepsInFront at block old new)
 
 -- no other block than the inode's is put into the cache
 abbrev pub CachesInode : Layout → ℕ → BlkCache → BlkCache → Type 0

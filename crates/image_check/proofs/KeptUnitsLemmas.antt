@@ -8,7 +8,7 @@ use Rattle.blk_device.specs.declared.device.Region.TheVariants as regions
 use Rattle.check_phases.proofs.KeptLemmas.{as_kept, begun_here, stops_early, then_keeps}
 use Rattle.check_phases.proofs.OrderLemmas.{phases_in_order}
 use Rattle.check_phases.proofs.PhaseLemmas.{phases_are_session}
-use Rattle.check_phases.specs.Kept.{AreKept, Keeps, KeepsTold, StopsKept, come, group_kept, most_in, phase_kept}
+use Rattle.check_phases.specs.Kept.{AreKept, KeepsEvents, KeepsTold, StopsKept, come, group_kept, most_in, phase_kept}
 use Rattle.check_phases.specs.Phases.{Inodes, Mappings, Phase, Space, group_events, lacks_inodes, lacks_mappings, lacks_nothing, phase_events, places, unit_event, units_in}
 use Rattle.check_phases.specs.Session.{check_events, inode_fallen, mappings_passed, phases_events}
 use Rattle.check_phases.specs.declared.part.Part.{Part}
@@ -122,25 +122,25 @@ module _ (at : Layout) (image : Image) where
       (stops_early (first ++ second) third x y (stops_early first second x y (subst (λ (es : List Event). StopsKept es x y) as_inodes h)))
 
   -- inodes were judged, and reverse mappings were or stopped
-  then_mappings : {T : Type 0} (x y z : Moment) (fallen : Option ℕ) (result : Result T Halt) → fallen ≡ inode_fallen a → AreKept (phase_kept (most_in at image) a Inodes lacks_nothing 0 at.agcount) x y → Keeps (all_kept at fallen image) y z result → Keeps (first ++ second) x z result
+  then_mappings : {T : Type 0} (x y z : Moment) (fallen : Option ℕ) (result : Result T Halt) → fallen ≡ inode_fallen a → AreKept (phase_kept (most_in at image) a Inodes lacks_nothing 0 at.agcount) x y → KeepsEvents (all_kept at fallen image) y z result → KeepsEvents (first ++ second) x z result
   then_mappings x y z fallen result is inodes mappings =
-      then_keeps first second x y z result (subst (λ (es : List Event). AreKept es x y) as_inodes inodes) (subst (λ (o : Option ℕ). Keeps (all_kept at o image) y z result) is mappings)
+      then_keeps first second x y z result (subst (λ (es : List Event). AreKept es x y) as_inodes inodes) (subst (λ (o : Option ℕ). KeepsEvents (all_kept at o image) y z result) is mappings)
 
   pub mappings_stop : (x y z : Moment) (fallen : Option ℕ) → fallen ≡ inode_fallen a → AreKept (phase_kept (most_in at image) a Inodes lacks_nothing 0 at.agcount) x y → StopsKept (all_kept at fallen image) y z → StopsKept (units_kept at image) x z
   mappings_stop x y z fallen is inodes mappings =
       subst (λ (es : List Event). StopsKept es x z) units_are (stops_early (first ++ second) third x z (then_mappings {T = Unit {0}} x y z fallen (Err halts.Memory) is inodes mappings))
 
   pub units_keep : {T : Type 0} (x y z w : Moment) (fallen : Option ℕ) (passed : List Bool) (result : Result T Halt) → fallen ≡ inode_fallen a → passed ≡ mappings_passed a → AreKept (phase_kept (most_in at image) a Inodes lacks_nothing 0 at.agcount) x y → AreKept (all_kept at fallen image) y z
-      → Keeps (phase_kept (most_in at image) a Space (lacks_mappings passed) 0 at.agcount) z w result → Keeps (units_kept at image) x w result
+      → KeepsEvents (phase_kept (most_in at image) a Space (lacks_mappings passed) 0 at.agcount) z w result → KeepsEvents (units_kept at image) x w result
   units_keep x y z w fallen passed result is are inodes mappings space =
       let both = then_mappings {T = Unit {0}} x y z fallen (Ok tt) is inodes mappings in
-      let last = subst (λ (ps : List Bool). Keeps (phase_kept (most_read at image) a Space (lacks_mappings ps) 0 at.agcount) z w result) are (as_kept (phase_kept (most_in at image) a Space (lacks_mappings passed) 0 at.agcount) (phase_kept (most_read at image) a Space (lacks_mappings passed) 0 at.agcount) z w result (as_space passed) space) in
+      let last = subst (λ (ps : List Bool). KeepsEvents (phase_kept (most_read at image) a Space (lacks_mappings ps) 0 at.agcount) z w result) are (as_kept (phase_kept (most_in at image) a Space (lacks_mappings passed) 0 at.agcount) (phase_kept (most_read at image) a Space (lacks_mappings passed) 0 at.agcount) z w result (as_space passed) space) in
       as_kept (first ++ second ++ third) (units_kept at image) x w result units_are (then_keeps (first ++ second) third x z w result both last)
 
 -- ---- phases over all groups
 
-pub from_same : {T : Type 0} (events : List Event) (x y : Tally) (reads : ℕ) (z : Moment) (result : Result T Halt) → y.journal ≡ x.journal → Keeps events (come y reads) z result → Keeps events (come x reads) z result
-from_same events x y reads z result same h = subst (λ (j : Journal). Keeps events (moment j.entries.items reads) z result) same h
+pub from_same : {T : Type 0} (events : List Event) (x y : Tally) (reads : ℕ) (z : Moment) (result : Result T Halt) → y.journal ≡ x.journal → KeepsEvents events (come y reads) z result → KeepsEvents events (come x reads) z result
+from_same events x y reads z result same h = subst (λ (j : Journal). KeepsEvents events (moment j.entries.items reads) z result) same h
 
 pub mappings_of_whole : {T : Type 0} (at : Layout) (told : Option Contents) (part : Part) (n : ℕ) (x y : Tally) (reads reads' : ℕ) (result : Result T Halt) → part.from ≡ 0 → part.to ≡ n → KeepsMappings at told part x reads y reads' result → KeepsTold told (mappings_kept at 0 n) x reads y reads' result
 mappings_of_whole at told part n x y reads reads' result none all h =
@@ -148,16 +148,16 @@ mappings_of_whole at told part n x y reads reads' result none all h =
     subst (λ k. KeepsTold told (mappings_kept at k n) x reads y reads' result) none (subst (λ k. KeepsTold told (mappings_kept at part.from k) x reads y reads' result) some h)
 
 module _ {T : Type 0} (at : Layout) (image : Image) where
-  of_whole : (phase : Phase) (lacks : ℕ → Option Place) (part : Part) (n : ℕ) (x y : Moment) (result : Result T Halt) → part.from ≡ 0 → part.to ≡ n → Keeps (phase_kept (most_in at image) (opened_state at image) phase lacks part.from (part.to - part.from)) x y result → Keeps (phase_kept (most_in at image) (opened_state at image) phase lacks 0 n) x y result
+  of_whole : (phase : Phase) (lacks : ℕ → Option Place) (part : Part) (n : ℕ) (x y : Moment) (result : Result T Halt) → part.from ≡ 0 → part.to ≡ n → KeepsEvents (phase_kept (most_in at image) (opened_state at image) phase lacks part.from (part.to - part.from)) x y result → KeepsEvents (phase_kept (most_in at image) (opened_state at image) phase lacks 0 n) x y result
   of_whole phase lacks part n x y result none all h =
       let some : part.to - part.from ≡ n = omega (arith, none, all) in
-      subst (λ k. Keeps (phase_kept (most_in at image) (opened_state at image) phase lacks k n) x y result) none (subst (λ k. Keeps (phase_kept (most_in at image) (opened_state at image) phase lacks part.from k) x y result) some h)
+      subst (λ k. KeepsEvents (phase_kept (most_in at image) (opened_state at image) phase lacks k n) x y result) none (subst (λ k. KeepsEvents (phase_kept (most_in at image) (opened_state at image) phase lacks part.from k) x y result) some h)
 
-  pub inodes_of_whole : (part : Part) (n : ℕ) (x y : Moment) (result : Result T Halt) → part.from ≡ 0 → part.to ≡ n → Keeps (phase_kept (most_in at image) (opened_state at image) Inodes lacks_nothing part.from (part.to - part.from)) x y result → Keeps (phase_kept (most_in at image) (opened_state at image) Inodes lacks_nothing 0 n) x y result
+  pub inodes_of_whole : (part : Part) (n : ℕ) (x y : Moment) (result : Result T Halt) → part.from ≡ 0 → part.to ≡ n → KeepsEvents (phase_kept (most_in at image) (opened_state at image) Inodes lacks_nothing part.from (part.to - part.from)) x y result → KeepsEvents (phase_kept (most_in at image) (opened_state at image) Inodes lacks_nothing 0 n) x y result
   inodes_of_whole part n x y result none all h = of_whole Inodes lacks_nothing part n x y result none all h
 
   pub space_of_whole : (passed : List Bool) (part : Part) (n : ℕ) (x y : Tally) (reads : ℕ) (z : Moment) (result : Result T Halt) → part.from ≡ 0 → part.to ≡ n → y.journal ≡ x.journal
-      → Keeps (phase_kept (most_in at image) (opened_state at image) Space (lacks_mappings passed) part.from (part.to - part.from)) (come y reads) z result → Keeps (phase_kept (most_in at image) (opened_state at image) Space (lacks_mappings passed) 0 n) (come x reads) z result
+      → KeepsEvents (phase_kept (most_in at image) (opened_state at image) Space (lacks_mappings passed) part.from (part.to - part.from)) (come y reads) z result → KeepsEvents (phase_kept (most_in at image) (opened_state at image) Space (lacks_mappings passed) 0 n) (come x reads) z result
   space_of_whole passed part n x y reads z result none all same h =
       from_same (phase_kept (most_in at image) (opened_state at image) Space (lacks_mappings passed) 0 n) x y reads z result same (of_whole Space (lacks_mappings passed) part n (come y reads) z result none all h)
 
@@ -226,14 +226,14 @@ module _ (at : Layout) (image : Image) where
   pub heads_end : (halt : Halt) (before after : ℕ) (journal : List Entry) → journal ≡ [] → HaltsInHeads at image before after halt → IsKept (image_events at image) before after journal
   heads_end halt before after journal empty h = subst (λ (j : List Entry). IsKept (image_events at image) before after j) (sym empty) (by_halt halt before after h)
 
-  is_kept : {T : Type 0} (before after : ℕ) (journal : List Entry) (result : Result T Halt) → Keeps (image_events at image) (moment [] before) (moment journal after) result → IsKept (image_events at image) before after journal
+  is_kept : {T : Type 0} (before after : ℕ) (journal : List Entry) (result : Result T Halt) → KeepsEvents (image_events at image) (moment [] before) (moment journal after) result → IsKept (image_events at image) before after journal
   is_kept before after journal (Ok done) h = record { done = image_events at image; rest = []; whole = sym (append-nil (image_events at image)); entries = h.entries; read = omega (arith, h.read) }
   is_kept before after journal (Err halt) h = record { done = h.done; rest = h.rest; whole = h.whole; entries = h.entries; read = h.read }
 
-  pub units_end : {T : Type 0} (before mid after : ℕ) (empty journal : List Entry) (result : Result T Halt) → bad_head_from at image 0 at.agcount ≡ None → mid ≡ before + at.agcount → empty ≡ [] → Keeps (units_kept at image) (moment empty mid) (moment journal after) result → IsKept (image_events at image) before after journal
+  pub units_end : {T : Type 0} (before mid after : ℕ) (empty journal : List Entry) (result : Result T Halt) → bad_head_from at image 0 at.agcount ≡ None → mid ≡ before + at.agcount → empty ≡ [] → KeepsEvents (units_kept at image) (moment empty mid) (moment journal after) result → IsKept (image_events at image) before after journal
   unfolding image_events
   units_end before mid after empty journal result none read is h =
-      let here = subst (λ (j : List Entry). Keeps (units_kept at image) (moment j mid) (moment journal after) result) is h in
+      let here = subst (λ (j : List Entry). KeepsEvents (units_kept at image) (moment j mid) (moment journal after) result) is h in
       let whole = then_keeps (looks at.agcount) (units_kept at image) (moment [] before) (moment [] mid) (moment journal after) result (looks_kept at.agcount before mid read) here in
       is_kept before after journal result
       (as_kept (looks at.agcount ++ units_kept at image) (image_events at image) (moment [] before) (moment journal after) result (λ i. looks (sym (looked_none none) i) ++ sym (events_judged at image none) i) whole)

@@ -4,7 +4,7 @@ use Rattle.std.specs.Prelude.{◌==◌, flat_map, fold, if◌then◌else◌, sum
 use Rattle.std.proofs.lemmas.Bool.{cases_Bool, eqb-true}
 use Rattle.std.proofs.lemmas.List.{append-nil}
 use Rattle.check_phases.proofs.KeptLemmas.{begun_here, cut_kept}
-use Rattle.check_phases.specs.Kept.{Keeps, StopsKept, begun_of, come, group_kept, kept_event, phase_kept}
+use Rattle.check_phases.specs.Kept.{KeepsEvents, StopsKept, begun_of, come, group_kept, kept_event, phase_kept}
 use Rattle.check_phases.specs.Phases.{Mappings, lacks_inodes, lacks_nothing}
 use Rattle.check_phases.specs.declared.tally.Tally.{Tally}
 use Rattle.fork_pass.specs.Counted.{forks_most, units_most}
@@ -135,25 +135,25 @@ module _ (e f : Event) (es : List Event) (a b : Tally) (first mid reads : ℕ) (
         read = omega (arith, read, as_read, more);
       }
 
-  pub first_more : {T : Type 0} (result : Result T Halt) → Keeps (e ∷ es) (come a mid) (come b reads) result → Keeps (f ∷ es) (come a first) (come b reads) result
+  pub first_more : {T : Type 0} (result : Result T Halt) → KeepsEvents (e ∷ es) (come a mid) (come b reads) result → KeepsEvents (f ∷ es) (come a first) (come b reads) result
   first_more (Ok done) h = record { entries = h.entries ∙ ap (λ (x : List Entry). a.journal.entries.items ++ (x ++ entries_of es)) (sym same); read = omega (arith, h.read, more) }
   first_more (Err halt) s = stops_by s.done s.rest s.whole s.entries s.read
 
 -- the six btrees of each group, behind all that is read before
 module _ (at : Layout) (image : Image) where
   with_forks : {T : Type 0} (n : ℕ) (t u : Tally) (first mid reads : ℕ) (result : Result T Halt) → 1 ≤ n → length t.journal.entries.items < most_entries → mid ≤ first + forks_first at image
-      → Keeps (phase_kept (trees_only at image) (opened_state at image) Mappings lacks_nothing 0 n) (come t mid) (come u reads) result → Keeps (phase_kept (most_read at image) (opened_state at image) Mappings lacks_nothing 0 n) (come t first) (come u reads) result
+      → KeepsEvents (phase_kept (trees_only at image) (opened_state at image) Mappings lacks_nothing 0 n) (come t mid) (come u reads) result → KeepsEvents (phase_kept (most_read at image) (opened_state at image) Mappings lacks_nothing 0 n) (come t first) (come u reads) result
   unfolding most_read phase_kept
   with_forks zero t u first mid reads result some room before h = absurd (omega (arith, some))
   with_forks {T} (suc n) t u first mid reads result some room before h =
       let a = opened_state at image in
       let entries = entries_after a 0 units.Rmap None in
       let trees = flat_map (group_kept (trees_only at image) a Mappings lacks_nothing) (numbers 1 n) in
-      subst (λ (es : List Event). Keeps (event (mappings_most at image 0) entries ∷ es) (come t first) (come u reads) result) (later_same at image lacks_nothing 1 n (omega arith))
+      subst (λ (es : List Event). KeepsEvents (event (mappings_most at image 0) entries ∷ es) (come t first) (come u reads) result) (later_same at image lacks_nothing 1 n (omega arith))
       (first_more (event (trees_most at image 0) entries) (event (mappings_most at image 0) entries) trees t u first mid reads refl room (omega (arith, before, first_most at image)) result h)
 
   pub all_behind : {T : Type 0} (t u : Tally) (first mid reads : ℕ) (result : Result T Halt) → 1 ≤ at.agcount → length t.journal.entries.items < most_entries → mid ≤ first + forks_first at image
-      → Keeps (mappings_kept at 0 at.agcount image) (come t mid) (come u reads) result → Keeps (all_kept at None image) (come t first) (come u reads) result
+      → KeepsEvents (mappings_kept at 0 at.agcount image) (come t mid) (come u reads) result → KeepsEvents (all_kept at None image) (come t first) (come u reads) result
   all_behind t u first mid reads result some room before h = with_forks at.agcount t u first mid reads result some room before h
 
   -- the btrees of inodes are within that

@@ -3,7 +3,7 @@ use Rattle.std.specs.Prelude.{◌≡◌, ◌≤◌, ℕ, ◌+◌, ◌-◌, List,
 use Rattle.std.specs.Global.{Vec}
 use Rattle.blk_device.specs.Contents.{Contents}
 use Rattle.blk_device.specs.declared.device.Region.TheVariants as regions
-use Rattle.check_phases.specs.Kept.{Keeps, KeepsTold, come, kept_event, phase_kept}
+use Rattle.check_phases.specs.Kept.{KeepsEvents, KeepsTold, come, kept_event, phase_kept}
 use Rattle.check_phases.specs.Phases.{Mappings, lacks_inodes, lacks_nothing}
 use Rattle.check_phases.specs.Session.{check_events}
 use Rattle.check_phases.specs.declared.part.Part.{Part}
@@ -38,12 +38,12 @@ mapping_kept at image g = kept_event (trees_only at image) (opened_state at imag
 -- of a group, where these are its chunks, and this set has the claims of all forks in it
 abbrev pub KeepsClaims : {T : Type 0} → Layout → Option Contents → ℕ → List ℕ → ClaimSet → Tally → ℕ → Tally → ℕ → Result T Halt → Type 0
 KeepsClaims at told g us set before reads after reads' result =
-    (c : Contents) → told ≡ Some c → HasForks at (c regions.Image) g us (pieces_of set) → Keeps (mapping_kept at (c regions.Image) g ∷ []) (come before reads) (come after reads') result
+    (c : Contents) → told ≡ Some c → HasForks at (c regions.Image) g us (pieces_of set) → KeepsEvents (mapping_kept at (c regions.Image) g ∷ []) (come before reads) (come after reads') result
 
 -- where that holds of the group's list and set
 abbrev pub KeepsReady : {T : Type 0} → Layout → Option Contents → ℕ → List (Vec ℕ) → List ClaimSet → Tally → ℕ → Tally → ℕ → Result T Halt → Type 0
 KeepsReady at told g lists sets before reads after reads' result =
-    (c : Contents) → told ≡ Some c → IsReady at (c regions.Image) lists sets g → Keeps (mapping_kept at (c regions.Image) g ∷ []) (come before reads) (come after reads') result
+    (c : Contents) → told ≡ Some c → IsReady at (c regions.Image) lists sets g → KeepsEvents (mapping_kept at (c regions.Image) g ∷ []) (come before reads) (come after reads') result
 
 -- those of n groups from group g on
 abbrev pub mappings_kept : Layout → (g n : ℕ) → Image → List Event
@@ -64,7 +64,7 @@ KeepsAll at told fallen before reads after reads' result = KeepsTold told (all_k
 -- none fell, and the inode btrees of all groups were read before, behind so many blocks
 abbrev pub KeepsLists : {T : Type 0} → Layout → Option Contents → Tally → ℕ → Tally → ℕ → Result T Halt → Type 0
 KeepsLists at told before reads after reads' result = (c : Contents) → told ≡ Some c
-    → (first : ℕ) → reads ≤ first + chunks_most at (c regions.Image) at.agcount → Keeps (all_kept at None (c regions.Image)) (come before first) (come after reads') result
+    → (first : ℕ) → reads ≤ first + chunks_most at (c regions.Image) at.agcount → KeepsEvents (all_kept at None (c regions.Image)) (come before first) (come after reads') result
 
 -- ---- all units
 

@@ -34,8 +34,8 @@ abbrev pub loans_of : MemHost → Option (List (Loan MemDevice))
 loans_of host = None
 
 -- the report changes nothing else that a clause speaks of
-abbrev pub Keeps : MemHost → MemHost → Type 0
-Keeps a b =
+abbrev pub KeepsFiles : MemHost → MemHost → Type 0
+KeepsFiles a b =
     (b.host_faults ≡ a.host_faults) × (b.dev_faults ≡ a.dev_faults) × (asked_of b ≡ asked_of a)
     × ((n : List ℕ) → stored_by b n ≡ stored_by a n) × (loans_of b ≡ loans_of a)
     × ((n : List ℕ) → redo_files_by b n ≡ redo_files_by a n)

@@ -85,13 +85,13 @@ impl Sink for MemHost {
     ghost use Rattle.std.specs.Prelude.{◌<◌, length, take, OnErr, IsErr, Contains};
     ghost use Rattle.blk_device.specs.Causes.{HasCause, any_error, one_more};
     ghost use Rattle.blk_device.specs.Taken.{Takes};
-    ghost use Rattle.xscrub.specs.MemHost.{Keeps};
+    ghost use Rattle.xscrub.specs.MemHost.{KeepsFiles};
 
     ghost taken = { λ h. Some h.report.items };
 
     ghost sink_faults = { λ h. h.sink_faults };
 
-    ghost kept = { Keeps };
+    ghost kept = { KeepsFiles };
 
     ghost kept_at_rest = { λ a. Prim.search rules };
 
@@ -104,7 +104,7 @@ impl Sink for MemHost {
         ensures progress { IfOk result (λ n. 0 < length piece.now → 0 < n) }
         ensures bytes { IfOk result (λ n. Takes (take n piece.now) (Some self.old.report.items) (Some self.new.report.items)) }
         ensures none { OnErr result (Some self.new.report.items ≡ Some self.old.report.items) }
-        ensures rest { Keeps self.old self.new }
+        ensures rest { KeepsFiles self.old self.new }
         ensures cause { HasCause any_error self.old.sink_faults self.new.sink_faults result }
         ensures chosen { Contains self.old.failing_puts.items self.old.puts → IsErr result }
         ensures whole { IfOk result (λ n. n ≡ length piece.now) }
