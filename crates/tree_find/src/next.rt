@@ -35,10 +35,7 @@ fn found_after<K: RecKind>(
     ensures above { MeetsFound (Ok (some_of (records_above K.form after.now (records_of K.form block.now.bytes)))) result }
     ensures memory { IfErr result IsMemory }
 {
-    let recs = match records_after::<K>(alloc, block, after) {
-        Ok(recs) => recs,
-        Err(fault) => return Err(fault),
-    };
+    let recs = records_after::<K>(alloc, block, after)?;
     if recs.is_empty() {
         return Ok(None);
     }
@@ -62,10 +59,7 @@ fn first_node<K: RecKind, B: Blocks>(
     ensures cause { HasCause is_failed (B.faults blocks.old) (B.faults blocks.new) result }
     ensures few { B.count blocks.new ≤ B.count blocks.old + level + 1 }
 {
-    let block = match open_block::<K, B>(blocks, site, level, false, p) {
-        Ok(block) => block,
-        Err(fault) => return Err(fault),
-    };
+    let block = open_block::<K, B>(blocks, site, level, false, p)?;
     if level == 0 {
         return records_after::<K>(alloc, &block, after);
     }
@@ -97,10 +91,8 @@ fn behind<K: RecKind, B: Blocks>(
         return Ok(None);
     }
     let child = child_in::<K>(block, i);
-    match first_node::<K, B>(alloc, blocks, site, level, child, after) {
-        Ok(recs) => Ok(Some(recs)),
-        Err(fault) => Err(fault),
-    }
+    let recs = first_node::<K, B>(alloc, blocks, site, level, child, after)?;
+    Ok(Some(recs))
 }
 
 /// The records above the key in the first leaf below a block of this level that has some; none
@@ -123,19 +115,13 @@ pub fn next_node<K: RecKind, B: Blocks>(
     ensures few { B.count blocks.new ≤ B.count blocks.old + (if nat_le level 8 then 2 * level + 1 else 1) }
     ensures none { IfOk result (λ found. IfNone found (B.count blocks.new ≤ B.count blocks.old + level + 1)) }
 {
-    let block = match open_block::<K, B>(blocks, site, level, root, p) {
-        Ok(block) => block,
-        Err(fault) => return Err(fault),
-    };
+    let block = open_block::<K, B>(blocks, site, level, root, p)?;
     if level == 0 {
         return found_after::<K>(alloc, &block, after);
     }
     let start = start_for::<K>(&block, after);
     let child = child_in::<K>(&block, start);
-    let found = match next_node::<K, B>(alloc, blocks, site, level - 1, false, child, after) {
-        Ok(found) => found,
-        Err(fault) => return Err(fault),
-    };
+    let found = next_node::<K, B>(alloc, blocks, site, level - 1, false, child, after)?;
     match found {
         Some(recs) => Ok(Some(recs)),
         None => behind::<K, B>(alloc, blocks, site, level - 1, &block, start + 1, after),

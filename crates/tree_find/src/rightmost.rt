@@ -55,10 +55,7 @@ fn last_node<K: RecKind, B: Blocks>(
     ensures cause { HasCause is_failed (B.faults blocks.old) (B.faults blocks.new) result }
     ensures few { B.count blocks.new ≤ B.count blocks.old + (if nat_le level 8 then level + 1 else 1) }
 {
-    let block = match open_block::<K, B>(blocks, site, level, root, p) {
-        Ok(block) => block,
-        Err(fault) => return Err(fault),
-    };
+    let block = open_block::<K, B>(blocks, site, level, root, p)?;
     if level == 0 {
         return Ok(last_record::<K>(&block));
     }
