@@ -64,6 +64,7 @@ pub fn tree_at(heads: &GroupHeads, g: u32, kind: Kind) -> TreeAt
     ensures group { result.group ≡ g }
     ensures root { result.root ≡ root_of (heads_seen heads.now) kind }
     ensures levels { result.levels ≡ level_of (heads_seen heads.now) kind }
+    ensures lsn { result.lsn ≡ heads.now.agf.lsn }
 {
     TreeAt {
         kind,
