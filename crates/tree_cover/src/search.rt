@@ -37,10 +37,7 @@ fn search_spare<K: RecKind, B: Blocks>(
     ensures cause { HasCause is_failed (B.faults blocks.old) (B.faults blocks.new) result }
     ensures few { B.count blocks.new ≤ B.count blocks.old + (level + 1) }
 {
-    let block = match open_block::<K, B>(blocks, site, level, false, p) {
-        Ok(block) => block,
-        Err(fault) => return Err(fault),
-    };
+    let block = open_block::<K, B>(blocks, site, level, false, p)?;
     let area = data_area(&block);
     let n = count_of(&block);
     if level == 0 {
@@ -105,10 +102,7 @@ pub fn search<K: RecKind, B: Blocks>(
     ensures cause { HasCause is_failed (B.faults blocks.old) (B.faults blocks.new) result }
     ensures few { B.count blocks.new ≤ B.count blocks.old + (level + 1 + most_behind level spare) }
 {
-    let block = match open_block::<K, B>(blocks, site, level, root, p) {
-        Ok(block) => block,
-        Err(fault) => return Err(fault),
-    };
+    let block = open_block::<K, B>(blocks, site, level, root, p)?;
     let area = data_area(&block);
     let n = count_of(&block);
     if level == 0 {
