@@ -58,14 +58,8 @@ fn first_piece<K: RecKind, B: Blocks>(
     ensures cause { HasCause is_failed (B.faults blocks.old) (B.faults blocks.new) result }
     ensures few { B.count blocks.new ≤ B.count blocks.old + level + 1 }
 {
-    let block = match open_block::<K, B>(blocks, site, level, false, p) {
-        Ok(block) => block,
-        Err(fault) => return Err(fault),
-    };
-    match meet(met, p) {
-        Ok(()) => {}
-        Err(fault) => return Err(fault),
-    }
+    let block = open_block::<K, B>(blocks, site, level, false, p)?;
+    meet(met, p)?;
     if level == 0 {
         return records_after::<K>(alloc, &block, after);
     }
@@ -98,10 +92,8 @@ fn piece_behind<K: RecKind, B: Blocks>(
         return Ok(None);
     }
     let child = child_in::<K>(block, i);
-    match first_piece::<K, B>(alloc, blocks, site, level, child, after, met) {
-        Ok(recs) => Ok(Some(recs)),
-        Err(fault) => Err(fault),
-    }
+    let recs = first_piece::<K, B>(alloc, blocks, site, level, child, after, met)?;
+    Ok(Some(recs))
 }
 
 // The piece of a leaf: its records above the key, if there are any or the leaf is first met.
@@ -121,14 +113,8 @@ fn leaf_records<K: RecKind>(
     ensures memory { IfErr result IsMemory }
 {
     let place = place_after::<K>(data_area(block), true, count_of(block), after);
-    match meet_if(met, p, place) {
-        Ok(()) => {}
-        Err(fault) => return Err(fault),
-    }
-    let recs = match records_after::<K>(alloc, block, after) {
-        Ok(recs) => recs,
-        Err(fault) => return Err(fault),
-    };
+    meet_if(met, p, place)?;
+    let recs = records_after::<K>(alloc, block, after)?;
     if place > 0 && recs.is_empty() {
         return Ok(None);
     }
@@ -156,24 +142,15 @@ pub fn piece_node<K: RecKind, B: Blocks>(
     ensures few { B.count blocks.new ≤ B.count blocks.old + (if nat_le level 8 then 2 * level + 1 else 1) }
     ensures none { IfOk result (λ found. IfNone found (B.count blocks.new ≤ B.count blocks.old + level + 1)) }
 {
-    let block = match open_block::<K, B>(blocks, site, level, root, p) {
-        Ok(block) => block,
-        Err(fault) => return Err(fault),
-    };
+    let block = open_block::<K, B>(blocks, site, level, root, p)?;
     if level == 0 {
         return leaf_records::<K>(alloc, &block, p, after, met);
     }
     let place = place_after::<K>(data_area(&block), false, count_of(&block), after);
-    match meet_if(met, p, place) {
-        Ok(()) => {}
-        Err(fault) => return Err(fault),
-    }
+    meet_if(met, p, place)?;
     let start = start_for::<K>(&block, after);
     let child = child_in::<K>(&block, start);
-    let found = match piece_node::<K, B>(alloc, blocks, site, level - 1, false, child, after, met) {
-        Ok(found) => found,
-        Err(fault) => return Err(fault),
-    };
+    let found = piece_node::<K, B>(alloc, blocks, site, level - 1, false, child, after, met)?;
     match found {
         Some(recs) => Ok(Some(recs)),
         None => piece_behind::<K, B>(
