@@ -69,10 +69,7 @@ pub fn enter<K: RecKind, B: Blocks>(
     ensures cause { HasCause is_failed (B.faults blocks.old) (B.faults blocks.new) result }
     ensures one { B.count blocks.new ≡ B.count blocks.old + 1 }
 {
-    let block = match blocks.load(p) {
-        Ok(block) => block,
-        Err(fault) => return Err(fault),
-    };
+    let block = blocks.load(p)?;
     if let Some(fault) = fault_in_place::<K>(&block, seen, site, level, root, p) {
         return Err(WalkFault::Bad { block: p, fault });
     }

@@ -68,10 +68,7 @@ fn walk_node<K: RecKind, B: Blocks>(
     ensures cause { HasCause is_failed (B.faults blocks.old) (B.faults blocks.new) result }
     ensures each { OnOk result (B.count blocks.new + length seen.old.blocks.items ≡ B.count blocks.old + length seen.new.blocks.items) }
 {
-    let block = match enter::<K, B>(blocks, site, level, root, p, seen) {
-        Ok(block) => block,
-        Err(fault) => return Err(fault),
-    };
+    let block = enter::<K, B>(blocks, site, level, root, p, seen)?;
     if level == 0 {
         return take_leaf::<K>(&block, &site.bounds, seen);
     }
@@ -79,18 +76,14 @@ fn walk_node<K: RecKind, B: Blocks>(
     let mut span = None;
     for i in 0..count_of(&block) {
         let child = child_at(K::kind(), area, i as usize);
-        match walk_node::<K, B>(blocks, site, level - 1, false, child, seen) {
-            Ok(below) => {
-                if !does_agree::<K>(area, i as usize, &below) {
-                    return Err(WalkFault::Bad {
-                        block: p,
-                        fault: BlockFault::Key,
-                    });
-                }
-                span = join_spans::<K>(span, below);
-            }
-            Err(fault) => return Err(fault),
+        let below = walk_node::<K, B>(blocks, site, level - 1, false, child, seen)?;
+        if !does_agree::<K>(area, i as usize, &below) {
+            return Err(WalkFault::Bad {
+                block: p,
+                fault: BlockFault::Key,
+            });
         }
+        span = join_spans::<K>(span, below);
     }
     Ok(span)
 }
@@ -143,10 +136,7 @@ fn walk_levels<K: RecKind, B: Blocks>(
 {
     let mut seen = fresh_seen::<K::Rec>(alloc);
     let level = (levels - 1) as u8;
-    match walk_node::<K, B>(blocks, site, level, true, root, &mut seen) {
-        Ok(_) => {}
-        Err(fault) => return Err(fault),
-    }
+    walk_node::<K, B>(blocks, site, level, true, root, &mut seen)?;
     if let Some(block) = open_end_of(&seen, levels) {
         return Err(WalkFault::Bad {
             block,

@@ -1,4 +1,5 @@
 use Rattle.std.proofs.Common.{◌≡◌, ◌-◌, ◌<◌, length, sym, ◌∙◌, ap, arith, false}
+use Rattle.std.proofs.lemmas.Result.{err_from_is_err_and}
 use Rattle.sblock.specs.Area.{child_of}
 use Rattle.sblock.specs.Blocks.{numrecs}
 use Rattle.tree_defs.specs.Tree.{read_node}
@@ -9,77 +10,80 @@ use Rattle.tree_blocks.proofs.ReadingLemmas.{reads_on}
 use Rattle.tree_walk.proofs.StepLemmas.{node_taken, refused_node, leaf_meets, leaf_sound, step_read, step_wrong, step_bad, all_read, on_ok, node_counted, refused_counted, leaf_has_read, none_counted, child_counted, wrong_counted, cut_off}
 use Rattle.tree_walk.proofs.walker.+walk_node.Goals as goal
 
-pub returns-in-Err-clause-exact : goal.returns-in-Err-clause-exact
-returns-in-Err-clause-exact g t c = λ m e.
-    refused_node g.K.RecKind.form c.args.site.now m c.args.level c.args.root c.args.p (trail_of c.args.seen.now) c.in-Err.fault (c.in-Err.ensures.refused m e)
+pub returns-in_err-block-clause-exact : goal.returns-in_err-block-clause-exact
+returns-in_err-block-clause-exact g t c = λ m e.
+    let p = err_from_is_err_and c.from_residual.result c.from_residual.ensures.1 in
+    rw (p.1, p.2) (refused_node g.K.RecKind.form c.args.site.now m c.args.level c.args.root c.args.p (trail_of c.args.seen.now) c.in_err-block.field-0.0 (c.in_err-block.ensures.refused m e))
 
-pub returns-in-Err-clause-counted : goal.returns-in-Err-clause-counted
-returns-in-Err-clause-counted g t c = λ m e.
-    refused_counted g.K.RecKind.form c.args.site.now m c.args.level c.args.root c.args.p (trail_of c.args.seen.now) c.in-Err.fault (g.B.Blocks.count c.args.blocks.now) (g.B.Blocks.count c.enter.new.blocks) (c.in-Err.ensures.refused m e) c.in-Err.ensures.one
+pub returns-in_err-block-clause-counted : goal.returns-in_err-block-clause-counted
+returns-in_err-block-clause-counted g t c = λ m e.
+    let p = err_from_is_err_and c.from_residual.result c.from_residual.ensures.1 in
+    rw (p.1, p.2) (refused_counted g.K.RecKind.form c.args.site.now m c.args.level c.args.root c.args.p (trail_of c.args.seen.now) c.in_err-block.field-0.0 (g.B.Blocks.count c.args.blocks.now) (g.B.Blocks.count c.enter.new.blocks) (c.in_err-block.ensures.refused m e) c.in_err-block.ensures.one)
 
 pub take_leaf-requires-clause-room : goal.take_leaf-requires-clause-room
-take_leaf-requires-clause-room g t c = leaf_room g.K.RecKind.form c.args.site.now (trail_of c.args.seen.now) c.args.level c.args.root c.args.p c.in-Ok.block.bytes c.in-Ok.ensures.passes c.if-level-eq0.true
+take_leaf-requires-clause-room g t c = leaf_room g.K.RecKind.form c.args.site.now (trail_of c.args.seen.now) c.args.level c.args.root c.args.p c.in_ok-block.block.bytes c.in_ok-block.ensures.passes c.if-level-eq0.true
 
 pub take_leaf-requires-clause-inside : goal.take_leaf-requires-clause-inside
-take_leaf-requires-clause-inside g t c = leaf_inside g.K.RecKind.form c.args.site.now (trail_of c.args.seen.now) c.args.level c.args.root c.args.p c.in-Ok.block.bytes c.in-Ok.ensures.passes c.if-level-eq0.true
+take_leaf-requires-clause-inside g t c = leaf_inside g.K.RecKind.form c.args.site.now (trail_of c.args.seen.now) c.args.level c.args.root c.args.p c.in_ok-block.block.bytes c.in_ok-block.ensures.passes c.if-level-eq0.true
 
 pub returns-then-level-eq0-clause-exact : goal.returns-then-level-eq0-clause-exact
 returns-then-level-eq0-clause-exact g t c = λ m e.
-    leaf_meets g.K.RecKind.form c.args.site.now m c.args.level c.args.root c.args.p (trail_of c.args.seen.now) (trail_of c.enter.new.seen) (trail_of c.take_leaf.new.seen) c.in-Ok.block.bytes c.take_leaf.result c.if-level-eq0.true (c.in-Ok.ensures.told m e) c.in-Ok.ensures.passes c.in-Ok.ensures.trail c.take_leaf.ensures.span c.take_leaf.ensures.trail c.take_leaf.ensures.memory
+    leaf_meets g.K.RecKind.form c.args.site.now m c.args.level c.args.root c.args.p (trail_of c.args.seen.now) (trail_of c.enter.new.seen) (trail_of c.take_leaf.new.seen) c.in_ok-block.block.bytes c.take_leaf.result c.if-level-eq0.true (c.in_ok-block.ensures.told m e) c.in_ok-block.ensures.passes c.in_ok-block.ensures.trail c.take_leaf.ensures.span c.take_leaf.ensures.trail c.take_leaf.ensures.memory
 
 pub returns-then-level-eq0-clause-sound : goal.returns-then-level-eq0-clause-sound
 returns-then-level-eq0-clause-sound g t c = λ before.
-    leaf_sound g.K.RecKind.form c.args.site.now c.args.level c.args.root c.args.p (trail_of c.args.seen.now) (trail_of c.enter.new.seen) (trail_of c.take_leaf.new.seen) c.in-Ok.block.bytes c.take_leaf.result c.if-level-eq0.true c.in-Ok.ensures.passes c.in-Ok.ensures.trail c.take_leaf.ensures.trail before
+    leaf_sound g.K.RecKind.form c.args.site.now c.args.level c.args.root c.args.p (trail_of c.args.seen.now) (trail_of c.enter.new.seen) (trail_of c.take_leaf.new.seen) c.in_ok-block.block.bytes c.take_leaf.result c.if-level-eq0.true c.in_ok-block.ensures.passes c.in_ok-block.ensures.trail c.take_leaf.ensures.trail before
 
 pub returns-then-level-eq0-clause-lie : goal.returns-then-level-eq0-clause-lie
 returns-then-level-eq0-clause-lie g t c = λ before.
-    lie_still c.args.site.now.bounds.length c.enter.new.seen.blocks.items c.take_leaf.new.seen.blocks.items c.take_leaf.result c.take_leaf.ensures.blocks (noted_lie (trail_of c.args.seen.now) (trail_of c.enter.new.seen) c.args.level c.args.p c.in-Ok.block.bytes c.args.site.now.bounds.length c.in-Ok.ensures.trail c.requires.inside before)
+    lie_still c.args.site.now.bounds.length c.enter.new.seen.blocks.items c.take_leaf.new.seen.blocks.items c.take_leaf.result c.take_leaf.ensures.blocks (noted_lie (trail_of c.args.seen.now) (trail_of c.enter.new.seen) c.args.level c.args.p c.in_ok-block.block.bytes c.args.site.now.bounds.length c.in_ok-block.ensures.trail c.requires.inside before)
 
 pub returns-then-level-eq0-clause-counted : goal.returns-then-level-eq0-clause-counted
 returns-then-level-eq0-clause-counted g t c = λ m e.
-    leaf_has_read g.K.RecKind.form c.args.site.now m c.args.level c.args.root c.args.p (trail_of c.args.seen.now) c.take_leaf.result (g.B.Blocks.count c.args.blocks.now) (g.B.Blocks.count c.enter.new.blocks) c.if-level-eq0.true c.take_leaf.ensures.memory c.in-Ok.ensures.one
+    leaf_has_read g.K.RecKind.form c.args.site.now m c.args.level c.args.root c.args.p (trail_of c.args.seen.now) c.take_leaf.result (g.B.Blocks.count c.args.blocks.now) (g.B.Blocks.count c.enter.new.blocks) c.if-level-eq0.true c.take_leaf.ensures.memory c.in_ok-block.ensures.one
 
 pub returns-then-level-eq0-clause-each : goal.returns-then-level-eq0-clause-each
 returns-then-level-eq0-clause-each g t c =
-    let a = noted_blocks (trail_of c.args.seen.now) (trail_of c.enter.new.seen) c.args.level c.args.p c.in-Ok.block.bytes c.in-Ok.ensures.trail in
+    let a = noted_blocks (trail_of c.args.seen.now) (trail_of c.enter.new.seen) c.args.level c.args.p c.in_ok-block.block.bytes c.in_ok-block.ensures.trail in
     let b : length c.take_leaf.new.seen.blocks.items ≡ length c.enter.new.seen.blocks.items = ap length c.take_leaf.ensures.blocks in
-    on_ok c.take_leaf.result (omega (arith, c.in-Ok.ensures.one))
+    on_ok c.take_leaf.result (omega (arith, c.in_ok-block.ensures.one))
 
 pub loop-i-init : goal.loop-i-init
 loop-i-init g t c =
     let form = g.K.RecKind.form in
-    let bytes = c.in-Ok.block.bytes in
+    let bytes = c.in_ok-block.block.bytes in
     let before = trail_of c.args.seen.now in
     let pos : 0 < c.args.level = omega (arith, c.if-level-eq0.false) in
-    let a = noted_blocks before (trail_of c.enter.new.seen) c.args.level c.args.p bytes c.in-Ok.ensures.trail in
-    let r = noted_recs before (trail_of c.enter.new.seen) c.args.level c.args.p bytes c.in-Ok.ensures.trail in
+    let a = noted_blocks before (trail_of c.enter.new.seen) c.args.level c.args.p bytes c.in_ok-block.ensures.trail in
+    let r = noted_recs before (trail_of c.enter.new.seen) c.args.level c.args.p bytes c.in_ok-block.ensures.trail in
     let count : c.count_of-i-end.result ≡ numrecs bytes = c.count_of-i-end.ensures in
     let n : c.count_of-i-end.result - 0 ≡ numrecs bytes = omega (arith, count) in
-    let room = node_room form c.args.site.now before c.args.level c.args.root c.args.p bytes c.in-Ok.ensures.passes pos in
-    let below = children_inside form c.args.site.now before c.args.level c.args.root c.args.p bytes c.in-Ok.ensures.passes pos in
+    let room = node_room form c.args.site.now before c.args.level c.args.root c.args.p bytes c.in_ok-block.ensures.passes pos in
+    let below = children_inside form c.args.site.now before c.args.level c.args.root c.args.p bytes c.in_ok-block.ensures.passes pos in
     record {
-      goes_on = λ m e. rw (n, c.data_area-area.ensures.shows, c.in-Ok.ensures.trail) (sym (node_taken form c.args.site.now m c.args.level c.args.root c.args.p before bytes pos (c.in-Ok.ensures.told m e) c.in-Ok.ensures.passes));
+      goes_on = λ m e. rw (n, c.data_area-area.ensures.shows, c.in_ok-block.ensures.trail) (sym (node_taken form c.args.site.now m c.args.level c.args.root c.args.p before bytes pos (c.in_ok-block.ensures.told m e) c.in_ok-block.ensures.passes));
       sound = λ s. rw r s;
-      lie = λ s. noted_lie before (trail_of c.enter.new.seen) c.args.level c.args.p bytes c.args.site.now.bounds.length c.in-Ok.ensures.trail c.requires.inside s;
-      counted = λ m e. rw (n, c.data_area-area.ensures.shows, c.in-Ok.ensures.trail) (omega (arith, c.in-Ok.ensures.one, node_counted form c.args.site.now m c.args.level c.args.root c.args.p before bytes pos (c.in-Ok.ensures.told m e) c.in-Ok.ensures.passes));
-      reading = c.in-Ok.ensures.reading;
-      calm = c.in-Ok.ensures.cause;
+      lie = λ s. noted_lie before (trail_of c.enter.new.seen) c.args.level c.args.p bytes c.args.site.now.bounds.length c.in_ok-block.ensures.trail c.requires.inside s;
+      counted = λ m e. rw (n, c.data_area-area.ensures.shows, c.in_ok-block.ensures.trail) (omega (arith, c.in_ok-block.ensures.one, node_counted form c.args.site.now m c.args.level c.args.root c.args.p before bytes pos (c.in_ok-block.ensures.told m e) c.in_ok-block.ensures.passes));
+      reading = c.in_ok-block.ensures.reading;
+      calm = c.in_ok-block.ensures.cause;
       room = omega (arith, room, count);
       inside = λ k lt. rw (c.data_area-area.ensures.shows) (child_inside form c.args.site.now.bounds.length bytes below k (omega (arith, lt, count)));
-      each = omega (arith, c.in-Ok.ensures.one, a);
+      each = omega (arith, c.in_ok-block.ensures.one, a);
     }
 
 pub returns-then-not-does_agree-clause-exact : goal.returns-then-not-does_agree-clause-exact
 returns-then-not-does_agree-clause-exact g t c = λ m e.
     let form = g.K.RecKind.form in
     let child : c.child_at-child.result ≡ child_of form.kind c.data_area-area.result.now c.loop-i.i = rw (c.kind.ensures) at c.child_at-child.ensures in
-    step_wrong form (read_node form c.args.site.now m (c.args.level - 1) false) c.args.p c.data_area-area.result.now c.count_of-i-end.result c.loop-i.i c.child_at-child.result (trail_of c.loop-i.seen) c.loop-i.span _ (trail_of c.walk_node.new.seen) c.in-Ok-walk_node.below c.does_agree.result c.loop-i-test.true child (c.loop-i.invariant.goes_on m e) (c.in-Ok-walk_node.ensures.exact m (c.loop-i.invariant.reading.same ∙ e)) c.does_agree.ensures c.if-not-does_agree.true
+    step_wrong form (read_node form c.args.site.now m (c.args.level - 1) false) c.args.p c.data_area-area.result.now c.count_of-i-end.result c.loop-i.i c.child_at-child.result (trail_of c.loop-i.seen) c.loop-i.span _ (trail_of c.walk_node.new.seen) c.in_ok-below.below c.does_agree.result c.loop-i-test.true child (c.loop-i.invariant.goes_on m e) (c.in_ok-below.ensures.exact m (c.loop-i.invariant.reading.same ∙ e)) c.does_agree.ensures c.if-not-does_agree.true
 
-pub returns-in-Err-walk_node-clause-exact : goal.returns-in-Err-walk_node-clause-exact
-returns-in-Err-walk_node-clause-exact g t c = λ m e.
+pub returns-in_err-below-clause-exact : goal.returns-in_err-below-clause-exact
+returns-in_err-below-clause-exact g t c = λ m e.
     let form = g.K.RecKind.form in
     let child : c.child_at-child.result ≡ child_of form.kind c.data_area-area.result.now c.loop-i.i = rw (c.kind.ensures) at c.child_at-child.ensures in
-    step_bad form (read_node form c.args.site.now m (c.args.level - 1) false) c.args.p c.data_area-area.result.now c.count_of-i-end.result c.loop-i.i c.child_at-child.result (trail_of c.loop-i.seen) c.loop-i.span _ c.in-Err-walk_node.fault c.loop-i-test.true child (c.loop-i.invariant.goes_on m e) (c.in-Err-walk_node.ensures.exact m (c.loop-i.invariant.reading.same ∙ e))
+    let p = err_from_is_err_and c.from_residual-in_err-below.result c.from_residual-in_err-below.ensures.1 in
+    rw (p.1, p.2) (step_bad form (read_node form c.args.site.now m (c.args.level - 1) false) c.args.p c.data_area-area.result.now c.count_of-i-end.result c.loop-i.i c.child_at-child.result (trail_of c.loop-i.seen) c.loop-i.span _ c.in_err-below.field-0.0 c.loop-i-test.true child (c.loop-i.invariant.goes_on m e) (c.in_err-below.ensures.exact m (c.loop-i.invariant.reading.same ∙ e)))
 
 pub returns-then-not-does_agree-clause-counted : goal.returns-then-not-does_agree-clause-counted
 returns-then-not-does_agree-clause-counted g t c = λ m e.
@@ -88,35 +92,36 @@ returns-then-not-does_agree-clause-counted g t c = λ m e.
     omega (
       arith,
       c.loop-i.invariant.counted m e,
-      c.in-Ok-walk_node.ensures.counted m (c.loop-i.invariant.reading.same ∙ e),
-      wrong_counted form (read_node form c.args.site.now m (c.args.level - 1) false) (walked_node form c.args.site.now m (c.args.level - 1) false) c.data_area-area.result.now c.count_of-i-end.result c.loop-i.i c.child_at-child.result (trail_of c.loop-i.seen) c.loop-i-test.true child (trail_of c.walk_node.new.seen) c.in-Ok-walk_node.below c.does_agree.result (c.in-Ok-walk_node.ensures.exact m (c.loop-i.invariant.reading.same ∙ e)) c.does_agree.ensures c.if-not-does_agree.true,
+      c.in_ok-below.ensures.counted m (c.loop-i.invariant.reading.same ∙ e),
+      wrong_counted form (read_node form c.args.site.now m (c.args.level - 1) false) (walked_node form c.args.site.now m (c.args.level - 1) false) c.data_area-area.result.now c.count_of-i-end.result c.loop-i.i c.child_at-child.result (trail_of c.loop-i.seen) c.loop-i-test.true child (trail_of c.walk_node.new.seen) c.in_ok-below.below c.does_agree.result (c.in_ok-below.ensures.exact m (c.loop-i.invariant.reading.same ∙ e)) c.does_agree.ensures c.if-not-does_agree.true,
     )
 
-pub returns-in-Err-walk_node-clause-counted : goal.returns-in-Err-walk_node-clause-counted
-returns-in-Err-walk_node-clause-counted g t c = λ m e.
+pub returns-in_err-below-clause-counted : goal.returns-in_err-below-clause-counted
+returns-in_err-below-clause-counted g t c = λ m e.
     let form = g.K.RecKind.form in
     let child : c.child_at-child.result ≡ child_of form.kind c.data_area-area.result.now c.loop-i.i = rw (c.kind.ensures) at c.child_at-child.ensures in
-    cut_off form (read_node form c.args.site.now m (c.args.level - 1) false) (walked_node form c.args.site.now m (c.args.level - 1) false) c.data_area-area.result.now c.count_of-i-end.result c.loop-i.i c.child_at-child.result (trail_of c.loop-i.seen) c.loop-i-test.true child c.in-Err-walk_node.fault (g.B.Blocks.count c.args.blocks.now) (g.B.Blocks.count c.loop-i.blocks) (g.B.Blocks.count c.walk_node.new.blocks) (walked_node form c.args.site.now m c.args.level c.args.root c.args.p (trail_of c.args.seen.now)) (c.loop-i.invariant.counted m e) (c.in-Err-walk_node.ensures.exact m (c.loop-i.invariant.reading.same ∙ e)) (c.in-Err-walk_node.ensures.counted m (c.loop-i.invariant.reading.same ∙ e))
+    let p = err_from_is_err_and c.from_residual-in_err-below.result c.from_residual-in_err-below.ensures.1 in
+    rw (p.1, p.2) (cut_off form (read_node form c.args.site.now m (c.args.level - 1) false) (walked_node form c.args.site.now m (c.args.level - 1) false) c.data_area-area.result.now c.count_of-i-end.result c.loop-i.i c.child_at-child.result (trail_of c.loop-i.seen) c.loop-i-test.true child c.in_err-below.field-0.0 (g.B.Blocks.count c.args.blocks.now) (g.B.Blocks.count c.loop-i.blocks) (g.B.Blocks.count c.walk_node.new.blocks) (walked_node form c.args.site.now m c.args.level c.args.root c.args.p (trail_of c.args.seen.now)) (c.loop-i.invariant.counted m e) (c.in_err-below.ensures.exact m (c.loop-i.invariant.reading.same ∙ e)) (c.in_err-below.ensures.counted m (c.loop-i.invariant.reading.same ∙ e)))
 
 pub loop-i-preserved : goal.loop-i-preserved
 loop-i-preserved g t c =
     let form = g.K.RecKind.form in
     let child : c.child_at-child.result ≡ child_of form.kind c.data_area-area.result.now c.loop-i.i = rw (c.kind.ensures) at c.child_at-child.ensures in
     record {
-      goes_on = λ m e. step_read form (read_node form c.args.site.now m (c.args.level - 1) false) c.args.p c.data_area-area.result.now c.count_of-i-end.result c.loop-i.i c.child_at-child.result (trail_of c.loop-i.seen) c.loop-i.span _ (trail_of c.walk_node.new.seen) c.in-Ok-walk_node.below c.join_spans-span.result c.does_agree.result c.loop-i-test.true child (c.loop-i.invariant.goes_on m e) (c.in-Ok-walk_node.ensures.exact m (c.loop-i.invariant.reading.same ∙ e)) c.does_agree.ensures c.if-not-does_agree.false c.join_spans-span.ensures;
-      sound = λ s. c.in-Ok-walk_node.ensures.sound (c.loop-i.invariant.sound s);
-      lie = λ s. c.in-Ok-walk_node.ensures.lie (c.loop-i.invariant.lie s);
+      goes_on = λ m e. step_read form (read_node form c.args.site.now m (c.args.level - 1) false) c.args.p c.data_area-area.result.now c.count_of-i-end.result c.loop-i.i c.child_at-child.result (trail_of c.loop-i.seen) c.loop-i.span _ (trail_of c.walk_node.new.seen) c.in_ok-below.below c.join_spans-span.result c.does_agree.result c.loop-i-test.true child (c.loop-i.invariant.goes_on m e) (c.in_ok-below.ensures.exact m (c.loop-i.invariant.reading.same ∙ e)) c.does_agree.ensures c.if-not-does_agree.false c.join_spans-span.ensures;
+      sound = λ s. c.in_ok-below.ensures.sound (c.loop-i.invariant.sound s);
+      lie = λ s. c.in_ok-below.ensures.lie (c.loop-i.invariant.lie s);
       counted = λ m e. omega (
         arith,
         c.loop-i.invariant.counted m e,
-        c.in-Ok-walk_node.ensures.counted m (c.loop-i.invariant.reading.same ∙ e),
-        child_counted form (read_node form c.args.site.now m (c.args.level - 1) false) (walked_node form c.args.site.now m (c.args.level - 1) false) c.data_area-area.result.now c.count_of-i-end.result c.loop-i.i c.child_at-child.result (trail_of c.loop-i.seen) c.loop-i-test.true child (trail_of c.walk_node.new.seen) c.in-Ok-walk_node.below c.does_agree.result (c.in-Ok-walk_node.ensures.exact m (c.loop-i.invariant.reading.same ∙ e)) c.does_agree.ensures c.if-not-does_agree.false,
+        c.in_ok-below.ensures.counted m (c.loop-i.invariant.reading.same ∙ e),
+        child_counted form (read_node form c.args.site.now m (c.args.level - 1) false) (walked_node form c.args.site.now m (c.args.level - 1) false) c.data_area-area.result.now c.count_of-i-end.result c.loop-i.i c.child_at-child.result (trail_of c.loop-i.seen) c.loop-i-test.true child (trail_of c.walk_node.new.seen) c.in_ok-below.below c.does_agree.result (c.in_ok-below.ensures.exact m (c.loop-i.invariant.reading.same ∙ e)) c.does_agree.ensures c.if-not-does_agree.false,
       );
       reading = reads_on g.B.Blocks g.met.B.Blocks.follows_trans c.args.blocks.now c.loop-i.blocks c.walk_node.new.blocks c.loop-i.invariant.reading c.walk_node.ensures.reading;
-      calm = c.in-Ok-walk_node.ensures.cause ∙ c.loop-i.invariant.calm;
+      calm = c.in_ok-below.ensures.cause ∙ c.loop-i.invariant.calm;
       room = c.loop-i.invariant.room;
       inside = c.loop-i.invariant.inside;
-      each = omega (arith, c.loop-i.invariant.each, c.in-Ok-walk_node.ensures.each);
+      each = omega (arith, c.loop-i.invariant.each, c.in_ok-below.ensures.each);
     }
 
 pub returns-clause-exact : goal.returns-clause-exact
