@@ -130,34 +130,16 @@ fn walk_entries<D: Device, L: Ledger>(
 {
     for i in 0..table.count {
         let task = entry_at(bytes, table, level, i);
-        let found = match open_task(dev, geo, core, 0, &task, seen, steps) {
-            Ok(found) => found,
-            Err(fault) => return Err(fault),
-        };
+        let found = open_task(dev, geo, core, 0, &task, seen, steps)?;
         let Some(block) = found else {
             return Ok(false);
         };
-        match take_block(seen, &task, &block) {
-            Ok(()) => {}
-            Err(fault) => return Err(fault),
-        }
+        take_block(seen, &task, &block)?;
         if level == 0 {
             continue;
         }
         let below = node_table(&block);
-        let whole = match walk_entries(
-            dev,
-            geo,
-            core,
-            &block.bytes,
-            &below,
-            level - 1,
-            seen,
-            steps,
-        ) {
-            Ok(whole) => whole,
-            Err(fault) => return Err(fault),
-        };
+        let whole = walk_entries(dev, geo, core, &block.bytes, &below, level - 1, seen, steps)?;
         if !whole {
             return Ok(false);
         }
@@ -196,10 +178,7 @@ fn tree_fault<D: Device, L: Ledger>(
     let table = root_table(area, room);
     let level = level_in(area);
     let top = top_in(area);
-    let whole = match walk_entries(dev, geo, core, area, &table, top, &mut seen, steps) {
-        Ok(whole) => whole,
-        Err(fault) => return Err(fault),
-    };
+    let whole = walk_entries(dev, geo, core, area, &table, top, &mut seen, steps)?;
     Ok(judge(geo, fork, level, &seen, &stop_of(whole)))
 }
 
@@ -266,9 +245,6 @@ pub fn first_fault<D: Device, L: Ledger>(
     ensures agrees { AgreesTold cache.new (D.content dev.new) }
     ensures cached { CachesInode (layout geo.now) ino cache.old cache.new }
 {
-    let core = match load_core(dev, cache, geo, ino, steps) {
-        Ok(core) => core,
-        Err(fault) => return Err(fault),
-    };
+    let core = load_core(dev, cache, geo, ino, steps)?;
     first_fault_of_core(alloc, dev, geo, &core, fork, steps)
 }

@@ -74,10 +74,7 @@ pub fn load_core<D: Device, L: Ledger>(
         unreachable!()
     };
     let at = geo.device_block(place.0, place.1);
-    let block = match load(dev, cache, at, steps) {
-        Ok(block) => block,
-        Err(fault) => return Err(fault),
-    };
+    let block = load(dev, cache, at, steps)?;
     match core_in(&block, ino, geo) {
         Ok(core) => Ok(core),
         Err(fault) => Err(ReadFault::Core(fault)),

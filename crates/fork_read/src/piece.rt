@@ -93,10 +93,7 @@ fn tree_piece<D: Device, L: Ledger>(
         Ok(level) => level,
         Err(_) => return Err(ReadFault::Memory),
     };
-    let stop = match walk_piece(dev, geo, core, from, &mut seen, &mut tasks, steps) {
-        Ok(stop) => stop,
-        Err(fault) => return Err(fault),
-    };
+    let stop = walk_piece(dev, geo, core, from, &mut seen, &mut tasks, steps)?;
     answer(alloc, geo, fork, level, from, &seen, &stop)
 }
 
@@ -170,9 +167,6 @@ pub fn fork_piece<D: Device, L: Ledger>(
     ensures spent { SpendsInode (layout geo.now) (D.content dev.old) ino fork from steps.old.reads steps.new.reads }
     ensures paid { PaysInode (layout geo.now) (D.content dev.old) ino fork from result steps.old.reads steps.new.reads }
 {
-    let core = match load_core(dev, cache, geo, ino, steps) {
-        Ok(core) => core,
-        Err(fault) => return Err(fault),
-    };
+    let core = load_core(dev, cache, geo, ino, steps)?;
     piece_of_core(alloc, dev, geo, &core, fork, from, steps)
 }

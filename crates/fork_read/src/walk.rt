@@ -88,10 +88,7 @@ pub fn open_task<D: Device, L: Ledger>(
         return Ok(None);
     };
     let at = geo.device_block(place.0, place.1);
-    let block = match load(dev, at, steps) {
-        Ok(block) => block,
-        Err(fault) => return Err(fault),
-    };
+    let block = load(dev, at, steps)?;
     if !is_sound_at(&block, geo, core, seen, task, from, place) {
         return Ok(None);
     }
@@ -124,10 +121,7 @@ fn read_task<D: Device, L: Ledger>(
     ensures cause { HasCause is_failed (D.faults dev.old) (D.faults dev.new) result }
     ensures few { steps.new.reads ≤ steps.old.reads + 1 }
 {
-    let found = match open_task(dev, geo, core, from, task, seen, steps) {
-        Ok(found) => found,
-        Err(fault) => return Err(fault),
-    };
+    let found = open_task(dev, geo, core, from, task, seen, steps)?;
     let Some(block) = found else {
         return Ok(false);
     };
@@ -240,10 +234,7 @@ fn walk_on<D: Device, L: Ledger>(
             return Ok(end_at(seen, tasks, task, from));
         }
         is_border = task.level == 0;
-        let read = match read_task(dev, geo, core, from, &task, seen, tasks, steps) {
-            Ok(read) => read,
-            Err(fault) => return Err(fault),
-        };
+        let read = read_task(dev, geo, core, from, &task, seen, tasks, steps)?;
         if !read {
             return Ok(Stop::Bad);
         }
@@ -279,10 +270,7 @@ fn walk_behind<D: Device, L: Ledger>(
     let mut task = first;
     for i in 0..MOST_BEHIND {
         let _read = i;
-        let read = match read_task(dev, geo, core, from, &task, seen, tasks, steps) {
-            Ok(read) => read,
-            Err(fault) => return Err(fault),
-        };
+        let read = read_task(dev, geo, core, from, &task, seen, tasks, steps)?;
         if !read {
             return Ok(Stop::Bad);
         }
@@ -327,10 +315,7 @@ pub fn walk_piece<D: Device, L: Ledger>(
     ensures cause { HasCause is_failed (D.faults dev.old) (D.faults dev.new) result }
     ensures few { steps.new.reads ≤ steps.old.reads + 128 }
 {
-    let stop = match walk_on(dev, geo, core, from, seen, tasks, steps) {
-        Ok(stop) => stop,
-        Err(fault) => return Err(fault),
-    };
+    let stop = walk_on(dev, geo, core, from, seen, tasks, steps)?;
     match stuck_at(&stop) {
         None => Ok(stop),
         Some(task) => walk_behind(dev, geo, core, from, task, seen, tasks, steps),

@@ -134,10 +134,9 @@ impl Cursor {
         let at = self.at;
         let mut rest = trees;
         while let Some((tree, later)) = rest.split_first() {
-            match next_in_tree::<D, L>(at, dev, cache, geo, tree, steps) {
-                Ok(None) => {}
-                Ok(Some(ino)) => return Ok(Some(ino)),
-                Err(fault) => return Err(fault),
+            let found = next_in_tree::<D, L>(at, dev, cache, geo, tree, steps)?;
+            if let Some(ino) = found {
+                return Ok(Some(ino));
             }
             rest = later;
         }

@@ -33,10 +33,7 @@ fn search_node<B: Blocks>(
     ensures cause { HasCause is_failed (B.faults blocks.old) (B.faults blocks.new) result }
     ensures counted { (m : ℕ → List ℕ) → B.told blocks.old ≡ Some m → OnOk result (B.count blocks.new ≡ B.count blocks.old + reads_below site.now m from end level p) }
 {
-    let block = match open_block::<InoKind, B>(blocks, site, level, root, p) {
-        Ok(block) => block,
-        Err(fault) => return Err(fault),
-    };
+    let block = open_block::<InoKind, B>(blocks, site, level, root, p)?;
     if level == 0 {
         return Ok(first_in_leaf(&block, from, end));
     }
@@ -46,10 +43,9 @@ fn search_node<B: Blocks>(
     let start = start_for::<InoKind>(&block, &Some(key));
     for i in start..count_of(&block) as usize {
         let child = child_in::<InoKind>(&block, i);
-        match search_node::<B>(blocks, site, level - 1, false, child, from, end) {
-            Ok(None) => {}
-            Ok(Some(number)) => return Ok(Some(number)),
-            Err(fault) => return Err(fault),
+        let found = search_node::<B>(blocks, site, level - 1, false, child, from, end)?;
+        if let Some(number) = found {
+            return Ok(Some(number));
         }
     }
     Ok(None)

@@ -1,4 +1,5 @@
 use Rattle.std.proofs.Common.{◌≡◌, ℕ, ◌-◌, List, ap, sym, ◌∙◌, arith}
+use Rattle.std.proofs.lemmas.Result.{err_from_is_err_and}
 use Rattle.blk_device.specs.declared.device.Region.TheVariants.{Image}
 use Rattle.geom.specs.Places.{layout}
 use Rattle.dinode_core.specs.Inline.{key_room, root_keys, root_level}
@@ -68,11 +69,11 @@ judge-requires g c =
     let level : c.level_in-level.result ≡ root_level (area_of c.args.core.now c.args.fork) = c.level_in-level.ensures ∙ ap root_level c.fork_area-area.ensures.bytes in
     omega (arith, level, root.high)
 
-pub returns-in-Err-clause-exact : goal.returns-in-Err-clause-exact
-returns-in-Err-clause-exact g c = λ m e. outside_first (layout c.args.geo.now) (m Image) c.args.core.now c.args.fork c.in-Err.fault c.in-Err.ensures.outside
+pub returns-in_err-whole-clause-exact : goal.returns-in_err-whole-clause-exact
+returns-in_err-whole-clause-exact g c = λ m e. let p = err_from_is_err_and c.from_residual.result c.from_residual.ensures.1 in rw (p.1, p.2) (outside_first (layout c.args.geo.now) (m Image) c.args.core.now c.args.fork c.in_err-whole.field-0.0 c.in_err-whole.ensures.outside)
 
-pub returns-in-Err-clause-each : goal.returns-in-Err-clause-each
-returns-in-Err-clause-each g c = λ m e.
+pub returns-in_err-whole-clause-each : goal.returns-in_err-whole-clause-each
+returns-in_err-whole-clause-each g c = λ m e.
     let started = tree_started (layout c.args.geo.now) (m Image) c.args.core.now c.args.fork c.fork_area-area.result.now c.root_table-table.result c.root_room-room.result c.top_in-top.result (trail_of c.fresh_seen-seen.result) c.fork_area-area.ensures.bytes c.root_table-table.ensures c.root_room-room.ensures c.top_in-top.ensures c.fresh_seen-seen.ensures in
     let reads = ap reads_of started in
     let few = few_met (layout c.args.geo.now) (m Image) c.args.core.now c.args.fork c.requires.tree in
@@ -84,7 +85,7 @@ returns-clause-exact g c = λ m e.
     let level : c.level_in-level.result ≡ root_level (area_of c.args.core.now c.args.fork) = c.level_in-level.ensures ∙ ap root_level c.fork_area-area.ensures.bytes in
     let t = trail_of c.walk_entries.new.seen in
     let is = c.judge.ensures ∙ ap (λ (n : ℕ). judged (layout c.args.geo.now) c.args.fork n c.stop_of.result t) level ∙ ap (λ (s : Stop). judged (layout c.args.geo.now) c.args.fork (root_level (area_of c.args.core.now c.args.fork)) s t) c.stop_of.ensures in
-    fault_found (layout c.args.geo.now) (m Image) c.args.core.now c.args.fork c.in-Ok.whole t c.judge.result c.requires.form c.requires.tree (sym started ∙ c.in-Ok.ensures.walked m e) is
+    fault_found (layout c.args.geo.now) (m Image) c.args.core.now c.args.fork c.in_ok-whole.whole t c.judge.result c.requires.form c.requires.tree (sym started ∙ c.in_ok-whole.ensures.walked m e) is
 
 pub returns-clause-each : goal.returns-clause-each
 returns-clause-each g c = λ m e.

@@ -14,9 +14,9 @@ load-requires g c =
 pub returns-clause-most : goal.returns-clause-most
 returns-clause-most g c =
     let sound : c.is_sound_at.result ≡ true = c.if-not-is_sound_at.false in
-    sound_count (layout c.args.geo.now) c.args.core.now c.args.from c.args.task.now.level (last_in c.args.seen.now.lasts c.args.task.now.level) (entry_of c.args.task.now) (c.in-Some.place.0, c.in-Some.place.1) c.in-Ok.block.bytes (sym c.is_sound_at.ensures ∙ sound)
+    sound_count (layout c.args.geo.now) c.args.core.now c.args.from c.args.task.now.level (last_in c.args.seen.now.lasts c.args.task.now.level) (entry_of c.args.task.now) (c.in-Some.place.0, c.in-Some.place.1) c.in_ok-block.block.bytes (sym c.is_sound_at.ensures ∙ sound)
 
 pub returns-clause-some : goal.returns-clause-some
 returns-clause-some g c =
     let sound : c.is_sound_at.result ≡ true = c.if-not-is_sound_at.false in
-    sound_some (layout c.args.geo.now) c.args.core.now c.args.from c.args.task.now.level (last_in c.args.seen.now.lasts c.args.task.now.level) (entry_of c.args.task.now) (c.in-Some.place.0, c.in-Some.place.1) c.in-Ok.block.bytes (sym c.is_sound_at.ensures ∙ sound)
+    sound_some (layout c.args.geo.now) c.args.core.now c.args.from c.args.task.now.level (last_in c.args.seen.now.lasts c.args.task.now.level) (entry_of c.args.task.now) (c.in-Some.place.0, c.in-Some.place.1) c.in_ok-block.block.bytes (sym c.is_sound_at.ensures ∙ sound)
