@@ -11,15 +11,9 @@ use dinode_core::{Fork, Mapping};
 use fs_model::Claim;
 use geom::Geometry;
 use inode_pass::PassStop;
+use rmap_recs::{ATTRIBUTE, FORK_TREE, UNWRITTEN};
 use run_sets::Run;
 use unit_plan::{ClaimSet, Piece};
-
-// The flags of an offset word: attribute fork, block of a fork's btree, unwritten.
-const ATTRIBUTE: u64 = 1 << 63;
-
-const FORK_TREE: u64 = 1 << 62;
-
-const UNWRITTEN: u64 = 1 << 61;
 
 fn claim_of(fork: Fork, ino: u64) -> Claim
     ensures { result ≡ claim_is fork ino }

@@ -14,4 +14,4 @@ pub use laws::one_list;
 pub use owner::Owner;
 pub use records::{Key, RmapRec};
 pub use tuples::{Memory, Tuple, runs};
-pub use words::{does_word_go_on, is_fork_data};
+pub use words::{ATTRIBUTE, FORK_TREE, OFFSETS, UNWRITTEN, does_word_go_on, is_fork_data};

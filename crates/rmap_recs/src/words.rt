@@ -4,20 +4,20 @@ ghost use Rattle.rmap_recs.specs.Words.{key_word, is_word_right as is_word_right
 
 use crate::owner::is_inode;
 
-/// Set where the blocks are mapped by the attribute fork
+/// The flag of an offset word for blocks that the attribute fork maps
 /// (XFS Algorithms and Data Structures, "Reverse-Mapping B+tree").
 pub const ATTRIBUTE: u64 = 0x8000_0000_0000_0000;
 
-/// Set where they are blocks of the tree of a fork.
+/// The flag of an offset word for blocks of a fork's own btree.
 pub const FORK_TREE: u64 = 0x4000_0000_0000_0000;
 
-/// Set where they are mapped but not yet written.
+/// The flag of an offset word for blocks that are mapped but not yet written.
 pub const UNWRITTEN: u64 = 0x2000_0000_0000_0000;
 
 // The bits that have no meaning.
 const UNUSED: u64 = 0x1fc0_0000_0000_0000;
 
-/// One more than the greatest offset.
+/// One more than the greatest offset of an offset word, which stands below its flags.
 pub const OFFSETS: u64 = 0x0040_0000_0000_0000;
 
 // A word without its unwritten flag.

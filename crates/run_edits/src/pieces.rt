@@ -9,11 +9,8 @@ ghost use Rattle.run_edits.specs.Edits.{HasRoom, is_before as is_before_of};
 ghost use Rattle.run_edits.specs.Pieces.{ArePieces, AreTuplesOf, is_followed, run_of as run_is, joined_pieces};
 
 use crate::edits::{is_before, joined};
-use rmap_recs::{Memory, RmapRec, is_fork_data};
+use rmap_recs::{Memory, OFFSETS, RmapRec, is_fork_data};
 use std::alloc::{AllocError, Global};
-
-// One more than the greatest offset.
-const OFFSETS: u64 = 1 << 54;
 
 // The offset word that a record would have that goes on behind the run.
 fn word_behind(run: &RmapRec) -> Option<u64>

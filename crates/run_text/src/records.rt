@@ -11,19 +11,10 @@ ghost use Rattle.run_text.specs.Report.{kind_of_rec, rec_words, span_words, ino_
 use crate::names::kind_name;
 use fs_model::AnyRec;
 use ino_recs::InoRec;
-use rmap_recs::{Owner, RmapRec};
+use rmap_recs::{ATTRIBUTE, FORK_TREE, OFFSETS, Owner, RmapRec, UNWRITTEN};
 use sblock::Kind;
 use span_recs::{RefcRec, SpanRec};
 use std::alloc::{AllocError, Global};
-
-// The parts of an offset word: three flags, and the offset in blocks below them.
-const ATTR_FORK: u64 = 0x8000_0000_0000_0000;
-
-const FORK_TREE: u64 = 0x4000_0000_0000_0000;
-
-const UNWRITTEN: u64 = 0x2000_0000_0000_0000;
-
-const OFFSETS: u64 = 0x0040_0000_0000_0000;
 
 // An owner's word; a number that is nobody's is shown itself.
 #[tactic(auto, unfolding(crate::specs::Owners::owner_name))]
@@ -40,7 +31,7 @@ fn owner_name(alloc: Global, number: u64) -> Result<String, AllocError>
 fn flag_letters(word: u64) -> &'static str
     ensures { result.now ≡ flag_letters_of word }
 {
-    let attribute = word & ATTR_FORK > 0;
+    let attribute = word & ATTRIBUTE > 0;
     let tree = word & FORK_TREE > 0;
     let unwritten = word & UNWRITTEN > 0;
     match (attribute, tree, unwritten) {

@@ -3,6 +3,7 @@ ghost use Rattle.run_sets.specs.Runs.{is_within};
 ghost use Rattle.unit_plan.specs.Pieces.{is_hard as is_hard_of, has_block as has_block_of, is_looked_at as is_looked_at_of};
 
 use fs_model::Claim;
+use rmap_recs::UNWRITTEN;
 use run_sets::Run;
 use std::alloc::{AllocError, AllocFailed};
 use std::mem::size_of;
@@ -24,9 +25,6 @@ pub struct Piece {
 pub const PIECE_BYTES: usize = 40;
 
 const _: () = prove!(size_of::<Piece>() <= PIECE_BYTES);
-
-// The flag of an offset word for blocks that aren't written.
-const UNWRITTEN: u64 = 1 << 61;
 
 /// Which claims are looked at: all, or those of the group's own metadata, which are all but file
 /// data, attributes and blocks of a fork's btree.

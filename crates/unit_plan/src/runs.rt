@@ -10,7 +10,7 @@ ghost use Rattle.unit_plan.specs.Joined.{AreJoinedFrom, Fits, StandInRow, counte
 ghost use Rattle.unit_plan.specs.Lost.{of_piece};
 
 use crate::piece::Piece;
-use rmap_recs::{RmapKind, RmapRec, is_fork_data};
+use rmap_recs::{OFFSETS, RmapKind, RmapRec, is_fork_data};
 use sblock::RecKind;
 use std::alloc::{AllocError, Global};
 
@@ -21,9 +21,6 @@ use std::alloc::{AllocError, Global};
 pub struct OwnerRuns {
     pieces: Vec<Piece>,
 }
-
-// One more than the greatest offset.
-const OFFSETS: u64 = 1 << 54;
 
 fn rec_of(piece: &Piece) -> RmapRec
     ensures { result ≡ of_piece piece.now }
