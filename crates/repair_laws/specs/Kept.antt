@@ -21,15 +21,15 @@ abbrev pub NoneMoves : Type 0
 NoneMoves = (a x b : State) (g : ℕ) (left : List Kind) → Splits x.geometry → Loosely g left [] a x b → Alike x b
 
 -- the entry keeps what is known of each unit
-abbrev pub Keeps : Entry → Type 0
-Keeps e = (a b : State) (left : List Kind) (h : ℕ) (unit : ScrubUnit) → Splits a.geometry → Step a left e b → Stands a h unit → Stands b h unit
+abbrev pub KeepsKnown : Entry → Type 0
+KeepsKnown e = (a b : State) (left : List Kind) (h : ℕ) (unit : ScrubUnit) → Splits a.geometry → Step a left e b → Stands a h unit → Stands b h unit
 
 -- a mark, and a fault that is found, end only what is known of their own unit
 abbrev pub MarkedKeeps : Type 0
-MarkedKeeps = (g : ℕ) (k : Kind) (cause : Cause) → Keeps (entries.Marked g k cause)
+MarkedKeeps = (g : ℕ) (k : Kind) (cause : Cause) → KeepsKnown (entries.Marked g k cause)
 
 abbrev pub FaultKeeps : Type 0
-FaultKeeps = (g : ℕ) (own : ScrubUnit) (fault : Fault) → Keeps (entries.Fault g own fault)
+FaultKeeps = (g : ℕ) (own : ScrubUnit) (fault : Fault) → KeepsKnown (entries.Fault g own fault)
 
 -- nothing comes of a verdict but trust: that a unit is good is said where it holds
 abbrev pub IsTrue : State → ℕ → ScrubUnit → Verdict → Type 0
@@ -41,4 +41,4 @@ VerdictKeeps = (a b : State) (left : List Kind) (g : ℕ) (own : ScrubUnit) (ver
     → Step a left (entries.Verdict g own verdict) b → IsTrue a g own verdict → Stands a h unit → Stands b h unit
 
 abbrev pub ReplyKeeps : Type 0
-ReplyKeeps = (writer line code done : ℕ) (refused : Option Refused) (begun : Option ℕ) → Keeps (entries.Reply writer line code done refused begun)
+ReplyKeeps = (writer line code done : ℕ) (refused : Option Refused) (begun : Option ℕ) → KeepsKnown (entries.Reply writer line code done refused begun)

@@ -11,13 +11,13 @@ use Rattle.fs_model.specs.declared.unit.Unit.TheVariants as units
 use Rattle.fs_state.specs.Apart.{is_chunk}
 use Rattle.fs_state.specs.State.{State}
 use Rattle.geom.specs.Apart.{Splits}
-use Rattle.repair_laws.specs.Kept.{Keeps}
+use Rattle.repair_laws.specs.Kept.{KeepsKnown}
 use Rattle.repair_laws.specs.Letters.{Stands}
 use Rattle.sblock.specs.declared.kind.Kind.{Kind}
 
 -- a released reserve keeps what is known of each unit
 abbrev pub ReleasedKeeps : Type 0
-ReleasedKeeps = (g : ℕ) (own : ScrubUnit) → Keeps (entries.Released g own)
+ReleasedKeeps = (g : ℕ) (own : ScrubUnit) → KeepsKnown (entries.Released g own)
 
 -- the switch of a unit leaves what these are read off as it was: inodes aren't read off their trees' blocks, nor free
 -- space and reference counts off anything but the reverse mappings

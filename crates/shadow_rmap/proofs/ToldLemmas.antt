@@ -17,7 +17,7 @@ use Rattle.run_edits.proofs.TupleLemmas.{have_tuples}
 use Rattle.live_hooks.specs.Heard.{Inode, Owned, owned_at, owned_by, tuples_in, AreOrdered, AreAdded}
 use Rattle.live_hooks.specs.Meaning.{Stays, MovesOwned}
 use Rattle.live_hooks.specs.declared.records.GroupRec.{GroupRec}
-use Rattle.shadow_rmap.specs.Kept.{Kept, Keeps}
+use Rattle.shadow_rmap.specs.Kept.{KeepsTuples, ShadowState}
 use Rattle.shadow_rmap.specs.Told.{KeepsOwn}
 use Rattle.shadow_rmap.specs.ToldLaws.{from_tuples, in_tuples, own_alike, untied_alike}
 use Rattle.shadow_rmap.specs.Union.{AreUnion, AreLeft}
@@ -144,19 +144,19 @@ module _ (v : Inode) (r : GroupRec) (os ps : List Owned) (added : AreAdded (owne
           | inr old ↦ subst (Contains (tuples_in g os)) at.3 (in_tuples g os at.0 old at.2)
         ]
 
-abbrev pub Gives : Kept → Kept → RmapRec → Type 0
-Gives old new r = (ts us : List Tuple) → AreUntied us → AreUnion ts us r → Keeps ts old → Keeps us new
+abbrev pub Gives : ShadowState → ShadowState → RmapRec → Type 0
+Gives old new r = (ts us : List Tuple) → AreUntied us → AreUnion ts us r → KeepsTuples ts old → KeepsTuples us new
 
-abbrev pub Takes : Kept → Kept → RmapRec → Type 0
-Takes old new r = (ts us : List Tuple) → AreUntied us → AreLeft ts us r → Keeps ts old → Keeps us new
+abbrev pub Takes : ShadowState → ShadowState → RmapRec → Type 0
+Takes old new r = (ts us : List Tuple) → AreUntied us → AreLeft ts us r → KeepsTuples ts old → KeepsTuples us new
 
-moved_in : (g : ℕ) (s : Kept) → s.group ≡ g → (os : List Owned) → AreUntied (tuples_in g os) → Keeps (tuples_in g os) s → KeepsOwn s os
+moved_in : (g : ℕ) (s : ShadowState) → s.group ≡ g → (os : List Owned) → AreUntied (tuples_in g os) → KeepsTuples (tuples_in g os) s → KeepsOwn s os
 moved_in g s is os untied keeps = record {
   untied = subst (λ (h : ℕ). AreUntied (tuples_in h os)) (sym is) untied;
   keeps = subst (λ (h : ℕ). AreRuns (tuples_in h os) s.runs) (sym is) keeps;
 }
 
-module _ {T E : Type 0} (old new : Kept) (same : new.group ≡ old.group) (v : Inode) (r : GroupRec) (own : r.group ≡ old.group) where
+module _ {T E : Type 0} (old new : ShadowState) (same : new.group ≡ old.group) (v : Inode) (r : GroupRec) (own : r.group ≡ old.group) where
   pub told_given : (result : Result T E) → OnOk result (Gives old new r.rec) → OnOk result (MovesOwned (λ vs os. KeepsOwn old os) (λ vs os. KeepsOwn new os) true (owned_by v r))
   told_given (Ok x) gives = λ vs os ps added kept.
       let untied = still_untied v r os ps added old.group own kept.untied in
@@ -170,20 +170,20 @@ module _ {T E : Type 0} (old new : Kept) (same : new.group ≡ old.group) (v : I
   told_taken (Err e) takes = tt
 
 -- nothing changes by what is another group's
-pub told_other : (s : Kept) (v : Inode) (r : GroupRec) → (r.group ≡ s.group → ⊥) → (add : Bool) → MovesOwned (λ vs os. KeepsOwn s os) (λ vs os. KeepsOwn s os) add (owned_by v r)
+pub told_other : (s : ShadowState) (v : Inode) (r : GroupRec) → (r.group ≡ s.group → ⊥) → (add : Bool) → MovesOwned (λ vs os. KeepsOwn s os) (λ vs os. KeepsOwn s os) add (owned_by v r)
 told_other s v r other true = λ vs os ps added kept. own_alike s os ps (on v r os ps added s.group other) (back v r os ps added s.group other) kept
 told_other s v r other false = λ vs os ps added kept. own_alike s os ps (back v r ps os added s.group other) (on v r ps os added s.group other) kept
 
 -- the same runs stand for the same
-pub told_same : (old new : Kept) → new.group ≡ old.group → new.runs ≡ old.runs → Stays (λ vs os. KeepsOwn old os) (λ vs os. KeepsOwn new os)
+pub told_same : (old new : ShadowState) → new.group ≡ old.group → new.runs ≡ old.runs → Stays (λ vs os. KeepsOwn old os) (λ vs os. KeepsOwn new os)
 told_same old new same runs = λ vs os kept. record {
   untied = subst (λ (g : ℕ). AreUntied (tuples_in g os)) (sym same) kept.untied;
   keeps = subst (λ (g : ℕ). AreRuns (tuples_in g os) new.runs) (sym same) (subst (AreRuns (tuples_in old.group os)) (sym runs) kept.keeps);
 }
 
-pub told_refused : {T E : Type 0} (old new : Kept) → new.group ≡ old.group → (result : Result T E) → OnErr result (new.runs ≡ old.runs) → OnErr result (Stays (λ vs os. KeepsOwn old os) (λ vs os. KeepsOwn new os))
+pub told_refused : {T E : Type 0} (old new : ShadowState) → new.group ≡ old.group → (result : Result T E) → OnErr result (new.runs ≡ old.runs) → OnErr result (Stays (λ vs os. KeepsOwn old os) (λ vs os. KeepsOwn new os))
 told_refused old after same (Ok x) runs = tt
 told_refused old after same (Err e) runs = told_same old after same runs
 
-pub told_none : (s : Kept) → Keeps [] s → KeepsOwn s []
+pub told_none : (s : ShadowState) → KeepsTuples [] s → KeepsOwn s []
 told_none s keeps = record { untied = λ t u c d. absurd (nothing_in t c); keeps = keeps }

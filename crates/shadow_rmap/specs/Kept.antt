@@ -7,14 +7,14 @@ use Rattle.rmap_recs.specs.declared.records.RmapRec.{RmapRec}
 use Rattle.rmap_recs.specs.declared.tuples.Tuple.{Tuple}
 
 -- beside it stands for how many changes there is room
-pub record Kept : Type 0 where
+pub record ShadowState : Type 0 where
   pub group : ℕ
   pub runs : List RmapRec
   pub room : ℕ
 
 -- these tuples are kept, and no others
-abbrev pub Keeps : List Tuple → Kept → Type 0
-Keeps ts s = AreRuns ts s.runs
+abbrev pub KeepsTuples : List Tuple → ShadowState → Type 0
+KeepsTuples ts s = AreRuns ts s.runs
 
 -- the record comes behind the key; each does where there is no key
 abbrev pub is_behind : Option Key → RmapRec → Bool

@@ -10,7 +10,7 @@ use Rattle.rmap_recs.proofs.RisingLemmas.{filtered, kept_by_filter, mapped, kept
 use Rattle.run_edits.specs.EditLaws.{AreUntied}
 use Rattle.live_hooks.specs.Heard.{Owned, tuples_in}
 use Rattle.live_hooks.specs.Meaning.{AnyOrder}
-use Rattle.shadow_rmap.specs.Kept.{Kept}
+use Rattle.shadow_rmap.specs.Kept.{ShadowState}
 use Rattle.shadow_rmap.specs.Told.{KeepsOwn}
 
 abbrev pub IsOwn : ℕ → Owned → Bool
@@ -43,7 +43,7 @@ runs_alike ts us recs on back runs = record {
 pub untied_alike : (ts us : List Tuple) → ((t : Tuple) → Contains us t → Contains ts t) → AreUntied ts → AreUntied us
 untied_alike ts us back untied t u c d = untied t u (back t c) (back u d)
 
-pub own_alike : (s : Kept) (os ps : List Owned) → ((t : Tuple) → Contains (tuples_in s.group os) t → Contains (tuples_in s.group ps) t) → ((t : Tuple) → Contains (tuples_in s.group ps) t → Contains (tuples_in s.group os) t) → KeepsOwn s os → KeepsOwn s ps
+pub own_alike : (s : ShadowState) (os ps : List Owned) → ((t : Tuple) → Contains (tuples_in s.group os) t → Contains (tuples_in s.group ps) t) → ((t : Tuple) → Contains (tuples_in s.group ps) t → Contains (tuples_in s.group os) t) → KeepsOwn s os → KeepsOwn s ps
 own_alike s os ps on back kept = record {
   untied = untied_alike (tuples_in s.group os) (tuples_in s.group ps) back kept.untied;
   keeps = runs_alike (tuples_in s.group os) (tuples_in s.group ps) s.runs on back kept.keeps;
@@ -54,5 +54,5 @@ moved_over g os ps same t c =
     let at = from_tuples g os t c in
     subst (Contains (tuples_in g ps)) at.3 (in_tuples g ps at.0 (Contains-permutation os ps at.0 same at.1) at.2)
 
-pub any_order_of_own : (s : Kept) → AnyOrder (λ vs os. KeepsOwn s os)
+pub any_order_of_own : (s : ShadowState) → AnyOrder (λ vs os. KeepsOwn s os)
 any_order_of_own s vs ws os ps inodes owned kept = own_alike s os ps (moved_over s.group os ps owned) (moved_over s.group ps os (IsPermutation-sym os ps owned)) kept

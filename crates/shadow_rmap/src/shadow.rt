@@ -18,9 +18,9 @@ pub struct Shadow {
 }
 
 impl Model for Shadow {
-    ghost use Rattle.shadow_rmap.specs.Kept.{Kept};
+    ghost use Rattle.shadow_rmap.specs.Kept.{ShadowState};
 
-    ghost Value = { Kept };
+    ghost Value = { ShadowState };
 
     ghost use Rattle.shadow_rmap.specs.Inner.{spare, CanEdit};
 
@@ -44,13 +44,13 @@ impl Shadow {
     ghost use Rattle.rmap_recs.specs.declared.tuples.Tuple.{Tuple};
     ghost use Rattle.run_edits.specs.EditLaws.{AreUntied};
     ghost use Rattle.run_edits.specs.Edits.{HasRoom};
-    ghost use Rattle.shadow_rmap.specs.Kept.{Keeps, first_behind, NextRun};
+    ghost use Rattle.shadow_rmap.specs.Kept.{KeepsTuples, first_behind, NextRun};
     ghost use Rattle.shadow_rmap.specs.Union.{AreLeft, AreUnion, add_run, remove_run};
 
     /// An empty shadow of the group of this number.
     pub fn new(alloc: Global, group: u32) -> Result<Self, Memory>
         ensures group { IfOk result (λ s. s.group ≡ group) }
-        ensures empty { IfOk result (λ s. Keeps [] s) }
+        ensures empty { IfOk result (λ s. KeepsTuples [] s) }
     {
         Ok(Shadow {
             group,
@@ -69,7 +69,7 @@ impl Shadow {
     /// some of them, that it goes on from and that go on from it. Without memory all stays.
     pub fn add(&mut self, rec: &RmapRec) -> Result<(), Memory>
         requires { HasRoom rec.now }
-        ensures kept { OnOk result ((ts us : List Tuple) → AreUntied us → AreUnion ts us rec.now → Keeps ts self.old → Keeps us self.new) }
+        ensures kept { OnOk result ((ts us : List Tuple) → AreUntied us → AreUnion ts us rec.now → KeepsTuples ts self.old → KeepsTuples us self.new) }
         ensures list { OnOk result (self.new.runs ≡ add_run rec.now self.old.runs) }
         ensures group { self.new.group ≡ self.old.group }
         ensures refused { OnErr result (self.new.runs ≡ self.old.runs) }
@@ -83,7 +83,7 @@ impl Shadow {
     /// and behind stays. Without memory all stays.
     pub fn remove(&mut self, rec: &RmapRec) -> Result<(), Memory>
         requires { HasRoom rec.now }
-        ensures kept { OnOk result ((ts us : List Tuple) → AreUntied us → AreLeft ts us rec.now → Keeps ts self.old → Keeps us self.new) }
+        ensures kept { OnOk result ((ts us : List Tuple) → AreUntied us → AreLeft ts us rec.now → KeepsTuples ts self.old → KeepsTuples us self.new) }
         ensures list { OnOk result (self.new.runs ≡ remove_run rec.now self.old.runs) }
         ensures group { self.new.group ≡ self.old.group }
         ensures refused { OnErr result (self.new.runs ≡ self.old.runs) }
@@ -97,7 +97,7 @@ impl Shadow {
     /// walk from key to key meets the maximal runs of the set in order.
     pub fn next_run(&self, after: Option<Key>) -> Option<RmapRec>
         ensures value { result ≡ first_behind after self.now.runs }
-        ensures exact { (ts : List Tuple) → Keeps ts self.now → NextRun ts after result }
+        ensures exact { (ts : List Tuple) → KeepsTuples ts self.now → NextRun ts after result }
     {
         let place = self.runs.partition_point(|rec| !is_behind(&after, rec));
         if place < self.runs.len() {
@@ -124,7 +124,7 @@ impl Shadow {
     /// Takes out all, and keeps the room.
     pub fn clear(&mut self)
         ensures group { self.new.group ≡ self.old.group }
-        ensures empty { Keeps [] self.new }
+        ensures empty { KeepsTuples [] self.new }
         ensures room { self.old.room ≤ self.new.room }
     {
         self.runs.clear();
