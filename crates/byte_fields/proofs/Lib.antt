@@ -1,4 +1,5 @@
 pub mod BelowLemmas
 pub mod ChecksumLemmas
+pub mod EmptyLemmas
 pub mod TableLemmas
 pub mod TestLemmas
