@@ -9,10 +9,17 @@ use std::collections::BTreeMap;
 use std::fs::OpenFile;
 use std::io::{Read, Seek, SeekFrom, Write};
 
+// An open file, and the byte at which it stands, where that is known.
+#[derive(Drop)]
+struct Placed<F: Drop> {
+    file: F,
+    place: Option<u64>,
+}
+
 // Where the redo region lies: in a file, or in memory, where no file keeps it.
 #[derive(Drop)]
 enum RedoPlace<F: Drop> {
-    Kept(F),
+    Kept(Placed<F>),
     Unkept(BTreeMap<u64, Block>),
 }
 
@@ -21,7 +28,7 @@ enum RedoPlace<F: Drop> {
 /// proof.
 #[derive(Drop)]
 pub struct FileDevice<F: Read + Write + Seek + OpenFile + Drop> {
-    image: F,
+    image: Placed<F>,
     redo: RedoPlace<F>,
     image_blocks: u64,
     redo_blocks: u64,
@@ -49,11 +56,11 @@ impl<F: Read + Write + Seek + OpenFile + Drop> FileDevice<F> {
         ensures reads { ⟦<FileDevice<F> as Device>⟧.reads result ≡ 0 }
     {
         let redo = match redo {
-            Some(file) => RedoPlace::Kept(file),
+            Some(file) => RedoPlace::Kept(unplaced(file)),
             None => RedoPlace::Unkept(BTreeMap::new(alloc)),
         };
         FileDevice {
-            image,
+            image: unplaced(image),
             redo,
             image_blocks,
             redo_blocks,
@@ -63,19 +70,44 @@ impl<F: Read + Write + Seek + OpenFile + Drop> FileDevice<F> {
     }
 }
 
-fn seek_to<F: Seek>(file: &mut F, at: u64) -> bool {
-    match at.checked_mul(4096) {
-        Some(place) => file.seek(SeekFrom::Start(place)).is_ok(),
+// A file that stands wherever who opened it left it.
+fn unplaced<F: Drop>(file: F) -> Placed<F> {
+    Placed { file, place: None }
+}
+
+// Where a block begins; none behind the last byte that a number names.
+fn place_of(at: u64) -> Option<u64> {
+    at.checked_mul(4096)
+}
+
+// Brings a file to a block. Blocks are mostly asked for in their order, and then it stands there.
+fn seek_to<F: Seek + Drop>(file: &mut Placed<F>, at: u64) -> bool {
+    match place_of(at) {
+        Some(place) => {
+            file.place == Some(place) || file.file.seek(SeekFrom::Start(place)).is_ok()
+        }
         None => false,
     }
 }
 
-fn read_block<F: Read + Seek>(file: &mut F, at: u64, into: &mut Block) -> bool {
-    seek_to(file, at) && file.read_exact(&mut into.bytes).is_ok()
+// Takes note of where a file stands behind a block; after a failure it may stand anywhere.
+fn stand_behind<F: Drop>(file: &mut Placed<F>, at: u64, is_moved: bool) {
+    file.place = match at.checked_add(1) {
+        Some(next) if is_moved => place_of(next),
+        _ => None,
+    };
 }
 
-fn write_block<F: Write + Seek>(file: &mut F, at: u64, from: &Block) -> bool {
-    seek_to(file, at) && file.write_all(&from.bytes).is_ok()
+fn read_block<F: Read + Seek + Drop>(file: &mut Placed<F>, at: u64, into: &mut Block) -> bool {
+    let is_read = seek_to(file, at) && file.file.read_exact(&mut into.bytes).is_ok();
+    stand_behind(file, at, is_read);
+    is_read
+}
+
+fn write_block<F: Write + Seek + Drop>(file: &mut Placed<F>, at: u64, from: &Block) -> bool {
+    let is_written = seek_to(file, at) && file.file.write_all(&from.bytes).is_ok();
+    stand_behind(file, at, is_written);
+    is_written
 }
 
 fn read_redo<F: Read + Seek + Drop>(redo: &mut RedoPlace<F>, at: u64, into: &mut Block) -> bool {
@@ -97,7 +129,7 @@ fn write_redo<F: Write + Seek + Drop>(redo: &mut RedoPlace<F>, at: u64, from: &B
 
 fn sync_redo<F: OpenFile + Drop>(redo: &RedoPlace<F>) -> bool {
     match redo {
-        RedoPlace::Kept(file) => file.sync_all().is_ok(),
+        RedoPlace::Kept(kept) => kept.file.sync_all().is_ok(),
         RedoPlace::Unkept(_) => true,
     }
 }
@@ -159,7 +191,7 @@ impl<F: Read + Write + Seek + OpenFile + Drop> Device for FileDevice<F> {
 
     fn sync(&mut self, region: Region) -> Result<(), DeviceFailed> {
         let is_synced = match region {
-            Region::Image => self.image.sync_all().is_ok(),
+            Region::Image => self.image.file.sync_all().is_ok(),
             Region::Redo => sync_redo(&self.redo),
         };
         answer(is_synced, &mut self.faults)
