@@ -146,7 +146,8 @@ pub fn check_space_part<D: Device, L: Ledger, W: Watch>(
     requires readable { (c : Contents) → D.content dev.old ≡ Some c → AreReadable (opened_state (layout geo.now) (c Image)) passed.now }
     ensures exact { (c : Contents) → D.content dev.old ≡ Some c → ChecksSpaces (layout geo.now) (c Image) part passed.now tally.old tally.new result }
     ensures added { AddsParts IsSpacePart part tally.old tally.new result }
-    ensures kept { KeepsPart (layout geo.now) (D.content dev.old) Space (lacks_mappings passed.now) part tally.old steps.old.reads tally.new steps.new.reads result }
+    ensures kept { KeepsPart (layout geo.now) (D.content dev.old) Space (lacks_mappings passed.now) part
+        tally.old steps.old.reads tally.new steps.new.reads result }
     ensures reading { OnlyRead D.Device dev.old dev.new steps.old steps.new }
     ensures cause { HasCause is_failed (D.faults dev.old) (D.faults dev.new) result }
 {

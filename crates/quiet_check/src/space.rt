@@ -106,7 +106,8 @@ pub fn judge_free_space<D: Device, L: Ledger>(
     requires room { geo.now.dblocks ≤ D.blocks dev.old Image }
     ensures exact { IfOk result (λ judged. (c : Contents) → D.content dev.old ≡ Some c → IsFreeJudged (layout geo.now) (c Image) g agf.now mapped.now judged) }
     ensures outside { IfErr result IsOutside }
-    ensures counted { (c : Contents) → D.content dev.old ≡ Some c → HasRead steps.old.reads (free_reads (layout geo.now) (c Image) g agf.now) steps.new.reads result }
+    ensures counted { (c : Contents) → D.content dev.old ≡ Some c
+        → HasRead steps.old.reads (free_reads (layout geo.now) (c Image) g agf.now) steps.new.reads result }
     ensures reading { OnlyRead D.Device dev.old dev.new steps.old steps.new }
     ensures cause { HasCause is_failed (D.faults dev.old) (D.faults dev.new) result }
 {
@@ -137,7 +138,8 @@ pub fn judge_counts<D: Device, L: Ledger>(
     requires room { geo.now.dblocks ≤ D.blocks dev.old Image }
     ensures exact { IfOk result (λ judged. (c : Contents) → D.content dev.old ≡ Some c → IsSharedJudged (layout geo.now) (c Image) g agf.now mapped.now judged) }
     ensures outside { IfErr result IsOutside }
-    ensures counted { (c : Contents) → D.content dev.old ≡ Some c → HasRead steps.old.reads (shared_reads (layout geo.now) (c Image) g agf.now) steps.new.reads result }
+    ensures counted { (c : Contents) → D.content dev.old ≡ Some c
+        → HasRead steps.old.reads (shared_reads (layout geo.now) (c Image) g agf.now) steps.new.reads result }
     ensures reading { OnlyRead D.Device dev.old dev.new steps.old steps.new }
     ensures cause { HasCause is_failed (D.faults dev.old) (D.faults dev.new) result }
 {
