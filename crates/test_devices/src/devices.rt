@@ -232,6 +232,32 @@ fn files_keep_what_was_written(rt: HostRuntime) -> Result<(), Fail> {
 }
 
 #[test]
+fn a_file_is_read_and_written_in_any_order(rt: HostRuntime) -> Result<(), Fail> {
+    let image = fresh_file(&rt, "order.image", 4).map_err(|_| "no image file")?;
+    let mut device = FileDevice::new(rt.alloc(), image, None, 5, 162);
+    let done = write_at(&mut device, Region::Image, 0, 1)
+        && write_at(&mut device, Region::Image, 1, 2)
+        && write_at(&mut device, Region::Image, 3, 4);
+    let first = ends_at(&mut device, Region::Image, 0);
+    let is_changed = write_at(&mut device, Region::Image, 1, 7);
+    let third = ends_at(&mut device, Region::Image, 2);
+    let fourth = ends_at(&mut device, Region::Image, 3);
+    let beyond = ends_at(&mut device, Region::Image, 4);
+    let again = ends_at(&mut device, Region::Image, 3);
+    let second = ends_at(&mut device, Region::Image, 1);
+    let twice = ends_at(&mut device, Region::Image, 1);
+    assert!(rt; done && is_changed);
+    assert_eq!(rt;
+        [first, third, fourth],
+        [Some((1, 1)), Some((0, 0)), Some((4, 4))]
+    );
+    assert_eq!(rt; [beyond, again], [None, Some((4, 4))]);
+    assert_eq!(rt; [second, twice], [Some((7, 7)), Some((7, 7))]);
+    fs::remove_file(&rt, "order.image").map_err(|_| "not removed")?;
+    Ok(())
+}
+
+#[test]
 fn without_a_redo_file_the_region_is_zeros_in_memory(rt: HostRuntime) -> Result<(), Fail> {
     let image = fresh_file(&rt, "alone.image", 1).map_err(|_| "no image file")?;
     let mut device = FileDevice::new(rt.alloc(), image, None, 1, 162);
