@@ -16,7 +16,9 @@ use Rattle.rmap_recs.specs.Rmap.{rmap_form}
 use Rattle.rmap_recs.specs.declared.records.RmapRec.{RmapRec}
 use Rattle.ino_recs.specs.Chunks.{ino_form, fino_form}
 use Rattle.tree_defs.specs.Lists.{In}
-use Rattle.tree_defs.specs.Sites.{group_blocks}
+use Rattle.geom.specs.Places.{layout}
+use Rattle.geom.specs.declared.geometry.Geometry.{Geometry}
+use Rattle.tree_defs.specs.Sites.{group_blocks, site_of}
 use Rattle.tree_defs.specs.Tree.{read_tree}
 use Rattle.tree_defs.specs.declared.site.Site.{Site}
 use Rattle.tree_blocks.specs.declared.tree.TreeAt.{TreeAt}
@@ -71,6 +73,10 @@ module _ (site : Site) where
     pub counts : StaysRead refc_form image image' Touched
     pub inodes : StaysRead ino_form image image' Touched
     pub free_inodes : StaysRead fino_form image image' Touched
+
+-- the three edits, in the first tree's group of an image of this geometry
+abbrev pub ChangesIn : Geometry → SpanRec → RmapRec → Option Contents → TreeAt → TreeAt → TreeAt → Joined → FreeRing → Joined → Type 0
+ChangesIn geo run owned told bno = AreChanged (site_of (layout geo) bno.group) run owned told bno
 
 -- A change of the image: a crash leaves the image before or the changed one, Ok is the changed one, and what has none of
 -- the blocks stays in it.

@@ -8,7 +8,7 @@ ghost use Rattle.rmap_recs.specs.Rmap.{rmap_form};
 ghost use Rattle.sblock.specs.declared.kind.Kind.TheVariants.{Bno, Cnt, Rmap};
 ghost use Rattle.tree_defs.specs.Sites.{site_of};
 ghost use Rattle.tree_edit.specs.Device.{IsLeft};
-ghost use Rattle.test_three_trees.specs.Given.{AreChanged};
+ghost use Rattle.test_three_trees.specs.Given.{ChangesIn};
 
 use ag_headers::Agfl;
 use blk_cache::BlkCache;
@@ -46,18 +46,12 @@ pub(crate) fn change_trees<D: Device, L: Ledger>(
     requires room { geo.now.dblocks ≤ D.blocks dev.old Image }
     requires inside { rmap_form.is_in_range (site_of (layout geo.now) bno.old.group).bounds owned ≡ true }
     requires agreed { AgreesTold cache.old (D.content dev.old) }
-    ensures changed { OnOk result (AreChanged (site_of (layout geo.now) bno.old.group) run owned (D.content dev.old) bno.old cnt.old rmap.old txn.old list.old txn.new) }
+    ensures changed { OnOk result (ChangesIn geo.now run owned (D.content dev.old) bno.old cnt.old rmap.old txn.old list.old txn.new) }
     ensures below { AreBelow (D.blocks dev.old Image) txn.old.blocks → OnOk result (AreBelow (D.blocks dev.old Image) txn.new.blocks) }
     ensures left { IsLeft D.Device dev.old dev.new steps.old steps.new }
     ensures agrees { AgreesTold cache.new (D.content dev.new) }
 {
-    match remove::<BnoKind, D, L>(alloc, dev, cache, geo, txn, bno, list, limbo, run, steps) {
-        Ok(()) => {}
-        Err(fault) => return Err(fault),
-    }
-    match remove::<CntKind, D, L>(alloc, dev, cache, geo, txn, cnt, list, limbo, run, steps) {
-        Ok(()) => {}
-        Err(fault) => return Err(fault),
-    }
+    remove::<BnoKind, D, L>(alloc, dev, cache, geo, txn, bno, list, limbo, run, steps)?;
+    remove::<CntKind, D, L>(alloc, dev, cache, geo, txn, cnt, list, limbo, run, steps)?;
     insert::<RmapKind, D, L>(alloc, dev, cache, geo, txn, rmap, list, limbo, owned, steps)
 }

@@ -51,17 +51,9 @@ pub fn give_run<D: Device, L: Ledger>(
     requires agreed { AgreesTold cache.old (D.content dev.old) }
     ensures given { IsGiven D.Device dev.old dev.new (site_of (layout geo.now) bno.old.group) bno.old cnt.old rmap.old (entries list.old) result }
 {
-    let Ok(mut txn) = Txn::new(alloc) else {
-        return Err(EditFault::Memory);
-    };
-    match change_trees(
+    let mut txn = Txn::new(alloc)?;
+    change_trees(
         alloc, dev, cache, geo, &mut txn, bno, cnt, rmap, list, limbo, run, owned, steps,
-    ) {
-        Ok(()) => {}
-        Err(fault) => return Err(fault),
-    }
-    match txn.commit(dev, cache, steps) {
-        Ok(()) => Ok(()),
-        Err(_) => Err(EditFault::Failed),
-    }
+    )?;
+    Ok(txn.commit(dev, cache, steps)?)
 }

@@ -15,15 +15,20 @@ use Rattle.tree_blocks.specs.declared.tree.TreeAt.{TreeAt}
 use Rattle.list_edit.specs.declared.edits.Edit.{Edit}
 use Rattle.list_edit.specs.declared.edits.Edit.TheVariants.{Insert, Remove, Change}
 use Rattle.tree_edit.specs.Edited.{IsEdited, IsCounted, IsWithin, RefusesEdit}
-use Rattle.tree_edit.specs.Prepared.{held}
+use Rattle.tree_edit.specs.Prepared.{held, IsPrepared}
 use Rattle.tree_edit.specs.Stopped.{CountsRefused}
 use Rattle.tree_edit.specs.declared.fault.EditFault.{EditFault}
+use Rattle.tree_edit.specs.declared.make.Made.{Made}
 
 module _ {R K : Type 0} (form : Form R K) where
   module _ (site : Site) (how : Edit) (rec : R) (told : Option Contents) (tree : TreeAt) (txn : Joined) where
     -- the tree, the transaction, the list and limbo are edited
     abbrev pub Edits : FreeRing → Vec ℕ Global → TreeAt → Joined → FreeRing → Vec ℕ Global → Type 0
     Edits list limbo tree' txn' list' limbo' = IsEdited form site how rec tree.lsn told (held tree txn list limbo.items) (held tree' txn' list' limbo'.items)
+
+    -- the tree is read, and the blocks of the edited one are made
+    abbrev pub Prepares : FreeRing → StepCount → StepCount → Made → Type 0
+    Prepares list before after made = IsPrepared form site how rec tree.lsn told (held tree txn list []) before after made
 
     abbrev pub Refuses : FreeRing → Vec ℕ Global → EditFault → Type 0
     Refuses list limbo fault = RefusesEdit form site how rec told (held tree txn list limbo.items) fault

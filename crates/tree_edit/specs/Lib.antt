@@ -7,4 +7,5 @@ pub mod Making
 pub mod Plans
 pub mod Prepared
 pub mod Reads
+pub mod Stays
 pub mod Stopped

@@ -14,6 +14,12 @@ use Rattle.tree_edit.specs.declared.plan.Plan.{Plan}
 abbrev pub HasSize : Kind → ℕ → ℕ → ℕ → Type 0
 HasSize kind n levels blocks = IsShape kind n levels blocks
 
+-- the same fault of an edit
+abbrev pub listed_as : ListFault → EditFault
+listed_as list.Missing = Missing
+listed_as list.Overlap = Overlap
+listed_as list.Memory = Memory
+
 -- the edited list's own refusal
 abbrev pub RefusesList : {A : Type 0} → Result A ListFault → EditFault → Type 0
 RefusesList made (Bad block fault) = ⊥

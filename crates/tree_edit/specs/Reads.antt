@@ -11,6 +11,7 @@ use Rattle.tree_blocks.specs.declared.tree.WalkFault.TheVariants.{Bad as BadBloc
 use Rattle.tree_edit.specs.declared.fault.EditFault.{EditFault}
 use Rattle.tree_edit.specs.declared.fault.EditFault.TheVariants.{Bad, Missing, Overlap, Short, TooLarge, Failed, Memory}
 
+-- the same fault of an edit
 abbrev pub met_as : WalkFault → EditFault
 met_as (BadBlock block fault) = Bad block fault
 met_as WalkFailed = Failed

@@ -1,15 +1,15 @@
 // The three edits of a tree.
-ghost use Rattle.std.specs.Prelude.{◌≡◌, ◌≢◌, ◌<◌, ◌≤◌, true, OnOk, OnErr, IfErr};
+ghost use Rattle.std.specs.Prelude.{◌≡◌, ◌<◌, ◌≤◌, true, OnOk, OnErr, IfErr};
 ghost use Rattle.blk_cache.specs.Cache.{AgreesTold};
 ghost use Rattle.blk_device.specs.Causes.{HasCause};
 ghost use Rattle.blk_device.specs.declared.device.Region.TheVariants.{Image};
-ghost use Rattle.edit_blocks.specs.Choice.{IsSameList};
 ghost use Rattle.geom.specs.Places.{layout};
 ghost use Rattle.meta_txn.specs.Joined.{AreBelow};
 ghost use Rattle.tree_defs.specs.Sites.{site_of};
 ghost use Rattle.tree_edit.specs.Device.{IsLeft};
-ghost use Rattle.tree_edit.specs.Calls.{Inserts, Removes, Changes, CountsInsert, CountsRemove, CountsChange, StoppedInsert, StoppedRemove, StoppedChange, RefusesInsert, RefusesRemove, RefusesChange, Stops};
-ghost use Rattle.tree_edit.specs.Edited.{IsSameTree};
+ghost use Rattle.tree_edit.specs.Calls.{Inserts, Removes, Changes, CountsInsert, CountsRemove, CountsChange, Stops};
+ghost use Rattle.tree_edit.specs.Calls.{RefusesInsert, RefusesRemove, RefusesChange, StoppedInsert, StoppedRemove, StoppedChange};
+ghost use Rattle.tree_edit.specs.Stays.{IsAsBefore, StaySame};
 ghost use Rattle.tree_edit.specs.Faults.{is_devices};
 
 use crate::fault::EditFault;
@@ -56,32 +56,18 @@ pub fn insert<K: RecKind, D: Device, L: Ledger>(
     ensures counted { OnOk result (CountsInsert K.form geo.now rec (D.content dev.old) tree.old txn.old txn.new steps.old steps.new) }
     ensures ticks { IfErr result (StoppedInsert K.form geo.now rec (D.content dev.old) tree.old txn.old steps.old steps.new) }
     ensures refused { IfErr result (RefusesInsert K.form geo.now rec (D.content dev.old) tree.old txn.old list.old limbo.old) }
-    ensures kept { IfErr result (λ fault. fault ≢ EditFault.Failed → txn.new ≡ txn.old) }
+    ensures kept { IfErr result (IsAsBefore tree.old txn.old list.old limbo.old tree.new txn.new list.new limbo.new) }
     ensures stops { OnErr result (Stops K.form geo.now (D.content dev.old) tree.old txn.old list.old txn.new) }
-    ensures kept_tree { OnErr result (tree.new ≡ tree.old) }
-    ensures kept_list { OnErr result (list.new ≡ list.old) }
-    ensures kept_limbo { OnErr result (limbo.new.items ≡ limbo.old.items) }
     ensures below { AreBelow (D.blocks dev.old Image) txn.old.blocks → OnOk result (AreBelow (D.blocks dev.old Image) txn.new.blocks) }
-    ensures marked { txn.new.marked ≡ txn.old.marked }
-    ensures tree { IsSameTree tree.old tree.new }
-    ensures list { IsSameList list.old list.new }
+    ensures same { StaySame tree.old txn.old list.old tree.new txn.new list.new }
     ensures left { IsLeft D.Device dev.old dev.new steps.old steps.new }
     ensures cause { HasCause is_devices (D.faults dev.old) (D.faults dev.new) result }
     ensures agrees { AgreesTold cache.new (D.content dev.new) }
 {
     let site = Site::of_group(geo, tree.group);
+    let how = Edit::Insert;
     rewrite::<K, D, L>(
-        alloc,
-        dev,
-        cache,
-        txn,
-        &site,
-        tree,
-        list,
-        limbo,
-        Edit::Insert,
-        &rec,
-        steps,
+        alloc, dev, cache, txn, &site, tree, list, limbo, how, &rec, steps,
     )
 }
 
@@ -106,32 +92,18 @@ pub fn remove<K: RecKind, D: Device, L: Ledger>(
     ensures counted { OnOk result (CountsRemove K.form geo.now rec (D.content dev.old) tree.old txn.old txn.new steps.old steps.new) }
     ensures ticks { IfErr result (StoppedRemove K.form geo.now rec (D.content dev.old) tree.old txn.old steps.old steps.new) }
     ensures refused { IfErr result (RefusesRemove K.form geo.now rec (D.content dev.old) tree.old txn.old list.old limbo.old) }
-    ensures kept { IfErr result (λ fault. fault ≢ EditFault.Failed → txn.new ≡ txn.old) }
+    ensures kept { IfErr result (IsAsBefore tree.old txn.old list.old limbo.old tree.new txn.new list.new limbo.new) }
     ensures stops { OnErr result (Stops K.form geo.now (D.content dev.old) tree.old txn.old list.old txn.new) }
-    ensures kept_tree { OnErr result (tree.new ≡ tree.old) }
-    ensures kept_list { OnErr result (list.new ≡ list.old) }
-    ensures kept_limbo { OnErr result (limbo.new.items ≡ limbo.old.items) }
     ensures below { AreBelow (D.blocks dev.old Image) txn.old.blocks → OnOk result (AreBelow (D.blocks dev.old Image) txn.new.blocks) }
-    ensures marked { txn.new.marked ≡ txn.old.marked }
-    ensures tree { IsSameTree tree.old tree.new }
-    ensures list { IsSameList list.old list.new }
+    ensures same { StaySame tree.old txn.old list.old tree.new txn.new list.new }
     ensures left { IsLeft D.Device dev.old dev.new steps.old steps.new }
     ensures cause { HasCause is_devices (D.faults dev.old) (D.faults dev.new) result }
     ensures agrees { AgreesTold cache.new (D.content dev.new) }
 {
     let site = Site::of_group(geo, tree.group);
+    let how = Edit::Remove;
     rewrite::<K, D, L>(
-        alloc,
-        dev,
-        cache,
-        txn,
-        &site,
-        tree,
-        list,
-        limbo,
-        Edit::Remove,
-        &rec,
-        steps,
+        alloc, dev, cache, txn, &site, tree, list, limbo, how, &rec, steps,
     )
 }
 
@@ -159,31 +131,17 @@ pub fn change<K: RecKind, D: Device, L: Ledger>(
     ensures counted { OnOk result (CountsChange K.form geo.now rec (D.content dev.old) tree.old txn.old txn.new steps.old steps.new) }
     ensures ticks { IfErr result (StoppedChange K.form geo.now rec (D.content dev.old) tree.old txn.old steps.old steps.new) }
     ensures refused { IfErr result (RefusesChange K.form geo.now rec (D.content dev.old) tree.old txn.old list.old limbo.old) }
-    ensures kept { IfErr result (λ fault. fault ≢ EditFault.Failed → txn.new ≡ txn.old) }
+    ensures kept { IfErr result (IsAsBefore tree.old txn.old list.old limbo.old tree.new txn.new list.new limbo.new) }
     ensures stops { OnErr result (Stops K.form geo.now (D.content dev.old) tree.old txn.old list.old txn.new) }
-    ensures kept_tree { OnErr result (tree.new ≡ tree.old) }
-    ensures kept_list { OnErr result (list.new ≡ list.old) }
-    ensures kept_limbo { OnErr result (limbo.new.items ≡ limbo.old.items) }
     ensures below { AreBelow (D.blocks dev.old Image) txn.old.blocks → OnOk result (AreBelow (D.blocks dev.old Image) txn.new.blocks) }
-    ensures marked { txn.new.marked ≡ txn.old.marked }
-    ensures tree { IsSameTree tree.old tree.new }
-    ensures list { IsSameList list.old list.new }
+    ensures same { StaySame tree.old txn.old list.old tree.new txn.new list.new }
     ensures left { IsLeft D.Device dev.old dev.new steps.old steps.new }
     ensures cause { HasCause is_devices (D.faults dev.old) (D.faults dev.new) result }
     ensures agrees { AgreesTold cache.new (D.content dev.new) }
 {
     let site = Site::of_group(geo, tree.group);
+    let how = Edit::Change;
     rewrite::<K, D, L>(
-        alloc,
-        dev,
-        cache,
-        txn,
-        &site,
-        tree,
-        list,
-        limbo,
-        Edit::Change,
-        &rec,
-        steps,
+        alloc, dev, cache, txn, &site, tree, list, limbo, how, &rec, steps,
     )
 }

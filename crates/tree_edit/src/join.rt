@@ -44,10 +44,8 @@ fn join_both<D: Device, L: Ledger>(
     ensures cause { HasCause is_device (D.faults dev.old) (D.faults dev.new) result }
     ensures agrees { AgreesTold cache.new (D.content dev.new) }
 {
-    match join_put(dev, cache, txn, first, placed, steps) {
-        Ok(()) => join_found(dev, cache, txn, first, left, steps),
-        Err(fault) => Err(fault),
-    }
+    join_put(dev, cache, txn, first, placed, steps)?;
+    join_found(dev, cache, txn, first, left, steps)
 }
 
 /// Joins a tree's new blocks, and as they are those that it leaves. `touched` are all of them, counted
@@ -84,15 +82,9 @@ pub fn join_tree<D: Device, L: Ledger>(
     ensures cause { HasCause is_devices (D.faults dev.old) (D.faults dev.new) result }
     ensures agrees { AgreesTold cache.new (D.content dev.new) }
 {
-    let count = match count_with(alloc, txn, first, touched) {
-        Ok(count) => count,
-        Err(_) => return Err(EditFault::Memory),
-    };
+    let count = count_with(alloc, txn, first, touched)?;
     if count > MAX_BATCH as u64 {
         return Err(EditFault::TooLarge(count));
     }
-    match join_both(dev, cache, txn, first, placed, left, steps) {
-        Ok(()) => Ok(()),
-        Err(_) => Err(EditFault::Failed),
-    }
+    Ok(join_both(dev, cache, txn, first, placed, left, steps)?)
 }

@@ -108,20 +108,10 @@ pub(crate) fn make<K: RecKind, L: Ledger>(
     ensures unlaid { IfErr result (CountsLaying K.form.kind (length recs.now) steps.old steps.new) }
 {
     let form = shape(recs.len() as u64, K::kind());
-    let plan = match plan_blocks(alloc, before, list, &form) {
-        Ok(plan) => plan,
-        Err(fault) => return Err(fault),
-    };
-    let placed = match lay::<K, L>(alloc, recs, site, tree, &plan.claimed, form.levels, steps) {
-        Ok(placed) => placed,
-        Err(fault) => return Err(fault),
-    };
-    let Ok(left) = left_over(alloc, before, plan.claimed.len()) else {
-        return Err(EditFault::Memory);
-    };
-    let Ok(touched) = joined(alloc, &plan.claimed, &left) else {
-        return Err(EditFault::Memory);
-    };
+    let plan = plan_blocks(alloc, before, list, &form)?;
+    let placed = lay::<K, L>(alloc, recs, site, tree, &plan.claimed, form.levels, steps)?;
+    let left = left_over(alloc, before, plan.claimed.len())?;
+    let touched = joined(alloc, &plan.claimed, &left)?;
     Ok(Made {
         placed,
         root: last_of(&plan.claimed),

@@ -8,7 +8,7 @@ use crate::fault::EditFault;
 use ag_headers::Agfl;
 use bulk_load::Shape;
 use edit_blocks::choose;
-use list_edit::{Edit, ListFault, edit_list};
+use list_edit::{Edit, edit_list};
 use sblock::RecKind;
 use std::alloc::Global;
 
@@ -30,12 +30,7 @@ pub fn plan_records<K: RecKind>(
     ensures edits { OnOk result (edited K.form how rec.now recs.old.items ≡ Ok recs.new.items) }
     ensures refused { IfErr result (RefusesList (edited K.form how rec.now recs.old.items)) }
 {
-    match edit_list::<K>(recs, how, rec) {
-        Ok(()) => Ok(()),
-        Err(ListFault::Missing) => Err(EditFault::Missing),
-        Err(ListFault::Overlap) => Err(EditFault::Overlap),
-        Err(ListFault::Memory) => Err(EditFault::Memory),
-    }
+    Ok(edit_list::<K>(recs, how, rec)?)
 }
 
 /// The blocks for an edited tree of so many: those that it has, in walk order, and then the free list's
@@ -56,11 +51,7 @@ pub fn plan_blocks(
         let told = need.min(u64::from(u32::MAX)) as u32;
         return Err(EditFault::Short { have, need: told });
     }
-    match choose(alloc, before, list, form.blocks as usize, need as u32) {
-        Ok(claimed) => Ok(Plan {
-            claimed,
-            need: need as u32,
-        }),
-        Err(_) => Err(EditFault::Memory),
-    }
+    let need = need as u32;
+    let claimed = choose(alloc, before, list, form.blocks as usize, need)?;
+    Ok(Plan { claimed, need })
 }

@@ -6,8 +6,8 @@ ghost use Rattle.blk_device.specs.declared.device.Region.TheVariants.{Image};
 ghost use Rattle.list_edit.specs.Laws.{IsPut};
 ghost use Rattle.tree_edit.specs.Device.{IsLeft};
 ghost use Rattle.tree_edit.specs.Faults.{is_devices};
-ghost use Rattle.tree_edit.specs.Prepared.{held, IsPrepared, RefusesPrepared};
-ghost use Rattle.tree_edit.specs.Calls.{Stopped};
+ghost use Rattle.tree_edit.specs.Prepared.{held, RefusesPrepared};
+ghost use Rattle.tree_edit.specs.Calls.{Prepares, Stopped};
 
 use crate::fault::EditFault;
 use crate::make::{Made, make};
@@ -42,7 +42,7 @@ pub(crate) fn prepare<K: RecKind, D: Device, L: Ledger>(
     requires fits { 8 * (site.now.first + site.now.bounds.length) < 2 ^ 64 }
     requires given { IsPut how → (K.form.is_in_range site.now.bounds rec.now ≡ true) × (K.form.is_supported rec.now ≡ true) }
     requires agreed { AgreesTold cache.old (D.content dev.old) }
-    ensures prepared { IfOk result (IsPrepared K.form site.now how rec.now tree.now.lsn (D.content dev.old) (held tree.now txn.old list.now []) steps.old steps.new) }
+    ensures prepared { IfOk result (Prepares K.form site.now how rec.now (D.content dev.old) tree.now txn.old list.now steps.old steps.new) }
     ensures refused { IfErr result (RefusesPrepared K.form site.now how rec.now (D.content dev.old) (held tree.now txn.old list.now [])) }
     ensures ticks { IfErr result (Stopped K.form site.now how rec.now (D.content dev.old) tree.now txn.old steps.old steps.new) }
     ensures txn { txn.new ≡ txn.old }
@@ -50,15 +50,9 @@ pub(crate) fn prepare<K: RecKind, D: Device, L: Ledger>(
     ensures cause { HasCause is_devices (D.faults dev.old) (D.faults dev.new) result }
     ensures agrees { AgreesTold cache.new (D.content dev.new) }
 {
-    let read = match walked::<K, D, L>(alloc, dev, cache, txn, site, tree, steps) {
-        Ok(read) => read,
-        Err(fault) => return Err(fault),
-    };
+    let read = walked::<K, D, L>(alloc, dev, cache, txn, site, tree, steps)?;
     let mut recs = read.recs;
     let before = read.blocks;
-    match plan_records::<K>(&mut recs, how, rec) {
-        Ok(()) => {}
-        Err(fault) => return Err(fault),
-    }
+    plan_records::<K>(&mut recs, how, rec)?;
     make::<K, L>(alloc, &recs, &before, site, tree, list, steps)
 }

@@ -8,7 +8,7 @@ ghost use Rattle.tree_defs.specs.Tree.{read_tree};
 ghost use Rattle.tree_walk.specs.Trails.{AreSound, LieInside};
 ghost use Rattle.txn_blocks.specs.Through.{OfEdited};
 ghost use Rattle.tree_edit.specs.Faults.{is_devices};
-ghost use Rattle.tree_edit.specs.Reads.{met_as, ReadsAs, IsOfWalk, StopsTree};
+ghost use Rattle.tree_edit.specs.Reads.{ReadsAs, IsOfWalk, StopsTree};
 
 use crate::fault::EditFault;
 use blk_cache::BlkCache;
@@ -18,20 +18,9 @@ use meta_txn::Txn;
 use sblock::RecKind;
 use std::alloc::Global;
 use std::sync::ledger::Ledger;
-use tree_blocks::{TreeAt, TreeRead, WalkFault};
+use tree_blocks::{TreeAt, TreeRead};
 use tree_defs::Site;
 use txn_blocks::{Edited, walk_edited};
-
-// The same fault of an edit.
-fn met(fault: WalkFault) -> EditFault
-    ensures { result ≡ met_as fault }
-{
-    match fault {
-        WalkFault::Bad { block, fault } => EditFault::Bad { block, fault },
-        WalkFault::Failed => EditFault::Failed,
-        WalkFault::Memory => EditFault::Memory,
-    }
-}
 
 // The records and blocks of the tree, or its first fault; nothing is joined.
 pub(crate) fn walked<K: RecKind, D: Device, L: Ledger>(
@@ -64,8 +53,5 @@ pub(crate) fn walked<K: RecKind, D: Device, L: Ledger>(
         site: *site,
         steps,
     };
-    match walk_edited::<K, D, L>(alloc, &mut blocks, tree) {
-        Ok(read) => Ok(read),
-        Err(fault) => Err(met(fault)),
-    }
+    Ok(walk_edited::<K, D, L>(alloc, &mut blocks, tree)?)
 }

@@ -1,16 +1,15 @@
 // An edit of a tree, which is written anew.
-ghost use Rattle.std.specs.Prelude.{◌≡◌, ◌≢◌, ◌+◌, ◌*◌, ◌^◌, ◌<◌, ◌≤◌, true, OnOk, OnErr, IfErr};
+ghost use Rattle.std.specs.Prelude.{◌≡◌, ◌+◌, ◌*◌, ◌^◌, ◌<◌, ◌≤◌, true, OnOk, OnErr, IfErr};
 ghost use Rattle.ag_headers.specs.Ring.{entries};
 ghost use Rattle.blk_cache.specs.Cache.{AgreesTold};
 ghost use Rattle.blk_device.specs.Causes.{HasCause};
 ghost use Rattle.blk_device.specs.declared.device.Region.TheVariants.{Image};
-ghost use Rattle.edit_blocks.specs.Choice.{IsSameList};
 ghost use Rattle.list_edit.specs.Laws.{IsPut};
 ghost use Rattle.meta_txn.specs.Joined.{AreBelow};
 ghost use Rattle.sblock.specs.Headers.{no_block};
 ghost use Rattle.tree_edit.specs.Device.{IsLeft};
 ghost use Rattle.tree_edit.specs.Calls.{Edits, Refuses, Counts, Stopped, StopsAt};
-ghost use Rattle.tree_edit.specs.Edited.{IsSameTree};
+ghost use Rattle.tree_edit.specs.Stays.{IsAsBefore, StaySame};
 ghost use Rattle.tree_edit.specs.Faults.{is_devices};
 
 use crate::fault::EditFault;
@@ -49,32 +48,21 @@ pub(crate) fn rewrite<K: RecKind, D: Device, L: Ledger>(
     requires short { site.now.bounds.length ≤ no_block }
     requires given { IsPut how → (K.form.is_in_range site.now.bounds rec.now ≡ true) × (K.form.is_supported rec.now ≡ true) }
     requires agreed { AgreesTold cache.old (D.content dev.old) }
-    ensures edited { OnOk result (Edits K.form site.now how rec.now (D.content dev.old) tree.old txn.old list.old limbo.old tree.new txn.new list.new limbo.new) }
+    ensures edit { OnOk result (Edits K.form site.now how rec.now (D.content dev.old) tree.old txn.old list.old limbo.old tree.new txn.new list.new limbo.new) }
     ensures counted { OnOk result (Counts K.form site.now how rec.now (D.content dev.old) tree.old txn.old txn.new steps.old steps.new) }
     ensures refused { IfErr result (Refuses K.form site.now how rec.now (D.content dev.old) tree.old txn.old list.old limbo.old) }
     ensures ticks { IfErr result (Stopped K.form site.now how rec.now (D.content dev.old) tree.old txn.old steps.old steps.new) }
-    ensures kept { IfErr result (λ fault. fault ≢ EditFault.Failed → txn.new ≡ txn.old) }
+    ensures kept { IfErr result (IsAsBefore tree.old txn.old list.old limbo.old tree.new txn.new list.new limbo.new) }
     ensures stops { OnErr result (StopsAt K.form site.now (D.content dev.old) tree.old txn.old list.old txn.new) }
-    ensures kept_tree { OnErr result (tree.new ≡ tree.old) }
-    ensures kept_list { OnErr result (list.new ≡ list.old) }
-    ensures kept_limbo { OnErr result (limbo.new.items ≡ limbo.old.items) }
     ensures below { AreBelow (D.blocks dev.old Image) txn.old.blocks → OnOk result (AreBelow (D.blocks dev.old Image) txn.new.blocks) }
-    ensures marked { txn.new.marked ≡ txn.old.marked }
-    ensures tree { IsSameTree tree.old tree.new }
-    ensures list { IsSameList list.old list.new }
+    ensures same { StaySame tree.old txn.old list.old tree.new txn.new list.new }
     ensures left { IsLeft D.Device dev.old dev.new steps.old steps.new }
     ensures cause { HasCause is_devices (D.faults dev.old) (D.faults dev.new) result }
     ensures agrees { AgreesTold cache.new (D.content dev.new) }
 {
-    let made = match prepare::<K, D, L>(alloc, dev, cache, txn, site, tree, list, how, rec, steps) {
-        Ok(made) => made,
-        Err(fault) => return Err(fault),
-    };
-    match make_room(list, made.need, limbo, &made.left) {
-        Ok(()) => {}
-        Err(_) => return Err(EditFault::Memory),
-    }
-    match join_tree(
+    let made = prepare::<K, D, L>(alloc, dev, cache, txn, site, tree, list, how, rec, steps)?;
+    make_room(list, made.need, limbo, &made.left)?;
+    join_tree(
         alloc,
         dev,
         cache,
@@ -84,10 +72,7 @@ pub(crate) fn rewrite<K: RecKind, D: Device, L: Ledger>(
         &made.left,
         &made.touched,
         steps,
-    ) {
-        Ok(()) => {}
-        Err(fault) => return Err(fault),
-    }
+    )?;
     settle(list, limbo, made.need, &made.left);
     tree.root = made.root;
     tree.levels = made.levels;

@@ -8,8 +8,8 @@ use Rattle.tree_edit.specs.Prepared.{held}
 use Rattle.test_three_trees.proofs.ChangeLemmas.{left_then, edit_at, are_changed, on_ok}
 use Rattle.test_three_trees.proofs.change.change_trees.Goals as goal
 
-pub returns-in-Err-remove-clause-left : goal.returns-in-Err-remove-clause-left
-returns-in-Err-remove-clause-left g c =
+pub returns-in_err-remove-2-clause-left : goal.returns-in_err-remove-2-clause-left
+returns-in_err-remove-2-clause-left g c =
     let met = g.met.D.Device in
     left_then g.D.Device met.only_now met.counts_now c.args.dev.now c.remove.new.dev c.remove-2.new.dev c.args.steps.now c.remove.new.steps c.remove-2.new.steps c.remove.ensures.left c.remove-2.ensures.left
 
@@ -36,8 +36,8 @@ returns-clause-changed g c =
     let first = held one.tree one.txn one.list one.limbo.items in
     let second = held two.tree two.txn two.list two.limbo.items in
     let third = held last.tree last.txn last.list last.limbo.items in
-    let by_count = edit_at cnt_form at Remove c.args.run cnt.lsn cnt.group group told1 told (held cnt one.txn one.list one.limbo.items) second c.requires.groups.0 c.remove.ensures.left.same c.in-Ok-remove.ensures.edited in
+    let by_count = edit_at cnt_form at Remove c.args.run cnt.lsn cnt.group group told1 told (held cnt one.txn one.list one.limbo.items) second c.requires.groups.0 c.remove.ensures.left.same c.in_ok-remove-2.ensures.edited in
     on_ok c.insert.result
-    (λ done. are_changed (site_of at group) c.args.run c.args.owned told bno cnt rmap c.args.txn.now c.args.list.now c.args.limbo.now.items first second third one.limbo.items two.limbo.items c.in-Ok.ensures.edited by_count
+    (λ done. are_changed (site_of at group) c.args.run c.args.owned told bno cnt rmap c.args.txn.now c.args.list.now c.args.limbo.now.items first second third one.limbo.items two.limbo.items c.in_ok-remove.ensures.edited by_count
     (edit_at rmap_form at Insert c.args.owned rmap.lsn rmap.group group told2 told (held rmap two.txn two.list two.limbo.items) third c.requires.groups.1 (c.remove-2.ensures.left.same ∙ c.remove.ensures.left.same) done))
     c.insert.ensures.edited

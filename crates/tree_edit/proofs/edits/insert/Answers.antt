@@ -16,7 +16,7 @@ returns-clause-edited g c =
     let told = g.D.Device.content c.args.dev.now in
     let new = c.rewrite.new in
     subst (λ (s : Site). OnOk c.rewrite.result (Edits g.K.RecKind.form s Insert c.args.rec told c.args.tree.now c.args.txn.now c.args.list.now c.args.limbo.now new.tree new.txn new.list new.limbo))
-    c.of_group-site.ensures.exact c.rewrite.ensures.edited
+    c.of_group-site.ensures.exact c.rewrite.ensures.edit
 
 pub returns-clause-counted : goal.returns-clause-counted
 returns-clause-counted g c =

@@ -26,21 +26,21 @@ join_found-requires-clause-inside g c =
 pub join_found-requires-clause-fits : goal.join_found-requires-clause-fits
 join_found-requires-clause-fits g c = lie_rest (2 ^ 64) c.args.first (placed_in c.args.placed.now) c.args.left.now c.requires.fits
 
-pub returns-in-Ok-clause-reading : goal.returns-in-Ok-clause-reading
-returns-in-Ok-clause-reading g c =
+pub returns-clause-reading : goal.returns-clause-reading
+returns-clause-reading g c =
     let met = g.met.D.Device in
     read_on g.D.Device met.only_now met.counts_now c.args.dev.now c.join_put.new.dev c.join_found.new.dev c.args.steps.now c.join_put.new.steps c.join_found.new.steps c.join_put.ensures.reading c.join_found.ensures.reading
 
-pub returns-in-Ok-clause-count : goal.returns-in-Ok-clause-count
-returns-in-Ok-clause-count g c =
+pub returns-clause-count : goal.returns-clause-count
+returns-clause-count g c =
     let placed = placed_in c.args.placed.now in
-    on_ok c.join_found.result (λ found. counts_both c.args.first placed c.args.left.now c.args.txn.now.blocks c.join_put.new.txn.blocks c.join_found.new.txn.blocks c.in-Ok.ensures.count found) c.join_found.ensures.count
+    on_ok c.join_found.result (λ found. counts_both c.args.first placed c.args.left.now c.args.txn.now.blocks c.join_put.new.txn.blocks c.join_found.new.txn.blocks c.in_ok-join_put.ensures.count found) c.join_found.ensures.count
 
-pub returns-in-Ok-clause-ticks : goal.returns-in-Ok-clause-ticks
-returns-in-Ok-clause-ticks g c = on_ok c.join_found.result (λ found. omega (arith, found, c.in-Ok.ensures.ticks)) c.join_found.ensures.ticks
+pub returns-clause-ticks : goal.returns-clause-ticks
+returns-clause-ticks g c = on_ok c.join_found.result (λ found. omega (arith, found, c.in_ok-join_put.ensures.ticks)) c.join_found.ensures.ticks
 
-pub returns-in-Ok-clause-others : goal.returns-in-Ok-clause-others
-returns-in-Ok-clause-others g c = only_then c.args.first (placed_in c.args.placed.now) c.args.left.now c.args.txn.now.blocks c.join_put.new.txn.blocks c.join_found.new.txn.blocks c.join_put.ensures.others c.join_found.ensures.others
+pub returns-clause-others : goal.returns-clause-others
+returns-clause-others g c = only_then c.args.first (placed_in c.args.placed.now) c.args.left.now c.args.txn.now.blocks c.join_put.new.txn.blocks c.join_found.new.txn.blocks c.join_put.ensures.others c.join_found.ensures.others
 
-pub returns-in-Err-clause-others : goal.returns-in-Err-clause-others
-returns-in-Err-clause-others g c = only_more c.args.first (placed_in c.args.placed.now) c.args.left.now c.args.txn.now.blocks c.join_put.new.txn.blocks c.join_put.ensures.others
+pub returns-in_err-join_put-clause-others : goal.returns-in_err-join_put-clause-others
+returns-in_err-join_put-clause-others g c = only_more c.args.first (placed_in c.args.placed.now) c.args.left.now c.args.txn.now.blocks c.join_put.new.txn.blocks c.join_put.ensures.others

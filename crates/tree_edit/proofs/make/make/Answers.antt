@@ -6,4 +6,4 @@ pub last_of-requires : goal.last_of-requires
 last_of-requires g c =
     let some = some_blocks _ _ c.shape-form.result.levels c.shape-form.result.blocks c.shape-form.ensures in
     let same = ap length c.deref-4.ensures.value in
-    omega (arith, some, c.in-Ok.ensures.plan.many, same)
+    omega (arith, some, c.in_ok-plan.ensures.plan.many, same)
