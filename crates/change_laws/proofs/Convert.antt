@@ -34,7 +34,7 @@ use Rattle.change_laws.proofs.Pieces.{overlaps, run_has, beside_run, piece_lost,
 use Rattle.change_laws.proofs.Settled.{settled_alike, same_inodes, open_forks, owners_by}
 use Rattle.change_laws.specs.Forks.{Each, LieFrom, IsPlaced, AreApart, IsSound, IsRunAt, ConvertedKeeps}
 
-each_in : (P : Mapping → Type 0) (xs ys : List Mapping) → Each P xs → Each P ys → Each P (xs ++ ys)
+pub each_in : (P : Mapping → Type 0) (xs ys : List Mapping) → Each P xs → Each P ys → Each P (xs ++ ys)
 each_in P [] ys p q = q
 each_in P (x ∷ xs) ys p q = (p.0, each_in P xs ys p.1 q)
 
@@ -98,7 +98,7 @@ back_placed at m offset n fit p it c =
     fits : (b y x n c len : ℕ) → y ≤ x → x + n < y + c → b + c ≤ len → b + (x + n - y) + (y + c - (x + n)) ≤ len
     fits b y x n c len h i j = omega (arith, h, i, j)
 
-left_placed : (at : Layout) (offset n : ℕ) → HasFitting at → (ms : List Mapping) → Each (IsPlaced at) ms → Each (IsPlaced at) (take_piece offset n ms)
+pub left_placed : (at : Layout) (offset n : ℕ) → HasFitting at → (ms : List Mapping) → Each (IsPlaced at) ms → Each (IsPlaced at) (take_piece offset n ms)
 unfolding take_piece
 left_placed at offset n fit [] e = tt
 left_placed at offset n fit (m ∷ ms) e = each_in (IsPlaced at) (if maps offset m then mapping_rest offset n m else m ∷ []) (take_piece offset n ms) (one (maps offset m) refl) (left_placed at offset n fit ms e.1)
@@ -135,7 +135,7 @@ apart_in high (x ∷ xs) ys a e f b = (each_in (λ q. x.offset + x.count ≤ q.o
     farther x [] h f = tt
     farther x (y ∷ ys) h f = (on (x.offset + x.count) high y.offset h f.0, farther x ys h f.1)
 
-left_apart : (offset n : ℕ) (ms : List Mapping) → AreApart ms → AreApart (take_piece offset n ms)
+pub left_apart : (offset n : ℕ) (ms : List Mapping) → AreApart ms → AreApart (take_piece offset n ms)
 unfolding take_piece
 left_apart offset n [] a = tt
 left_apart offset n (m ∷ ms) a = by_test (maps offset m) refl (left_behind offset n (m.offset + m.count) ms a.0) (left_apart offset n ms a.1)

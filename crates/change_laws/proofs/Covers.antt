@@ -136,7 +136,7 @@ abbrev pub as_one : Mapping → Mapping → Mapping
 as_one p q = record p { count = p.count + q.count }
 
 -- the second's place is that behind the first
-behind_place : (at : Layout) (p q : Mapping) (P : Place at p) (Q : Place at q) → Meeting at.agblklog p q → (Q.group ≡ P.group) × (Q.block ≡ P.block + p.count)
+pub behind_place : (at : Layout) (p q : Mapping) (P : Place at p) (Q : Place at q) → Meeting at.agblklog p q → (Q.group ≡ P.group) × (Q.block ≡ P.block + p.count)
 behind_place at p q P Q m =
     let same : Q.group ≡ P.group = sym Q.parts.high ∙ sym m.groups ∙ P.parts.high in
     (same, behind (P.group * 2 ^ at.agblklog) P.block Q.block p.count (ap (λ n. n * 2 ^ at.agblklog + Q.block) (sym same) ∙ Q.parts.number ∙ sym m.blocks ∙ ap (λ n. n + p.count) (sym P.parts.number)))

@@ -1,12 +1,12 @@
-mod Chunks
-mod Convert
-mod Covers
-mod Firsts
-mod Lists
-mod Made
-mod Making
-mod Members
-mod Newly
-mod Pieces
-mod Rows
-mod Settled
+pub mod Chunks
+pub mod Convert
+pub mod Covers
+pub mod Firsts
+pub mod Lists
+pub mod Made
+pub mod Making
+pub mod Members
+pub mod Newly
+pub mod Pieces
+pub mod Rows
+pub mod Settled

@@ -38,7 +38,7 @@ found_one T P (m ∷ ms) x e h = (elim (T m) as (λ t. T m ≡ t → cond t (Som
 ]) refl h
 
 -- one that passes is the last that does
-abbrev Single : (Mapping → Bool) → List Mapping → Type 0
+abbrev pub Single : (Mapping → Bool) → List Mapping → Type 0
 Single T [] = Unit {0}
 Single T (m ∷ ms) = (T m ≡ true → list_any T ms ≡ false) × Single T ms
 
@@ -50,7 +50,7 @@ rest_false : (x y : Bool) → (x || y) ≡ false → y ≡ false
 rest_false false y h = h
 rest_false true y h = absurd (true≢false h)
 
-not_found : (T : Mapping → Bool) (ms : List Mapping) → list_any T ms ≡ false → find T ms ≡ None
+pub not_found : (T : Mapping → Bool) (ms : List Mapping) → list_any T ms ≡ false → find T ms ≡ None
 not_found T [] h = refl
 not_found T (m ∷ ms) h = ap (λ b. cond b (Some m) (find T ms)) (first_false (T m) (list_any T ms) h) ∙ not_found T ms (rest_false (T m) (list_any T ms) h)
 
@@ -103,7 +103,7 @@ both_each P Q [] p q = tt
 both_each P Q (m ∷ ms) p q = ((p.0, q.0), both_each P Q ms p.1 q.1)
 
 -- of mappings that stand apart one ends at an offset, and one begins there
-one_ends : (at : Layout) (T : Mapping → Bool) (e : ℕ) → ((m : Mapping) → T m ≡ true → m.offset + m.count ≡ e) → (ms : List Mapping) → Each (IsPlaced at) ms → AreApart ms → Single T ms
+pub one_ends : (at : Layout) (T : Mapping → Bool) (e : ℕ) → ((m : Mapping) → T m ≡ true → m.offset + m.count ≡ e) → (ms : List Mapping) → Each (IsPlaced at) ms → AreApart ms → Single T ms
 one_ends at T e is [] p a = tt
 one_ends at T e is (m ∷ ms) p a = (
   (λ h. none_that T (λ q. IsPlaced at q × (m.offset + m.count ≤ q.offset)) ms (both_each (IsPlaced at) (λ q. m.offset + m.count ≤ q.offset) ms p.1 a.0) (λ q both. later q (T q) refl both (is m h))),
@@ -117,7 +117,7 @@ one_ends at T e is (m ∷ ms) p a = (
     later q false k both end = k
     later q true k both end = absurd (beyond (m.offset + m.count) q.offset q.count both.0.some both.1 (is q k ∙ sym end))
 
-one_begins : (at : Layout) (T : Mapping → Bool) (e : ℕ) → ((m : Mapping) → T m ≡ true → e ≡ m.offset) → (ms : List Mapping) → Each (IsPlaced at) ms → AreApart ms → Single T ms
+pub one_begins : (at : Layout) (T : Mapping → Bool) (e : ℕ) → ((m : Mapping) → T m ≡ true → e ≡ m.offset) → (ms : List Mapping) → Each (IsPlaced at) ms → AreApart ms → Single T ms
 one_begins at T e is [] p a = tt
 one_begins at T e is (m ∷ ms) p a = (
   (λ h. none_that T (λ q. m.offset + m.count ≤ q.offset) ms a.0 (λ q behind. later q (T q) refl behind (is m h))),

@@ -111,7 +111,7 @@ pub record PieceAt (at : Layout) (m : Mapping) (p : Place at m) (g b d : ℕ) : 
   pub group : g ≡ p.group
   pub block : b ≡ p.block + d
 
-same_place : (at : Layout) (m : Mapping) (p : Place at m) (g b d n : ℕ) → HasFitting at → g < at.agcount → b + n ≤ group_len_of at g → 0 < n → d + n ≤ m.count → fs_block_of at g b ≡ m.block + d → PieceAt at m p g b d
+pub same_place : (at : Layout) (m : Mapping) (p : Place at m) (g b d n : ℕ) → HasFitting at → g < at.agcount → b + n ≤ group_len_of at g → 0 < n → d + n ≤ m.count → fs_block_of at g b ≡ m.block + d → PieceAt at m p g b d
 same_place at m p g b d n fit gl bl some ends number =
     let place : split_of at (fs_block_of at g b) ≡ Some (g, b) = splits_in at fit g b gl (below b n (group_len_of at g) some bl) in
     let moved : fs_block_of at p.group (p.block + d) ≡ m.block + d = along (p.group * 2 ^ at.agblklog) p.block d m.block p.parts.number in
@@ -201,7 +201,7 @@ module _ (at : Layout) (fit : HasFitting at) (h : ℕ) (c : Claim) (ino : ℕ) (
       words y u d x h = omega (arith, h)
 
   -- a piece's mapping, in numbers
-  cut_by : (m : Mapping) (offset n : ℕ) → maps offset m ≡ true → nat_le (offset + n) (m.offset + m.count) ≡ true → Cut m offset n
+  pub cut_by : (m : Mapping) (offset n : ℕ) → maps offset m ≡ true → nat_le (offset + n) (m.offset + m.count) ≡ true → Cut m offset n
   cut_by m offset n it ends = record {
     before = offset - m.offset;
     behind = m.offset + m.count - (offset + n);

@@ -1,0 +1,3 @@
+mod Cores
+mod Listed
+mod Turned
