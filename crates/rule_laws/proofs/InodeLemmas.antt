@@ -1,6 +1,6 @@
 -- A bit of a chunk's mask that turns, in both btrees, and cores.
 use Rattle.std.proofs.Common.{◌≡◌, ◌≢◌, ℕ, zero, suc, ◌+◌, ◌-◌, ◌^◌, ◌<◌, ◌≤◌, Bool, true, false, cond, not, ◌&&◌, ◌||◌, List, [], ◌∷◌, ◌++◌, Option, Some, None, refl, sym, ap, ◌∙◌, arith, inl, inr}
-use Rattle.std.specs.Prelude.{◌==◌, nat_le, nat_lt, filter, find, map, option_map, if◌then◌else◌}
+use Rattle.std.specs.Prelude.{◌==◌, nat_lt, filter, find, map, option_map, if◌then◌else◌}
 use Rattle.std.specs.Int.{bit_at}
 use Rattle.std.specs.List.{list_any}
 use Rattle.std.proofs.lemmas.Bool.{cases_lt, true≢false}
@@ -9,11 +9,11 @@ use Rattle.dinode_core.specs.declared.inode.Core3.{Core3}
 use Rattle.ino_recs.specs.declared.chunk.InoRec.{InoRec}
 use Rattle.inode_table.specs.Cores.{fresh_file, free_core, given_back}
 use Rattle.inode_table.specs.Masks.{fino_of}
-use Rattle.inode_table.proofs.MaskLemmas.{OneMore, sum_more}
+use Rattle.inode_table.proofs.MaskLemmas.{sum_more}
 use Rattle.fs_derive.specs.Lists.{numbers}
-use Rattle.fs_change.specs.Choice.{is_bit, lowest_bit}
+use Rattle.fs_change.specs.Choice.{is_bit}
 use Rattle.fs_change.specs.Records.{follow_inode, has_inode, put_all, put_chunk, turn_inode, turned}
-use Rattle.rule_laws.specs.Inodes.{CoresAlike, FindsLowest, FindsNone, GivesInode, IsTurned, MakesAlike, TakesInode, TurnsAlike, TurnsBoth, with_listed}
+use Rattle.rule_laws.specs.Inodes.{CoresAlike, FindsLowest, FindsNone, GivesInode, MakesAlike, TakesInode, TurnsAlike, with_listed}
 
 -- ---- a chunk's record
 

@@ -1,7 +1,6 @@
 -- The counters of a switch are those of the heads that the rule makes.
-use Rattle.std.proofs.Common.{◌≡◌, ℕ, suc, ◌+◌, ◌-◌, ◌<◌, ◌≤◌, Bool, true, false, cond, ◌||◌, ◌&&◌, List, [], ◌∷◌, Option, Some, None, refl, sym, ap, ◌∙◌, arith, subst}
-use Rattle.std.specs.Prelude.{◌==◌, nat_le, nat_lt, max, sum_by, unwrap_or, IfSome, if◌then◌else◌}
-use Rattle.std.proofs.lemmas.Bool.{true≢false}
+use Rattle.std.proofs.Common.{◌≡◌, ℕ, ◌+◌, ◌-◌, ◌<◌, ◌≤◌, Bool, true, false, List, [], ◌∷◌, Option, Some, None, refl, sym, ap, ◌∙◌, arith}
+use Rattle.std.specs.Prelude.{max, sum_by, unwrap_or, IfSome, if◌then◌else◌}
 use Rattle.std.proofs.lemmas.Bool.Decides.{nat_tests}
 use Rattle.std.proofs.lemmas.List.Sums.{sum_by-cons}
 use Rattle.derive_defs.specs.ByCount.{greatest, ordered_by_count, put_in}
@@ -22,7 +21,7 @@ use Rattle.sblock.specs.declared.kind.Kind.{Kind}
 use Rattle.sblock.specs.declared.kind.Kind.TheVariants as kinds
 use Rattle.fs_state.specs.Kinds.{RecOf}
 use Rattle.fs_state.specs.State.{State, Group}
-use Rattle.fs_derive.specs.Derive.{bno_of, cnt_of, derive, ino_of}
+use Rattle.fs_derive.specs.Derive.{bno_of, cnt_of, derive}
 use Rattle.fs_derive.specs.Faults.{wanted}
 use Rattle.fs_derive.specs.Faults as faults
 use Rattle.fs_derive.specs.Kinds.{kinds_of}
@@ -30,7 +29,7 @@ use Rattle.fs_change.proofs.Owed.{same_at}
 use Rattle.fs_change.specs.Changes.{last_count}
 use Rattle.fs_change.specs.Parts.{in_trees}
 use Rattle.fs_change.specs.Switch.{exact_counters, hold, move_blocks, moved, sets_counter, switched}
-use Rattle.rule_laws.specs.Switches.{AreBeside, HasBlocks, HaveRoots, IsGiven, LastIsGreatest, SumsAlike, SwitchesAlike, beside, blocks_in, counter_of, uncounted, unit_of}
+use Rattle.rule_laws.specs.Switches.{AreBeside, HaveRoots, IsGiven, LastIsGreatest, SumsAlike, SwitchesAlike, beside, blocks_in, counter_of, uncounted, unit_of}
 use Rattle.rule_laws.proofs.LimboLemmas.{longest_alike}
 
 -- ---- totals of records

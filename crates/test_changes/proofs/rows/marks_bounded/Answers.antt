@@ -1,5 +1,5 @@
 use Rattle.test_changes.proofs.Computing.{computing}
-use Rattle.std.specs.Prelude.{refl, length, ◌<◌, ◌≤◌}
+use Rattle.std.specs.Prelude.{refl, length, ◌<◌}
 use Rattle.std.proofs.Common.{arith, subst}
 use Rattle.std.proofs.lemmas.Bool.{ltb-true, leb-true}
 use Rattle.test_changes.proofs.rows.marks_bounded.Goals as goal
