@@ -9,6 +9,7 @@ use Rattle.blk_device.specs.Stored.{blank}
 use Rattle.blk_device.specs.declared.device.Device.{Ghosts}
 use Rattle.blk_device.specs.declared.device.Region.{Region}
 use Rattle.blk_device.specs.declared.device.Region.TheVariants.{Image, Redo}
+use Rattle.redo_area.specs.declared.TheConstants.{REDO_BLOCKS}
 use Rattle.xscrub.specs.declared.host.Purpose.{Purpose}
 use Rattle.xscrub.specs.declared.host.Purpose.TheVariants.{Make}
 
@@ -35,9 +36,9 @@ Lends loans None (Some new) = ⊥
 Lends loans (Some old) None = ⊥
 Lends loans (Some old) (Some new) = new ≡ old ++ loans
 
--- the redo region without a redo file: 162 blocks of zeros
+-- the redo region without a redo file: so many blocks of zeros as it has at least
 abbrev pub no_redo : Stored
-no_redo = record { size = 162; at = λ b. zeros }
+no_redo = record { size = REDO_BLOCKS; at = λ b. zeros }
 
 -- the redo region by the name of a redo file, where one is given
 abbrev pub redo_named : (List ℕ → Option Stored) → Option (List ℕ) → Option Stored

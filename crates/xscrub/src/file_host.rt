@@ -7,6 +7,7 @@ use crate::asked::{DeviceAsked, count_failed, count_fault, keep_request};
 use crate::host::{Host, OpenFault, Purpose, Watched};
 use crate::progress::Progress;
 use blk_device::{Device, FileDevice, Region, Sink, SinkFailed};
+use redo_area::REDO_BLOCKS;
 use std::alloc::Global;
 use std::fs::{OpenFile, OpenOptions};
 use std::io::{ErrorKind, Seek, SeekFrom, Write};
@@ -15,9 +16,6 @@ use std::rt::{Clock, Files};
 use std::{fs, io};
 
 const BLOCK_BYTES: u64 = 4096;
-
-// The blocks of a redo region, in a file or not.
-const REDO_BLOCKS: u64 = 162;
 
 /// Opens files for devices and prints the report; beside it, on standard error, it says what failed
 /// and what a refusal means. It tells nothing of what a file holds, nor of what standard output took.
@@ -158,7 +156,7 @@ fn open_device<'a, R: Files + Eprint>(
     purpose: Purpose,
 ) -> io::Result<FileDevice<NamedFile<'a, R>>>
     ensures redo_blocks { IsNone redo.entry →
-        IfOk result (λ d. ⟦<FileDevice<NamedFile<'a, R>> as Device>⟧.blocks d Region.Redo ≡ 162) }
+        IfOk result (λ d. ⟦<FileDevice<NamedFile<'a, R>> as Device>⟧.blocks d Region.Redo ≡ REDO_BLOCKS) }
     ensures fresh { IfOk result (λ d. ⟦<FileDevice<NamedFile<'a, R>> as Device>⟧.faults d ≡ 0) }
     ensures told { IfOk result (Lent ⟦<FileDevice<NamedFile<'a, R>> as Device>⟧ purpose false None (redo_asked (λ n. None) redo.entry)) }
 {

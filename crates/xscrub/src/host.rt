@@ -1,6 +1,7 @@
 ghost use Rattle.std.specs.Prelude.{◌≡◌, ◌≤◌, ◌==◌, ◌+◌, ℕ, Bool, List, [], ◌∷◌, Option, OnOk, OnErr, IfOk, IsErrOf, IsNone, false, if◌then◌else◌};
 ghost use Rattle.std.specs.Str.{bytes_eq};
 ghost use Rattle.blk_device.specs.Causes.{Rose, one_more};
+ghost use Rattle.redo_area.specs.declared.TheConstants.{REDO_BLOCKS};
 ghost use Rattle.xscrub.specs.Stored.{Stored, Request, Loan, Out, Back, Lends, IsAskedFor, Lent, asks, name_of, redo_asked, stored_image, stored_with};
 
 use blk_device::{Device, Region, Sink};
@@ -89,7 +90,7 @@ pub trait Host: Sink + Watched {
     ) -> Result<Self::Dev, OpenFault>
         ensures told { IfOk result (Lent Self.Dev.Device purpose (tells self.old)
             (stored self.old image.now) (redo_asked (redo_files self.old) redo.entry)) }
-        ensures redo_blocks { IsNone redo.entry → IfOk result (λ dev. Self.Dev.blocks dev Region.Redo ≡ 162) }
+        ensures redo_blocks { IsNone redo.entry → IfOk result (λ dev. Self.Dev.blocks dev Region.Redo ≡ REDO_BLOCKS) }
         ensures fresh { IfOk result (λ dev. Self.Dev.faults dev ≡ 0) }
         ensures lent { IfOk result (λ dev. Lends (Out dev ∷ []) (loans self.old) (loans self.new)) }
         ensures unlent { OnErr result (loans self.new ≡ loans self.old) }

@@ -14,11 +14,9 @@ use crate::host::{Host, OpenFault, Purpose, Watched};
 use blk_device::{Device, DeviceFailed, MemDevice, Region, Sink, SinkFailed};
 use byte_fields::Block;
 use check_watch::NoWatch;
+use redo_area::REDO_BLOCKS;
 use std::alloc::{AllocError, Global};
 use std::collections::BTreeMap;
-
-// The blocks of a redo region that no file keeps.
-const REDO_BLOCKS: u64 = 162;
 
 /// An image of so many blocks, zeros where there is none, and the numbers of the calls of its device
 /// that are to fail, counted from 0 each time that it is opened.
@@ -154,7 +152,7 @@ fn replace_image(
 // A device over a copy of the image, of whose calls those that are chosen will fail.
 fn open_copy(alloc: Global, image: &MemImage) -> Result<MemDevice, AllocError>
     ensures told { IfOk result (Opened ⟦<MemDevice as Device>⟧ (Some (file_of image.now)) (Some no_redo)) }
-    ensures redo_blocks { IfOk result (λ d. ⟦<MemDevice as Device>⟧.blocks d Region.Redo ≡ 162) }
+    ensures redo_blocks { IfOk result (λ d. ⟦<MemDevice as Device>⟧.blocks d Region.Redo ≡ REDO_BLOCKS) }
     ensures fresh { IfOk result (λ d. ⟦<MemDevice as Device>⟧.faults d ≡ 0) }
     ensures failing { IfOk result (λ d. failing_calls d ≡ image.now.failing.items) }
     ensures asked { IfOk result (λ d. calls_asked d ≡ 0) }
@@ -170,7 +168,7 @@ fn open_copy(alloc: Global, image: &MemImage) -> Result<MemDevice, AllocError>
 fn open_new(alloc: Global, image: &MemImage, blocks: u64) -> Result<MemDevice, AllocError>
     ensures told { IfOk result (λ d. IsNew true blocks
         (⟦<MemDevice as Device>⟧.content d) (⟦<MemDevice as Device>⟧.blocks d)) }
-    ensures redo_blocks { IfOk result (λ d. ⟦<MemDevice as Device>⟧.blocks d Region.Redo ≡ 162) }
+    ensures redo_blocks { IfOk result (λ d. ⟦<MemDevice as Device>⟧.blocks d Region.Redo ≡ REDO_BLOCKS) }
     ensures fresh { IfOk result (λ d. ⟦<MemDevice as Device>⟧.faults d ≡ 0) }
     ensures failing { IfOk result (λ d. failing_calls d ≡ image.now.failing.items) }
     ensures asked { IfOk result (λ d. calls_asked d ≡ 0) }
@@ -250,7 +248,7 @@ fn open_stored(
     redo: Option<&str>,
 ) -> Result<MemDevice, AllocError>
     ensures told { IfOk result (Opened ⟦<MemDevice as Device>⟧ (Some (file_of image.now)) (redo_asked (redo_file_named redos.now) redo.entry)) }
-    ensures redo_blocks { IsNone redo.entry → IfOk result (λ d. ⟦<MemDevice as Device>⟧.blocks d Region.Redo ≡ 162) }
+    ensures redo_blocks { IsNone redo.entry → IfOk result (λ d. ⟦<MemDevice as Device>⟧.blocks d Region.Redo ≡ REDO_BLOCKS) }
     ensures fresh { IfOk result (λ d. ⟦<MemDevice as Device>⟧.faults d ≡ 0) }
     ensures failing { IfOk result (λ d. failing_calls d ≡ map (λ call. raised call (calls_for_redo redos.now redo.entry)) image.now.failing.items) }
     ensures asked { IfOk result (λ d. calls_asked d ≡ calls_for_redo redos.now redo.entry) }
@@ -273,7 +271,7 @@ fn open_for(
     purpose: Purpose,
 ) -> Result<MemDevice, AllocError>
     ensures told { IfOk result (Lent ⟦<MemDevice as Device>⟧ purpose true (Some (file_of image.now)) (redo_asked (redo_file_named redos.now) redo.entry)) }
-    ensures redo_blocks { IsNone redo.entry → IfOk result (λ d. ⟦<MemDevice as Device>⟧.blocks d Region.Redo ≡ 162) }
+    ensures redo_blocks { IsNone redo.entry → IfOk result (λ d. ⟦<MemDevice as Device>⟧.blocks d Region.Redo ≡ REDO_BLOCKS) }
     ensures fresh { IfOk result (λ d. ⟦<MemDevice as Device>⟧.faults d ≡ 0) }
     ensures failing { IfOk result (λ d. failing_calls d ≡ map (λ call. raised call (calls_to_open purpose redos.now redo.entry)) image.now.failing.items) }
     ensures asked { IfOk result (λ d. calls_asked d ≡ calls_to_open purpose redos.now redo.entry) }
@@ -330,7 +328,7 @@ impl Host for MemHost {
     ) -> Result<MemDevice, OpenFault>
         ensures told { IfOk result (Lent ⟦<MemDevice as Device>⟧ purpose true (stored_by self.old image.now)
             (redo_asked (redo_files_by self.old) redo.entry)) }
-        ensures redo_blocks { IsNone redo.entry → IfOk result (λ dev. ⟦<MemDevice as Device>⟧.blocks dev Region.Redo ≡ 162) }
+        ensures redo_blocks { IsNone redo.entry → IfOk result (λ dev. ⟦<MemDevice as Device>⟧.blocks dev Region.Redo ≡ REDO_BLOCKS) }
         ensures fresh { IfOk result (λ dev. ⟦<MemDevice as Device>⟧.faults dev ≡ 0) }
         ensures lent { IfOk result (λ dev. Lends (Out dev ∷ []) (loans_of self.old) (loans_of self.new)) }
         ensures unlent { OnErr result (loans_of self.new ≡ loans_of self.old) }
