@@ -192,6 +192,7 @@ impl Agf {
         ensures accepted { (at : Layout) (g : ℕ) → IsOfGroup at g self.now.seqno self.now.length self.now.uuid
             → agf_fault at g block.new.bytes ≡ None }
     {
+        // A copy of the sector, so that what stays elsewhere is one contract for all three heads.
         let mut sector = sector_copy::<1>(block);
         put_agf(&mut sector, self);
         put_sector::<1>(block, &sector);

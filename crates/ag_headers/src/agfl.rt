@@ -161,6 +161,7 @@ impl Agfl {
     {
         let place = (self.last + 1) % PLACES;
         self.numbers[place as usize] = block;
+        // Into an empty list the ring begins here: its two old places may say nothing of each other.
         self.first = first_after(self.first, self.count, place);
         self.last = place;
         self.count += 1;

@@ -11,6 +11,7 @@ pub fn shape(n: u64, kind: Kind) -> Shape
 {
     let mut row = Row::leaves(n, kind);
     let mut levels = 1;
+    // From the leaves up, so that a block needs nothing but the list, its claimed block and its number.
     while row.width > 1 {
         row = row.above(kind);
         levels += 1;

@@ -75,6 +75,7 @@ impl Tally {
         ensures added { Adds self.old.journal.entries.items (entries_of group unit judged.now) self.new.journal.entries.items result }
         ensures passed { OnOk result (self.new.passed.items ≡ self.old.passed.items ++ passes_as judged.now ∷ []) }
     {
+        // First: where there is no memory for it, the unit has no entries either.
         self.passed.push(has_passed(judged))?;
         add_judged(&mut self.journal, alloc, group, unit, judged)
     }

@@ -28,6 +28,7 @@ pub fn longest(by_count: &[SpanRec]) -> u32
 {
     match by_count {
         [] => 0,
+        // In the order by count the last record is the longest run.
         [.., last] => last.count,
     }
 }

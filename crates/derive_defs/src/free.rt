@@ -24,6 +24,7 @@ pub fn free_of(alloc: Global, length: u32, mappings: &[RmapRec]) -> Result<Vec<S
     let mut free = Vec::new(alloc);
     let mut from = 0;
     for mapping in mappings {
+        // Records in range have a block at least, but the conditions ask for order and ends alone.
         if mapping.count == 0 {
             continue;
         }

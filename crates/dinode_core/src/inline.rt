@@ -86,6 +86,7 @@ fn form_fault(core: &Core3, fork: Fork) -> Option<ForkFault>
     if is_fork_absent(core, fork) {
         return None;
     }
+    // From 42 on the attribute fork would begin behind the inode, and the data fork would pass its end.
     if core.forkoff >= 42 {
         return Some(ForkFault::Format);
     }
@@ -216,6 +217,7 @@ pub fn first_bad(geo: &Geometry, fork: Fork, mappings: &[Mapping]) -> Option<For
 {
     let mut rest = mappings;
     while let Some((first, tail)) = rest.split_first() {
+        // Order and overlap are the earlier mapping's, so each is judged against the one behind it.
         if let Some(fault) = mapping_fault(geo, fork, first, tail) {
             return Some(fault);
         }

@@ -26,6 +26,7 @@ pub fn choose(
     let kept = after.min(blocks.len());
     let (first, _) = blocks.split_at(kept);
     let mut claimed = Vec::from_slice(alloc, first)?;
+    // Its own blocks first, then the list's: so the blocks of a tree are known before anything is joined.
     for i in 0..need {
         claimed.push(list.entry(i))?;
     }

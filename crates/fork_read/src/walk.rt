@@ -176,6 +176,7 @@ fn may_stop_at(seen: &Seen, tasks: &VecDeque<Task>, task: &Task, from: u64) -> b
 fn end_at(seen: &Seen, tasks: &VecDeque<Task>, task: Task, from: u64) -> Stop
     ensures { result ≡ end_before from seen.now.mappings.items task tasks.now.items }
 {
+    // The next subtree's key is enough: its block begins there, or it is bad and this mapping was the last.
     if may_stop_at(seen, tasks, &task, from) {
         Stop::Left(task)
     } else {
@@ -268,6 +269,7 @@ fn walk_behind<D: Device, L: Ledger>(
     ensures few { steps.new.reads ≤ steps.old.reads + 28 }
 {
     let mut task = first;
+    // No piece can begin here, so the fork has a fault; the first may lie behind any number of blocks.
     for i in 0..MOST_BEHIND {
         let _read = i;
         let read = read_task(dev, geo, core, from, &task, seen, tasks, steps)?;

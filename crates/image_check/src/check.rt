@@ -39,6 +39,7 @@ fn check_into<D: Device, L: Ledger, W: Watch>(
     ensures reading { OnlyRead D.Device dev.old dev.new steps.old steps.new }
     ensures cause { HasCause is_failed (D.faults dev.old) (D.faults dev.new) result }
 {
+    // Before any unit: a head that is refused says that the image isn't what it seems.
     let heads = read_all_heads(alloc, dev, geo, steps)?;
     check_units(alloc, dev, geo, heads.as_slice(), tally, steps, watch)
 }

@@ -195,6 +195,7 @@ fn check_by_forks<D: Device, L: Ledger, W: Watch>(
     ensures cause { HasCause is_failed (D.faults dev.old) (D.faults dev.new) result }
 {
     tally.begin()?;
+    // Read once more off the inode btrees, which passed, so that nothing of the cores had to be kept.
     let lists = all_chunks(alloc, dev, geo, heads, steps)?;
     check_by_lists(
         alloc,

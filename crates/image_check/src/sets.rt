@@ -15,6 +15,7 @@ pub fn take_set(alloc: Global, sets: &mut [ClaimSet], g: u32) -> ClaimSet
     ensures others { (h : ℕ) → g < h → pieces_at sets.new h ≡ pieces_at sets.old h }
     ensures groups { length sets.new ≡ length sets.old }
 {
+    // The old set goes with its group, and its memory with it.
     let fresh = ClaimSet::new(alloc);
     mem::replace(&mut sets[g as usize], fresh)
 }

@@ -66,6 +66,7 @@ fn find_one<D: Device, L: Ledger>(
     ensures agrees { AgreesTold cache.new (D.content dev.new) }
 {
     let _ = txn.len();
+    // Joined as it is found, also to be freed: so who counts joined blocks counts freed ones too.
     let _ = txn.join(dev, cache, at, steps)?;
     Ok(())
 }

@@ -69,6 +69,7 @@ fn write_some<D: Device>(
     ensures sizes { D.blocks dev.new ≡ D.blocks dev.old }
 {
     write_whole(dev, batch)?;
+    // Only now: a block whose write failed may hold anything, and isn't noted.
     note_all(cache, batch);
     Ok(())
 }

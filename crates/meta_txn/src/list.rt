@@ -81,6 +81,7 @@ pub fn load<D: Device, L: Ledger>(
     ensures agrees { AgreesTold cache.new (D.content dev.new) }
 {
     let mut block = Block::zeroed();
+    // Counted whether the cache has it or not: steps bound the device's reads from above.
     steps.block_read();
     cache.get(dev, at, &mut block)?;
     Ok(block)

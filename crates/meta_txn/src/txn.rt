@@ -278,6 +278,7 @@ impl Txn {
         ensures sizes { D.blocks dev.new ≡ D.blocks dev.old }
     {
         let answer = write_batch(dev, cache, &self.blocks, steps);
+        // Also after a failure: what waits in the redo region decides then, and isn't written a second time.
         self.abandon();
         answer
     }

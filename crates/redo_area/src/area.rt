@@ -126,6 +126,7 @@ pub fn prepare<D: Device>(dev: &mut D, batch: &[(u64, Block)]) -> Result<(), Bat
     ensures later { D.faults dev.old ≤ D.faults dev.new }
     ensures reads { D.reads dev.new ≡ D.reads dev.old }
 {
+    // Before anything is written, so that a refusal leaves the device as it was.
     if batch.len() > MAX_BATCH {
         return Err(BatchFault::TooMany(batch.len() as u64));
     }

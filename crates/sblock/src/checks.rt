@@ -111,6 +111,7 @@ fn does_record_lie_inside<K: RecKind>(area: &[u8], bounds: &Bounds, i: u16) -> b
     ensures { result ≡ is_record_inside K.form bounds.now area.now i }
 {
     let rec = K::record_at(area, i as usize);
+    // Were it Range, a sound tree would count as unreadable, and be made anew without these records.
     !K::is_supported(&rec) || K::is_in_range(&rec, bounds)
 }
 

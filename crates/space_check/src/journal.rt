@@ -94,6 +94,7 @@ impl Journal {
     pub fn begin(&self) -> Result<(), Halt>
         ensures { Begins self.now.entries.items result }
     {
+        // Asked where a unit begins, and not in between, so that each verdict counts the faults before it.
         if has_room(self.entries.len()) {
             Ok(())
         } else {

@@ -140,6 +140,7 @@ impl RecKind for RefcKind {
     }
 
     fn block_of(key: &RefcKey) -> u32 {
+        // Bit 31 stays in: only so does a later key never begin at an earlier block.
         key.start
     }
 

@@ -61,6 +61,7 @@ fn lead_on<K: RecKind>(
     if level == 0 {
         return Ok(());
     }
+    // Its left sibling isn't asked: blocks are met as a set a level, and not from left to right.
     match lone_fault_of::<K>(block, site, level, root, p) {
         Some(_) => Ok(()),
         None => put_children(K::kind(), block, next),

@@ -114,6 +114,7 @@ pub fn search<K: RecKind, B: Blocks>(
     match choose::<K>(area, n, asked) {
         None => resume::<K, B>(blocks, site, spare, asked),
         Some(choice) => {
+            // One spare, on the lowest level that has one, so two blocks a level are read on any tree.
             let behind = spare_of(level - 1, spare, choice.next);
             search::<K, B>(blocks, site, level - 1, false, choice.first, behind, asked)
         }

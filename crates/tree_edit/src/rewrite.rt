@@ -61,6 +61,7 @@ pub(crate) fn rewrite<K: RecKind, D: Device, L: Ledger>(
     ensures agrees { AgreesTold cache.new (D.content dev.new) }
 {
     let made = prepare::<K, D, L>(alloc, dev, cache, txn, site, tree, list, how, rec, steps)?;
+    // Room before anything is joined, so that nothing behind the joining can be refused for memory.
     make_room(list, made.need, limbo, &made.left)?;
     join_tree(
         alloc,

@@ -137,6 +137,7 @@ fn walk_levels<K: RecKind, B: Blocks>(
     let mut seen = fresh_seen::<K::Rec>(alloc);
     let level = (levels - 1) as u8;
     walk_node::<K, B>(blocks, site, level, true, root, &mut seen)?;
+    // Last of all: that another block follows is only wrong once the tree has ended without it.
     if let Some(block) = open_end_of(&seen, levels) {
         return Err(WalkFault::Bad {
             block,
@@ -168,6 +169,7 @@ pub fn walk_site<K: RecKind, B: Blocks>(
     ensures each { IfOk result (λ read. B.count blocks.new ≡ B.count blocks.old + length read.blocks.items) }
 {
     let root = tree.root;
+    // There is no block to show, and the number that was read is what helps.
     if root == 0 || root >= site.bounds.length {
         return Err(WalkFault::Bad {
             block: root,

@@ -89,6 +89,7 @@ impl<T: Recorded> TurnLock<T> {
         let mut value = take(shared, seat);
         let answer = call(f, &mut value);
         let entries = value.entries();
+        // Before the value goes back, so that what a pass has seen changes at steps on words alone.
         publish::<T, Brand>(shared, seat, &value, entries);
         give(shared, seat, value);
         serve(shared, seat, ticket);
@@ -142,6 +143,7 @@ impl<T: Recorded> TurnLock<T> {
         let Some(value) = home else {
             return Err(LockFault::Memory);
         };
+        // A pass was lost in the midst of a turn, and what is in the slot may be any value.
         if !all_served {
             return Err(LockFault::Memory);
         }

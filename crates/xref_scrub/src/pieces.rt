@@ -38,6 +38,7 @@ pub fn compare_piece<K: Indexed>(
     requires derived { IsRising K.form derived.now }
     ensures { IfOk result (λ faults. faults.items ≡ piece K.form K.shown index.now derived.now from) }
 {
+    // By halving: to count from the front would make all pieces together quadratic.
     let mut at = seek::<K>(index, derived, from);
     let mut faults = Vec::new(alloc);
     let mut left = PIECE;

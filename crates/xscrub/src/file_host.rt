@@ -59,6 +59,7 @@ fn whole_blocks(bytes: u64) -> u64
 // How many whole blocks a file has. The end is sought, which also tells the size of a block
 // device.
 fn blocks_of<F: Seek>(file: &mut F) -> io::Result<u64> {
+    // A block device has no size in its metadata; its end can be sought as a file's can.
     Ok(whole_blocks(file.seek(SeekFrom::End(0))?))
 }
 
@@ -97,6 +98,7 @@ fn open_image<R: Files>(rt: &R, name: &str, purpose: Purpose) -> io::Result<R::F
                 .read(true)
                 .write(true)
                 .create(true)
+                // A name that a person types for a new image is one that may be written.
                 .truncate(true)
                 .open(rt, name)?;
             file.set_len(blocks.saturating_mul(BLOCK_BYTES))?;

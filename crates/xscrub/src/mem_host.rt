@@ -357,6 +357,7 @@ impl Host for MemHost {
             count_fault(&mut self.host_faults);
             return Err(OpenFault::Failed);
         };
+        // A copy: where there is no memory for it, the image is still there.
         let dev = open_for(alloc, file, &self.redos, redo, purpose)?;
         Ok(dev)
     }

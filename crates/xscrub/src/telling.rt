@@ -68,6 +68,7 @@ fn put_line<K: Sink>(alloc: Global, sink: &mut K, last: LastLine) -> bool
         × (K.taken sink.new ≡ K.taken sink.old)) }
     ensures fixed { OnFalse result (is_fixed last ≡ false) }
 {
+    // What the sink answers is left: the run has had its cause, and the status says it in any case.
     if let Some(text) = fixed_line(&last) {
         let _ = put_all(sink, text.as_bytes());
         return true;
@@ -167,6 +168,7 @@ fn status_of(journal: &[Entry]) -> Status
     if are_all_calm(journal) {
         return Status::Clean;
     }
+    // Before faulty: nothing says then which of two sources is wrong, and no fault elsewhere hides it.
     if is_any_given_up(journal) {
         return Status::GaveUp;
     }
@@ -184,6 +186,7 @@ fn end_early<K: Sink>(alloc: Global, sink: &mut K, journal: Vec<Entry>, stop: Te
         TellStop::Sink => end_with(alloc, sink, Status::Failed, journal, LastLine::HostFailed),
         TellStop::Memory { told } => {
             let mut journal = journal;
+            // So that the journal that is handed back and the text that was written say the same.
             journal.truncate(told);
             end_with(alloc, sink, Status::Memory, journal, LastLine::Memory)
         }
