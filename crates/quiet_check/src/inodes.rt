@@ -88,14 +88,8 @@ pub fn check_inodes<D: Device, L: Ledger>(
     ensures cause { HasCause is_failed (D.faults dev.old) (D.faults dev.new) result }
     ensures counted { (c : Contents) → D.content dev.old ≡ Some c → steps.new.reads ≤ steps.old.reads + 1 + inodes_most (layout geo.now) (c Image) g }
 {
-    let heads = match read_heads(alloc, dev, geo, g, steps) {
-        Ok(heads) => heads,
-        Err(stop) => return Err(stop),
-    };
-    let judged = match judge_by(alloc, dev, geo, g, &heads, steps) {
-        Ok(judged) => judged,
-        Err(stop) => return Err(stop),
-    };
+    let heads = read_heads(alloc, dev, geo, g, steps)?;
+    let judged = judge_by(alloc, dev, geo, g, &heads, steps)?;
     let mut journal = Journal::new(alloc);
     match add_judged(&mut journal, alloc, g, Unit::Inode, &judged) {
         Ok(()) => Ok(journal.entries),
