@@ -6,13 +6,13 @@ use Rattle.std.proofs.Common.{sym, ap, ap₂, subst, ◌∙◌, arith, cond, inl
 use Rattle.std.proofs.lemmas.Bool.{and_parts, cases_Bool, cases_order, eq-eqb, eqb-true, leb-true, lt-ltb, ltb-true, true≢false}
 use Rattle.std.proofs.lemmas.Bool.Decides.{nat_tests}
 use Rattle.std.proofs.lemmas.List.{reverse-append}
-use Rattle.fs_change.specs.Records.{count_at, count_before, count_behind, count_rest, counted, counter_of, cut_counts, is_same_count, join_counts, joined_counts, last_at, only_where, put_all, put_by, refc_end, set_count, stretch, swap_counts}
+use Rattle.fs_change.specs.Records.{count_at, count_before, count_behind, count_rest, counted, counter_of, cut_counts, is_same_count, join_counts, last_at, only_where, put_all, put_by, refc_end, set_count, stretch, swap_counts}
 use Rattle.fs_derive.specs.Lists.{only_if}
 use Rattle.span_recs.specs.declared.refcount.RefcRec.{RefcRec}
 use Rattle.account_laws.proofs.Spans.{span_in, span_not, span_out}
 use Rattle.account_laws.specs.Accounts.{in_span}
 use Rattle.count_laws.specs.Counted.{AreCounts, CountsStay, OneCount, StretchCounted, shown_count}
-use Rattle.count_laws.proofs.Lists.{Stands, find_both, found, in_either, in_left, in_right, kept, none_found, nothing, reversed, some_found, some_is, stays}
+use Rattle.count_laws.proofs.Lists.{Stands, find_both, found, in_left, in_right, kept, none_found, nothing, reversed, some_found, some_is, stays}
 
 abbrev put : RefcRec → List RefcRec → List RefcRec
 put x rs = put_by (λ r. r.start) x rs

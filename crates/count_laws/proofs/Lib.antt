@@ -1,5 +1,3 @@
 pub mod Counts
 pub mod Lists
 pub mod Shown
-mod Stated
-mod Steps

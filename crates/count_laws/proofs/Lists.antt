@@ -1,5 +1,5 @@
 -- What stands in a list, and what is found in it.
-use Rattle.std.specs.Prelude.{Bool, true, false, not, List, [], ◌∷◌, ◌++◌, filter, find, reverse, Option, Some, None, ◌≡◌, ◌⊎◌, refl}
+use Rattle.std.specs.Prelude.{Bool, true, false, List, [], ◌∷◌, ◌++◌, filter, find, reverse, Option, Some, None, ◌≡◌, ◌⊎◌, refl}
 use Rattle.std.specs.Option.{option_or}
 use Rattle.std.proofs.Common.{sym, ap, subst, ◌∙◌, cond, inl, inr}
 use Rattle.std.proofs.lemmas.Bool.{true≢false}

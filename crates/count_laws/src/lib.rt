@@ -1,7 +1,6 @@
-//! Reference counts block by block: what a stretch that rises or falls makes of them, and that it keeps the account of
-//! each block.
+//! Reference counts block by block: a stretch of one count that gets another, as a list of records.
 #![tactic(auto)]
 
 mod laws;
 
-pub use laws::{counts_follow, ref_done_keeps};
+pub use laws::counts_follow;

@@ -1,21 +1,20 @@
 -- Reference counts that count each block as its mappings do are what mappings say, as a list.
 use Rattle.std.proofs.Common.{◌≡◌, ℕ, ◌+◌, ◌<◌, ◌≤◌, ◌&&◌, Bool, true, false, cond, List, [], ◌∷◌, map, Contains, Option, Some, None, refl, ap, ap₂, sym, subst, ◌∙◌, inl, inr, arith}
-use Rattle.std.specs.Prelude.{nat_le, nat_lt, count_by, min, ◌⊎◌, if◌then◌else◌}
-use Rattle.std.proofs.lemmas.Bool.{cases_Bool, cases_order, lt-ltb, ltb-true, true≢false}
+use Rattle.std.specs.Prelude.{nat_le, nat_lt, count_by, ◌⊎◌, if◌then◌else◌}
+use Rattle.std.proofs.lemmas.Bool.{cases_order, lt-ltb, true≢false}
 use Rattle.std.proofs.lemmas.Bool.Decides.{nat_tests}
 use Rattle.std.proofs.lemmas.List.Sums.{sum_by-cons}
 use Rattle.derive_defs.proofs.SharedLemmas.{only_shared}
 use Rattle.derive_defs.specs.Mappings.{covers}
-use Rattle.derive_defs.specs.Shared.{AreShared, shared_space, sharers, shares, stretch_of}
+use Rattle.derive_defs.specs.Shared.{shared_space, sharers, shares, stretch_of}
 use Rattle.fs_change.specs.Records.{count_at}
 use Rattle.rmap_recs.proofs.RisingLemmas.{in_front, in_rest}
 use Rattle.rmap_recs.specs.Rmap.{is_shareable}
 use Rattle.rmap_recs.specs.declared.records.RmapRec.{RmapRec}
-use Rattle.run_sets.specs.Runs.{is_within, most}
+use Rattle.run_sets.specs.Runs.{most}
 use Rattle.run_sets.specs.Stretches.{AreMaximalStretches, at_least, value_at}
-use Rattle.run_sets.specs.declared.run.Run.{Run}
 use Rattle.span_recs.specs.declared.refcount.RefcRec.{RefcRec}
-use Rattle.account_laws.specs.Accounts.{at_span, covers_at, in_span}
+use Rattle.account_laws.specs.Accounts.{covers_at, in_span}
 use Rattle.account_laws.proofs.Spans.{span_not, span_out}
 use Rattle.count_laws.specs.Counted.{AreCounts, AreShown}
 use Rattle.count_laws.proofs.Counts.{at_none, at_some, stands_from, which}

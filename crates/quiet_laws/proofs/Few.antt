@@ -14,7 +14,7 @@ use Rattle.sblock.specs.declared.kind.Kind.TheVariants.{Refc}
 use Rattle.span_recs.specs.declared.refcount.RefcRec.{RefcRec}
 use Rattle.account_laws.proofs.Runs.{own_group}
 use Rattle.count_laws.specs.Counted.{AreShown}
-use Rattle.count_laws.specs.Steps.{AreCounting}
+use Rattle.ref_laws.specs.Steps.{AreCounting}
 use Rattle.count_laws.proofs.Shown.{shown_stay}
 use Rattle.quiet_laws.specs.Ordered.{CountsShown}
 

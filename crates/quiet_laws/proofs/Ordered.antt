@@ -1,13 +1,13 @@
 -- Runs that leave free space or join it leave both its indexes in order.
-use Rattle.std.specs.Prelude.{ℕ, Bool, true, false, not, List, [], ◌∷◌, ◌++◌, filter, ◌≡◌, ◌+◌, ◌<◌, ◌≤◌, Option, Some, None, is_some, option_to_list, refl, if◌then◌else◌}
+use Rattle.std.specs.Prelude.{ℕ, Bool, true, false, not, List, [], ◌∷◌, ◌++◌, filter, ◌≡◌, ◌<◌, Some, option_to_list, refl, if◌then◌else◌}
 use Rattle.std.specs.Option.{option_map_or}
 use Rattle.std.proofs.Common.{sym, ap, subst, ◌∙◌, arith, cond}
 use Rattle.std.proofs.lemmas.Bool.{true≢false}
 use Rattle.derive_defs.specs.ByCount.{ordered_by_count}
 use Rattle.fs_change.proofs.Trees.{Not, edited, given_owner, taken_owner, turned_tree}
 use Rattle.fs_change.specs.Chains.{most_chains}
-use Rattle.fs_change.specs.Changes.{by_count, chunk_extent, extent_of, free_chunk, freed, give_free, give_owner, inodes_follow, is_in_extent, known_spans, list_chunk, make_chunk, mapped, refilled, space_edit, space_follows, take_free, take_owner, taken, trimmed, turn}
-use Rattle.fs_change.specs.Parts.{change_tree, edit, is_edited, is_sick, records_in, sick_in, with_recs}
+use Rattle.fs_change.specs.Changes.{by_count, chunk_extent, extent_of, free_chunk, freed, give_free, give_owner, inodes_follow, is_in_extent, known_spans, list_chunk, make_chunk, mapped, refilled, space_edit, take_free, take_owner, taken, trimmed, turn}
+use Rattle.fs_change.specs.Parts.{change_tree, edit, is_sick, records_in, sick_in, with_recs}
 use Rattle.fs_change.specs.Records.{beside_run, by_start, give_span, holder_of, joined_run, put_chunk, rest_of, span, take_span}
 use Rattle.fs_change.specs.Step.{group_of_inode}
 use Rattle.fs_derive.specs.Lists.{numbers}
@@ -21,11 +21,11 @@ use Rattle.fs_state.specs.declared.intent.IntentKind.TheVariants.{Free}
 use Rattle.rmap_recs.specs.Owners.{number_of}
 use Rattle.rmap_recs.specs.declared.owner.Owner.TheVariants.{Ag, Inodes}
 use Rattle.sblock.specs.declared.kind.Kind.{Kind}
-use Rattle.sblock.specs.declared.kind.Kind.TheVariants.{Bno, Cnt, Rmap, Ino, Fino}
+use Rattle.sblock.specs.declared.kind.Kind.TheVariants.{Bno, Cnt, Ino, Fino}
 use Rattle.span_recs.specs.declared.span.SpanRec.{SpanRec}
-use Rattle.account_laws.specs.Accounts.{at_span, due, frees, hits, in_span, ledger_of, owes, run_in, spans_at}
+use Rattle.account_laws.specs.Accounts.{at_span, frees, hits, ledger_of, owes, run_in, spans_at}
 use Rattle.account_laws.specs.Guard.{AreSound}
-use Rattle.account_laws.specs.Space.{AreApart, IsListing}
+use Rattle.account_laws.specs.Space.{AreApart}
 use Rattle.account_laws.proofs.Blocks.{free_one}
 use Rattle.account_laws.proofs.Runs.{own_group}
 use Rattle.account_laws.proofs.Sums.{hits_own, left_chain}

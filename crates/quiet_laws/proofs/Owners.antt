@@ -1,17 +1,17 @@
 -- Where no chain owes a group anything, its settled owners are its owners.
-use Rattle.std.proofs.Common.{◌≡◌, ℕ, ◌==◌, ◌&&◌, ◌||◌, Bool, true, false, not, List, [], ◌∷◌, ◌++◌, filter, flat_map, map, Contains, refl, ap, ap₂, sym, subst, ◌∙◌}
+use Rattle.std.proofs.Common.{◌≡◌, ℕ, ◌==◌, ◌&&◌, ◌||◌, Bool, true, false, not, List, [], ◌∷◌, ◌++◌, filter, flat_map, map, Contains, refl, ap, ap₂, sym, ◌∙◌}
 use Rattle.std.specs.Prelude.{if◌then◌else◌}
 use Rattle.std.specs.List.{list_any}
 use Rattle.std.proofs.lemmas.Bool.{true≢false}
 use Rattle.fs_change.proofs.Sets.{has_both, has_of, has_passing, has_set, of_has}
-use Rattle.fs_change.specs.Chains.{Quiet, given_by, gives, is_quiet, owed_gifts, owed_takings, pending, settled_by, settled_forks, settled_own, taken_by, takes, tuples_in, tuples_of, run_of, word_taken}
+use Rattle.fs_change.specs.Chains.{Quiet, given_by, gives, is_quiet, owed_gifts, owed_takings, pending, settled_by, settled_forks, settled_own, taken_by, takes, tuples_of, run_of, word_taken}
 use Rattle.fs_derive.specs.Claims.{Claimed, claims, fork_claims, metadata_claims}
 use Rattle.fs_derive.specs.Derive.{mappings}
-use Rattle.fs_derive.specs.Own.{own, rmap_of, set_of, tuple_of}
+use Rattle.fs_derive.specs.Own.{own, rmap_of, tuple_of}
 use Rattle.fs_state.specs.State.{State}
 use Rattle.fs_state.specs.declared.intent.Intent.{Intent}
 use Rattle.rmap_recs.proofs.RunLemmas.{only_runs}
-use Rattle.rmap_recs.specs.Runs.{AreRuns, IsRun, has, is_same}
+use Rattle.rmap_recs.specs.Runs.{AreRuns, has, is_same}
 use Rattle.rmap_recs.specs.declared.records.RmapRec.{RmapRec}
 use Rattle.rmap_recs.specs.declared.tuples.Tuple.{Tuple}
 use Rattle.owner_laws.specs.Told.{AreTold}

@@ -1,24 +1,20 @@
 -- At a quiet moment each index is what is derived.
-use Rattle.std.proofs.Common.{◌≡◌, ℕ, ◌+◌, ◌<◌, ◌≤◌, ◌&&◌, Bool, true, false, not, List, [], ◌∷◌, refl, ap, ap₂, sym, subst, ◌∙◌, inl, inr, arith}
+use Rattle.std.proofs.Common.{◌≡◌, ℕ, ◌<◌, ◌≤◌, ◌&&◌, Bool, false, not, refl, ap, sym, ◌∙◌, inl, inr, arith}
 use Rattle.std.specs.Prelude.{nat_lt, ◌⊎◌}
 use Rattle.std.proofs.lemmas.Bool.{cases_Bool, cases_order, lt-ltb, ltb-true, true≢false}
 use Rattle.derive_defs.proofs.SpaceLemmas.{only_free}
 use Rattle.derive_defs.specs.ByCount.{ordered_by_count}
-use Rattle.derive_defs.specs.Free.{free_space, is_free}
+use Rattle.derive_defs.specs.Free.{free_space}
 use Rattle.fs_change.specs.Chains.{Quiet}
 use Rattle.fs_change.specs.Parts.{records_in}
 use Rattle.fs_change.specs.Records.{count_at}
 use Rattle.fs_derive.specs.Claims.{claims}
-use Rattle.fs_derive.specs.Derive.{bno_of, cnt_of, derive, fino_of, ino_of, mappings, refc_of}
-use Rattle.fs_derive.specs.Own.{rmap_of}
+use Rattle.fs_derive.specs.Derive.{bno_of, cnt_of, derive, mappings, refc_of}
 use Rattle.fs_state.specs.State.{State}
 use Rattle.geom.specs.Layout.{group_len_of}
-use Rattle.sblock.specs.declared.kind.Kind.{Kind}
 use Rattle.sblock.specs.declared.kind.Kind.TheVariants.{Bno, Cnt, Rmap, Refc, Ino, Fino}
-use Rattle.span_recs.specs.declared.refcount.RefcRec.{RefcRec}
-use Rattle.span_recs.specs.declared.span.SpanRec.{SpanRec}
-use Rattle.account_laws.specs.Accounts.{alone_at, covers_at, owned_at, spans_at}
-use Rattle.account_laws.specs.Ledger.{IsDerived, Sound}
+use Rattle.account_laws.specs.Accounts.{alone_at, covers_at, spans_at}
+use Rattle.account_laws.specs.Ledger.{IsDerived}
 use Rattle.account_laws.specs.Stated.{ledger_at}
 use Rattle.account_laws.proofs.Stated.{quiet_is_derived}
 use Rattle.edit_laws.proofs.Spaces.{apart_maximal, free_covers, has_spans}

@@ -1,9 +1,9 @@
 -- Free space and reference counts stay in order, and as few records as can be: one entry and its row.
-use Rattle.std.specs.Prelude.{ℕ, ◌≡◌, ◌<◌, Bool, true, false, List, [], Some, is_some}
+use Rattle.std.specs.Prelude.{ℕ, ◌≡◌, ◌<◌, Bool, true, List, [], Some, is_some}
 use Rattle.derive_defs.specs.ByCount.{ordered_by_count}
 use Rattle.fs_change.specs.Chains.{most_chains}
 use Rattle.fs_change.specs.Changes.{chunk_extent, extent_of}
-use Rattle.fs_change.specs.Parts.{is_edited, records_in, sick_in}
+use Rattle.fs_change.specs.Parts.{is_edited, records_in}
 use Rattle.fs_change.specs.Records.{holder_of, span}
 use Rattle.fs_change.specs.Step.{Row, group_of_inode}
 use Rattle.fs_model.specs.declared.entry.Entry.TheVariants as entries
@@ -11,12 +11,12 @@ use Rattle.fs_model.specs.declared.entry.Extent.{Extent}
 use Rattle.fs_model.specs.declared.entry.Piece.{Piece}
 use Rattle.fs_state.specs.State.{State, Group, is_readable}
 use Rattle.sblock.specs.declared.kind.Kind.{Kind}
-use Rattle.sblock.specs.declared.kind.Kind.TheVariants.{Bno, Cnt, Rmap, Refc}
+use Rattle.sblock.specs.declared.kind.Kind.TheVariants.{Bno, Cnt, Refc}
 use Rattle.account_laws.specs.Accounts.{in_span, spans_at}
 use Rattle.account_laws.specs.Guard.{AreSound}
 use Rattle.account_laws.specs.Space.{IsListing}
 use Rattle.count_laws.specs.Counted.{AreShown}
-use Rattle.count_laws.specs.Steps.{AreCounting}
+use Rattle.ref_laws.specs.Steps.{AreCounting}
 
 -- ---- free space
 

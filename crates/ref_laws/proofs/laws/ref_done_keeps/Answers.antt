@@ -1,6 +1,6 @@
-use Rattle.count_laws.proofs.Stated.{ref_done_counts, ref_done_stated}
-use Rattle.count_laws.proofs.Steps.{ref_done_sound}
-use Rattle.count_laws.proofs.laws.ref_done_keeps.Goals as goal
+use Rattle.ref_laws.proofs.Stated.{ref_done_counts, ref_done_stated}
+use Rattle.ref_laws.proofs.Steps.{ref_done_sound}
+use Rattle.ref_laws.proofs.laws.ref_done_keeps.Goals as goal
 
 pub returns-clause-each : goal.returns-clause-each
 returns-clause-each c = ref_done_sound

@@ -1,9 +1,9 @@
 -- A finished step of reference counts leaves all claims of a group, and records that don't overlap.
-use Rattle.std.specs.Prelude.{ℕ, Bool, true, false, List, ◌∷◌, ◌≡◌, ◌<◌, ◌≤◌, refl, if◌then◌else◌}
+use Rattle.std.specs.Prelude.{ℕ, Bool, true, false, List, ◌≡◌, ◌<◌, refl, if◌then◌else◌}
 use Rattle.std.proofs.Common.{sym, ap, subst, ◌∙◌, cond}
 use Rattle.std.proofs.lemmas.Bool.{true≢false}
 use Rattle.fs_change.specs.Changes.{change_count, changes_count, new_count, ref_done}
-use Rattle.fs_change.specs.Parts.{change_tree, edit, is_edited, records_in, sick_in, with_recs}
+use Rattle.fs_change.specs.Parts.{change_tree, edit, records_in, sick_in, with_recs}
 use Rattle.fs_change.specs.Records.{set_count, stretch}
 use Rattle.fs_derive.specs.Claims.{Claimed, claims}
 use Rattle.fs_model.specs.declared.entry.Extent.{Extent}
@@ -19,9 +19,9 @@ use Rattle.account_laws.specs.Stated.{ChunksStay}
 use Rattle.account_laws.proofs.Framed.{SameParts, claims_same, edit_parts, own_group, same_parts}
 use Rattle.account_laws.proofs.Runs.{own_group as group_is}
 use Rattle.count_laws.specs.Counted.{AreCounts}
-use Rattle.count_laws.specs.Steps.{AreCounting, RefDoneCounts, RefDoneStated}
+use Rattle.ref_laws.specs.Steps.{AreCounting, RefDoneCounts, RefDoneStated}
 use Rattle.count_laws.proofs.Counts.{counts_stay}
-use Rattle.count_laws.proofs.Steps.{ref_done_sound}
+use Rattle.ref_laws.proofs.Steps.{ref_done_sound}
 
 -- ---- claims
 

@@ -1,5 +1,5 @@
 -- A finished step of reference counts, block by block.
-use Rattle.std.specs.Prelude.{ℕ, zero, suc, Bool, true, false, not, List, [], ◌∷◌, ◌++◌, ◌≡◌, ◌⊎◌, ◌==◌, ◌&&◌, ◌||◌, ◌+◌, ◌-◌, ◌<◌, ◌≤◌, nat_lt, flat_map, sum_by, is_some, Option, Some, None, refl, if◌then◌else◌}
+use Rattle.std.specs.Prelude.{ℕ, zero, suc, Bool, true, false, not, List, [], ◌∷◌, ◌++◌, ◌≡◌, ◌==◌, ◌&&◌, ◌||◌, ◌+◌, ◌-◌, ◌<◌, ◌≤◌, nat_lt, flat_map, sum_by, is_some, Option, Some, None, refl, if◌then◌else◌}
 use Rattle.std.specs.Option.{option_map_or}
 use Rattle.std.proofs.Common.{sym, ap, ap₂, subst, ◌∙◌, arith, cond, inl, inr}
 use Rattle.std.proofs.lemmas.Bool.{cases_Bool, cases_order, eq-eqb, eqb-true, lt-ltb, ltb-true, true≢false}
@@ -7,9 +7,9 @@ use Rattle.std.proofs.lemmas.List.Sums.{sum_by-append, sum_by-cons}
 use Rattle.fs_change.proofs.Trees.{in_itself}
 use Rattle.fs_change.specs.Chains.{most_chains}
 use Rattle.fs_change.specs.Changes.{behind, change_count, changes_count, intent, new_count, ref_done, to_free}
-use Rattle.fs_change.specs.Parts.{at_only, change_tree, edit, is_edited, records_in, sick_in, with_recs}
+use Rattle.fs_change.specs.Parts.{at_only, change_tree, edit, records_in, sick_in, with_recs}
 use Rattle.fs_change.specs.Records.{count_at, counter_of, set_count, stretch}
-use Rattle.fs_change.specs.Step.{first_stretch, is_ref}
+use Rattle.fs_change.specs.Step.{is_ref}
 use Rattle.fs_derive.specs.Lists.{numbers, only_if}
 use Rattle.fs_model.specs.declared.entry.Extent.{Extent}
 use Rattle.fs_state.specs.Group.{is_among}
@@ -28,8 +28,8 @@ use Rattle.account_laws.proofs.Follow.{chains_follow}
 use Rattle.account_laws.proofs.Shapes.{none_behind}
 use Rattle.account_laws.proofs.Spans.{span_not}
 use Rattle.account_laws.proofs.Sums.{at_split, due_changes}
-use Rattle.count_laws.specs.Counted.{AreCounts, shown_count}
-use Rattle.count_laws.specs.Steps.{AreCounting, RefDoneSound}
+use Rattle.count_laws.specs.Counted.{shown_count}
+use Rattle.ref_laws.specs.Steps.{AreCounting, RefDoneSound}
 use Rattle.count_laws.proofs.Counts.{one_count, stretch_counted}
 
 -- ---- sums over chains
