@@ -1,3 +1,3 @@
-mod Cores
+pub mod Cores
 mod Listed
 mod Turned

@@ -1,4 +1,4 @@
-mod Finished
-mod Members
-mod Nobodys
-mod Others
+pub mod Finished
+pub mod Members
+pub mod Nobodys
+pub mod Others

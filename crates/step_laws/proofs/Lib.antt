@@ -1,2 +1,2 @@
-mod Freed
-mod Inodes
+pub mod Freed
+pub mod Inodes

@@ -1,0 +1,4 @@
+pub mod Forks
+pub mod Rising
+pub mod Rows
+pub mod Shares

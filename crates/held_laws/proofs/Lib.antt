@@ -1,0 +1,4 @@
+pub mod Held
+pub mod Holders
+pub mod Kept
+mod Told
