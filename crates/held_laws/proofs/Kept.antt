@@ -103,7 +103,7 @@ fewer_alone b (c ∷ cs) =
 
 -- ---- how often a block stands in a list
 
-stood : (b : ℕ) (bs : List ℕ) → is_in b bs ≡ true → 1 ≤ times b bs
+pub stood : (b : ℕ) (bs : List ℕ) → is_in b bs ≡ true → 1 ≤ times b bs
 stood b [] h = absurd (false≢true h)
 stood b (c ∷ bs) h = by (c == b) h (stood b bs)
   where
@@ -111,7 +111,7 @@ stood b (c ∷ bs) h = by (c == b) h (stood b bs)
     by true i f = omega arith
     by false i f = let r = f i in omega (arith, r)
 
-in_front : (b n : ℕ) (bs : List ℕ) → is_in b (take n bs) ≡ true → is_in b bs ≡ true
+pub in_front : (b n : ℕ) (bs : List ℕ) → is_in b (take n bs) ≡ true → is_in b bs ≡ true
 in_front b zero bs h = absurd (false≢true h)
 in_front b (suc n) [] h = absurd (false≢true h)
 in_front b (suc n) (c ∷ bs) h = by (c == b) h (in_front b n bs)
@@ -120,7 +120,7 @@ in_front b (suc n) (c ∷ bs) h = by (c == b) h (in_front b n bs)
     by true i f = refl
     by false i f = f i
 
-each_number : (p : ℕ → Bool) (s n b : ℕ) → list_all p (numbers s n) ≡ true → s ≤ b → b < s + n → p b ≡ true
+pub each_number : (p : ℕ → Bool) (s n b : ℕ) → list_all p (numbers s n) ≡ true → s ≤ b → b < s + n → p b ≡ true
 each_number p s zero b h l m = absurd (omega (arith, l, m))
 each_number p s (suc n) b h l m = by (s == b) refl (λ o. each_number p (s + 1) n b parts.1 (further s b l o) (omega (arith, m)))
   where

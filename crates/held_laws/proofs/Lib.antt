@@ -1,4 +1,3 @@
 pub mod Held
 pub mod Holders
 pub mod Kept
-mod Told

@@ -13,7 +13,6 @@ ghost use Rattle.held_laws.specs.Kept.{
   TrimmedKept,
   UnmappedKept,
 };
-ghost use Rattle.held_laws.specs.Told.{ConvertedTold, FinishedTold, MappedTold, OthersTold, SharedTold, UnmappedTold};
 
 /// A law: behind a first event whose inodes its chain holds, and behind each other entry of a writer, each chain still
 /// maps a block twice for each count that will rise (XFS Online Fsck Design, "Eventual Consistency").
@@ -24,18 +23,6 @@ pub fn holders_stay()
     ensures shared { SharedHeld }
     ensures others { OthersHeld }
     ensures chunk { ChunkHeld }
-{}
-
-/// A law: where reverse mappings tell settled owners, they do behind first events, since settled forks stay, behind a
-/// finished step of theirs, which these follow, and behind other entries
-/// (XFS Online Fsck Design, "Eventual Consistency").
-pub fn owners_stay_told()
-    ensures mapped { MappedTold }
-    ensures unmapped { UnmappedTold }
-    ensures converted { ConvertedTold }
-    ensures shared { SharedTold }
-    ensures others { OthersTold }
-    ensures finished { FinishedTold }
 {}
 
 /// A law: first events, runs of the free list, inodes taken, of a new chunk too, or given back, finished steps of

@@ -1,7 +1,6 @@
-//! Each entry of a writer whose inodes are held keeps each block's numbers sound, with the claims that the state has, and
-//! reverse mappings that tell settled owners.
+//! Each entry of a writer whose inodes are held keeps each block's numbers sound, with the claims that the state has.
 #![tactic(auto)]
 
 mod laws;
 
-pub use laws::{entries_keep, holders_stay, owners_stay_told};
+pub use laws::{entries_keep, holders_stay};

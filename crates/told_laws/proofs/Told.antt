@@ -18,7 +18,7 @@ use Rattle.owner_laws.proofs.Others.{others_keep}
 use Rattle.owner_laws.specs.Kept.{ForksFollow, IsOwedNext}
 use Rattle.rmap_recs.specs.Runs.{has}
 use Rattle.sblock.specs.declared.kind.Kind.{Kind}
-use Rattle.held_laws.specs.Told.{ConvertedTold, FinishedTold, IsMadeInWords, MappedTold, OthersTold, SharedTold, UnmappedTold}
+use Rattle.told_laws.specs.Told.{ConvertedTold, FinishedTold, IsMadeInWords, MappedTold, OthersTold, SharedTold, UnmappedTold}
 
 -- all blocks may stay where they are, so it is a step
 step_of : (a x : State) (left : List Kind) (e : Entry) → IsMadeInWords a x left e → Step a left e x

@@ -1,5 +1,5 @@
-use Rattle.held_laws.proofs.Told.{converted_told, finished_told, mapped_told, others_told, shared_told, unmapped_told}
-use Rattle.held_laws.proofs.laws.owners_stay_told.Goals as goal
+use Rattle.told_laws.proofs.Told.{converted_told, finished_told, mapped_told, others_told, shared_told, unmapped_told}
+use Rattle.told_laws.proofs.laws.owners_stay_told.Goals as goal
 
 pub returns-clause-mapped : goal.returns-clause-mapped
 returns-clause-mapped c = mapped_told

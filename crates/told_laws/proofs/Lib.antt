@@ -1,0 +1,3 @@
+mod Listed
+mod Parts
+mod Told
