@@ -1,13 +1,12 @@
 -- An entry leaves the numbers of the blocks of other groups.
-use Rattle.std.proofs.Common.{◌≡◌, ℕ, ◌+◌, ◌-◌, ◌<◌, ◌==◌, ◌&&◌, Bool, true, false, not, cond, List, [], ◌∷◌, ◌++◌, Option, Some, None, refl, sym, ap, ap₂, subst, ◌∙◌, arith}
+use Rattle.std.proofs.Common.{◌≡◌, ℕ, ◌+◌, ◌-◌, ◌<◌, ◌==◌, Bool, true, false, List, [], ◌∷◌, ◌++◌, Some, None, refl, sym, ap, ap₂, subst, ◌∙◌, arith}
 use Rattle.std.specs.Prelude.{sum_by, if◌then◌else◌}
-use Rattle.std.proofs.lemmas.Bool.{false≢true, true≢false}
 use Rattle.std.proofs.lemmas.Bool.Decides.{nat_tests}
 use Rattle.std.proofs.lemmas.List.Sums.{sum_by-append, sum_by-cons}
-use Rattle.account_laws.specs.Accounts.{adds, alone_at, at_span, covers_at, due, frees, hits, lowers, owes, owned_at, raises, removes, run_in, spans_at}
+use Rattle.account_laws.specs.Accounts.{adds, alone_at, at_span, covers_at, due, frees, hits, lowers, owes, owned_at, raises, removes, spans_at}
 use Rattle.account_laws.specs.Firsts.{run_shared}
 use Rattle.account_laws.specs.Ledger.{Sound}
-use Rattle.account_laws.specs.Stated.{ChunksStay, ledger_at}
+use Rattle.account_laws.specs.Stated.{ledger_at}
 use Rattle.account_laws.proofs.Blocks.{carry}
 use Rattle.account_laws.proofs.Framed.{claims_same, same_parts, SameParts}
 use Rattle.account_laws.proofs.Sums.{came, came_one, due_changes}
@@ -19,9 +18,9 @@ use Rattle.fork_laws.specs.Counted.{Gains, Loses}
 use Rattle.fs_change.proofs.Beside as beside
 use Rattle.fs_change.specs.Chains.{most_chains}
 use Rattle.fs_change.specs.Changes.{behind, data_of, data_word, extent_of, intent, to_free}
-use Rattle.fs_change.specs.Parts.{at_only, records_in, sick_in}
+use Rattle.fs_change.specs.Parts.{at_only, records_in}
 use Rattle.fs_change.specs.Records.{count_at, is_unwritten_at}
-use Rattle.fs_change.specs.Step.{Row, group_of_entry, group_of_inode}
+use Rattle.fs_change.specs.Step.{Row, group_of_entry}
 use Rattle.fs_derive.specs.Claims.{claims}
 use Rattle.fs_derive.specs.Lists.{only_if}
 use Rattle.fs_model.specs.declared.entry.Entry.{Entry}
@@ -38,7 +37,6 @@ use Rattle.held_laws.proofs.Held.{converted_chains, converted_stays, mapped_chai
 use Rattle.held_laws.proofs.Holders.{forks_stay, freed_chains, ref_chains, rmap_chains}
 use Rattle.held_laws.specs.Held.{LeavesForks}
 use Rattle.run_laws.proofs.Chunks.{chunk_elsewhere}
-use Rattle.run_laws.specs.Found.{IsMade}
 use Rattle.sblock.specs.declared.kind.Kind.{Kind}
 use Rattle.sblock.specs.declared.kind.Kind.TheVariants.{Bno, Refc, Rmap}
 
