@@ -48,10 +48,6 @@ no_true : (b : Bool) → (b ≡ true → ⊥) → b ≡ false
 no_true true h = absurd (h refl)
 no_true false h = refl
 
-first_false : (x y : Bool) → (x || y) ≡ false → x ≡ false
-first_false true y h = h
-first_false false y h = refl
-
 -- ---- edits of both inode btrees
 
 recs_with : (new : List InoRec) (r : Reading InoRec) → is_readable r ≡ true → recs_of (with_recs new r) ≡ new
@@ -630,14 +626,7 @@ free_decided a x left (entries.Refilled e) r l n = ap is_free (inodes.decided a 
 free_decided a x left (entries.Trimmed e) r l n = ap is_free (inodes.decided a x left (entries.Trimmed e) r n refl).core
 free_decided a x left (entries.Marked g k cause) r l n = ap is_free (inodes.decided a x left (entries.Marked g k cause) r n refl).core
 free_decided a x left (entries.Reply writer line code done refused begun) r l n = ap (λ (s : State). is_free (s.core n)) r
-free_decided a x left (entries.Taken writer ino uid chunk) r l n = absurd l
-free_decided a x left (entries.Given writer ino) r l n = absurd l
-free_decided a x left (entries.Reserved g unit b spare) r l n = absurd l
-free_decided a x left (entries.Released g unit) r l n = absurd l
-free_decided a x left (entries.Fault g unit fault) r l n = absurd l
-free_decided a x left (entries.Verdict g unit verdict) r l n = absurd l
-free_decided a x left (entries.Switched g unit root second) r l n = absurd l
-free_decided a x left (entries.Reaped e) r l n = absurd l
+free_decided a x left e r l n = absurd l
 
 marked_recs : (g : ℕ) (j k : Kind) (a : State) → records_in ((marked g j a).group g) k ≡ records_in (a.group g) k
 unfolding marked
@@ -663,14 +652,7 @@ recs_stay a b left (entries.Refilled e) k s l x y z w other = ap (λ t. recs_of 
 recs_stay a b left (entries.Trimmed e) k s l x y z w other = ap (λ t. recs_of t.reading) (trees.keeps_other_trees a b left (entries.Trimmed e) s k x)
 recs_stay a b left (entries.Marked g j cause) k s l x y z w other = recs_behind a b left (entries.Marked g j cause) s k other ∙ ap (λ (r : State). records_in (r.group g) k) s.row.2 ∙ marked_recs g j k a
 recs_stay a b left (entries.Reply writer line code done refused begun) k s l x y z w other = ap (λ t. recs_of t.reading) (trees.keeps_other_trees a b left (entries.Reply writer line code done refused begun) s k refl)
-recs_stay a b left (entries.Taken writer ino uid chunk) k s l x y z w other = absurd l
-recs_stay a b left (entries.Given writer ino) k s l x y z w other = absurd l
-recs_stay a b left (entries.Reserved g unit n spare) k s l x y z w other = absurd l
-recs_stay a b left (entries.Released g unit) k s l x y z w other = absurd l
-recs_stay a b left (entries.Fault g unit fault) k s l x y z w other = absurd l
-recs_stay a b left (entries.Verdict g unit verdict) k s l x y z w other = absurd l
-recs_stay a b left (entries.Switched g unit root second) k s l x y z w other = absurd l
-recs_stay a b left (entries.Reaped e) k s l x y z w other = absurd l
+recs_stay a b left e k s l x y z w other = absurd l
 
 pub others_listed : OthersListed
 others_listed a b left e h fit s leaves keeps l =
