@@ -46,7 +46,7 @@ use Rattle.cut_laws.proofs.Moved.{came, fewer, gone, maps_written, reserve_now, 
 
 -- ---- the tuple of a pair
 
-abbrev tuple_for : Owned → Tuple
+abbrev pub tuple_for : Owned → Tuple
 tuple_for o = record { block = o.block; owner = o.owner; word = 0 }
 
 or_none : (z : Bool) → (z || false) ≡ z
@@ -87,11 +87,11 @@ ends o small = ap (λ x. nat_le 1 1 && x && (not (is_fork_data o.owner 0) || nat
 
 -- ---- those of a list
 
-weigh_less : {X : Type 0} (f h : X → ℕ) (xs : List X) → ((x : X) → f x ≤ h x) → weigh f xs ≤ weigh h xs
+pub weigh_less : {X : Type 0} (f h : X → ℕ) (xs : List X) → ((x : X) → f x ≤ h x) → weigh f xs ≤ weigh h xs
 weigh_less f h [] l = omega arith
 weigh_less f h (x ∷ xs) l = let one = l x in let rest = weigh_less f h xs l in omega (arith, one, rest)
 
-owner_less : (t : Tuple) (c : Claimed) → is_owner t c ≤ owned_by t.block c
+pub owner_less : (t : Tuple) (c : Claimed) → is_owner t c ≤ owned_by t.block c
 owner_less t c = by (is_same t (tuple_of c)) refl
   where
     by : (s : Bool) → is_same t (tuple_of c) ≡ s → (if s then 1 else 0) ≤ owned_by t.block c
@@ -162,14 +162,14 @@ lost_has (o ∷ ps) qs t = by (is_same t (tuple_for o)) refl (not (has_owned qs 
 untied_in : (ts us : List Tuple) → ((t : Tuple) → has us t ≡ true → has ts t ≡ true) → AreUntied ts → AreUntied us
 untied_in ts us in_it untied t u c d = untied t u (of_has ts t (in_it t (has_of us t c))) (of_has ts u (in_it u (has_of us u d)))
 
-abbrev without : List Owned → List Tuple → List Tuple
+abbrev pub without : List Owned → List Tuple → List Tuple
 without os ts = filter (λ t. not (has (map tuple_for os) t)) ts
 
 and_left : (x y : Bool) → (x && y) ≡ true → x ≡ true
 and_left true y h = refl
 and_left false y h = h
 
-taken_runs : (ts : List Tuple) (recs : List RmapRec) (os : List Owned) → ((k : ℕ) → times k (blocks_in os) ≤ 1) → ((t : Tuple) → has (map tuple_for os) t ≡ true → (t.block < 2 ^ 32) × (has ts t ≡ true))
+pub taken_runs : (ts : List Tuple) (recs : List RmapRec) (os : List Owned) → ((k : ℕ) → times k (blocks_in os) ≤ 1) → ((t : Tuple) → has (map tuple_for os) t ≡ true → (t.block < 2 ^ 32) × (has ts t ≡ true))
     → AreUntied ts → AreRuns ts recs → AreRuns (without os ts) (take_each os recs)
 taken_runs ts recs [] once there untied runs = runs_by ts (without [] ts) (λ t. has_passing (λ u. true) ts t ∙ and_all (has ts t)) recs runs
 taken_runs ts recs (o ∷ os) once there untied runs =
@@ -197,7 +197,7 @@ taken_runs ts recs (o ∷ os) once there untied runs =
     split true false false = refl
     split false y z = refl
 
-given_runs : (base big : List Tuple) (recs : List RmapRec) (os : List Owned) → ((k : ℕ) → times k (blocks_in os) ≤ 1) → ((t : Tuple) → has (map tuple_for os) t ≡ true → (t.block < 2 ^ 32) × (has base t ≡ false))
+pub given_runs : (base big : List Tuple) (recs : List RmapRec) (os : List Owned) → ((k : ℕ) → times k (blocks_in os) ≤ 1) → ((t : Tuple) → has (map tuple_for os) t ≡ true → (t.block < 2 ^ 32) × (has base t ≡ false))
     → AreUntied big → ((t : Tuple) → has (map tuple_for os ++ base) t ≡ true → has big t ≡ true) → AreRuns base recs → AreRuns (map tuple_for os ++ base) (give_each os recs)
 given_runs base big recs [] once there untied in_it runs = runs
 given_runs base big recs (o ∷ os) once there untied in_it runs =

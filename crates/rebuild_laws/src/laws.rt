@@ -1,0 +1,9 @@
+ghost use Rattle.rebuild_laws.specs.Reserved.{ListedTold, SpareTold, TurnedTold};
+
+/// A law: where reverse mappings tell settled owners, they do behind a block that a repair reserves, from the list for each
+/// unit, or a spare one for inodes or reference counts (XFS Online Fsck Design, "Reserving New B+Tree Blocks").
+pub fn reserved_stays_told()
+    ensures listed { ListedTold }
+    ensures turned { TurnedTold }
+    ensures spare { SpareTold }
+{}
