@@ -100,7 +100,7 @@ owner_less t c = by (is_same t (tuple_of c)) refl
         omega (arith, here)
     by false e = omega arith
 
-has_pairs : (os : List Owned) (t : Tuple) → has (map tuple_for os) t ≡ nat_lt 0 (weigh (limbo_weight (is_owner t)) os)
+pub has_pairs : (os : List Owned) (t : Tuple) → has (map tuple_for os) t ≡ nat_lt 0 (weigh (limbo_weight (is_owner t)) os)
 has_pairs [] t = refl
 has_pairs (o ∷ os) t = by (is_same t (tuple_for o)) (has_pairs os t)
   where
@@ -135,7 +135,7 @@ rest_once o os once k = let h = once k in omega (arith, h)
 pair_same : (o p : Owned) → is_same (tuple_for o) (tuple_for p) ≡ is_same_owned o p
 pair_same o p = and_all (is_same_owned o p)
 
-owned_has : (ps : List Owned) (o : Owned) → has (map tuple_for ps) (tuple_for o) ≡ has_owned ps o
+pub owned_has : (ps : List Owned) (o : Owned) → has (map tuple_for ps) (tuple_for o) ≡ has_owned ps o
 owned_has [] o = refl
 owned_has (p ∷ ps) o = ap₂ (λ (y z : Bool). y || z) (pair_same o p) (owned_has ps o)
 

@@ -1,1 +1,2 @@
+pub mod Reaped
 pub mod Reserved

@@ -1,3 +1,4 @@
+ghost use Rattle.rebuild_laws.specs.Reaped.{ReapedTold};
 ghost use Rattle.rebuild_laws.specs.Reserved.{ListedTold, SpareTold, TurnedTold};
 
 /// A law: where reverse mappings tell settled owners, they do behind a block that a repair reserves, from the list for each
@@ -6,4 +7,10 @@ pub fn reserved_stays_told()
     ensures listed { ListedTold }
     ensures turned { TurnedTold }
     ensures spare { SpareTold }
+{}
+
+/// A law: and behind a run that is reaped, which is nobody's any more
+/// (XFS Online Fsck Design, "Reaping After Repairing Ondisk Metadata").
+pub fn reaped_stays_told()
+    ensures reaped { ReapedTold }
 {}
