@@ -1,2 +1,3 @@
 pub mod Reaped
 pub mod Reserved
+pub mod Switched

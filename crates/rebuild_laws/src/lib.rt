@@ -3,4 +3,4 @@
 
 mod laws;
 
-pub use laws::{reaped_stays_told, reserved_stays_told};
+pub use laws::{reaped_stays_told, reserved_stays_told, switched_is_told};
