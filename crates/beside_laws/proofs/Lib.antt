@@ -1,1 +1,1 @@
-mod Elsewhere
+pub mod Elsewhere
