@@ -1,4 +1,18 @@
-ghost use Rattle.behind_laws.specs.Behind.{ChunkBehind, ConvertedBehind, ElsewhereBehind, FreedBehind, GivenBehind, MappedBehind, RefDoneBehind, RefilledBehind, RmapDoneBehind, SharedBehind, TakenBehind, TrimmedBehind, UnmappedBehind};
+ghost use Rattle.behind_laws.specs.Behind.{
+  ChunkBehind,
+  ConvertedBehind,
+  ElsewhereBehind,
+  FreedBehind,
+  GivenBehind,
+  MappedBehind,
+  RefDoneBehind,
+  RefilledBehind,
+  RmapDoneBehind,
+  SharedBehind,
+  TakenBehind,
+  TrimmedBehind,
+  UnmappedBehind,
+};
 
 /// A law: behind each entry of a writer whose inodes are held, a block that was sound is sound with the claims that
 /// the state has then, in its group and in all others (XFS Online Fsck Design, "Eventual Consistency").
