@@ -18,7 +18,7 @@ use Rattle.account_laws.specs.Ledger.{IsDerived}
 use Rattle.account_laws.specs.Stated.{ledger_at}
 use Rattle.account_laws.proofs.Stated.{quiet_is_derived}
 use Rattle.edit_laws.proofs.Spaces.{apart_maximal, free_covers, has_spans}
-use Rattle.quiet_laws.specs.Whole.{Fits, IsKept, QuietIsWhole}
+use Rattle.quiet_laws.specs.Whole.{Fits, IsBalanced, QuietIsWhole}
 use Rattle.quiet_laws.proofs.Counts.{Agrees, counts_whole}
 use Rattle.quiet_laws.proofs.Owners.{mappings_whole}
 
@@ -29,7 +29,7 @@ some_or_none n = elim (cases_order n 0) [
   | inr (inr more) ↦ inr (omega (arith, more))
 ]
 
-module _ (a : State) (g : ℕ) (quiet : Quiet a g) (kept : IsKept a g) (fits : Fits a g) where
+module _ (a : State) (g : ℕ) (quiet : Quiet a g) (kept : IsBalanced a g) (fits : Fits a g) where
   abbrev len : ℕ
   len = group_len_of a.geometry g
 

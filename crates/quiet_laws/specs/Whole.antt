@@ -33,9 +33,9 @@ pub record EndsThere (a : State) (g b : ℕ) : Type 0 where
   pub covers : covers_at (mappings a g) b ≡ 0
   pub count : count_at (records_in (a.group g) Refc) b ≡ 1
 
--- What is kept of a group at every moment? Its blocks are sound; mappings tell settled owners; free space and reference
+-- When is a group balanced, as it is at every moment? Its blocks are sound; mappings tell settled owners; free space and reference
 -- counts are in order and as few records as can be; and the inode btrees hold what they should.
-pub record IsKept (a : State) (g : ℕ) : Type 0 where
+pub record IsBalanced (a : State) (g : ℕ) : Type 0 where
   pub sound : (b : ℕ) → b < group_len_of a.geometry g → Sound (ledger_at a g b)
   pub outside : (b : ℕ) → group_len_of a.geometry g ≤ b → EndsThere a g b
   pub told : AreTold a g
@@ -56,4 +56,4 @@ pub record Fits (a : State) (g : ℕ) : Type 0 where
 
 -- where no chain owes the group anything, each index is what is derived
 abbrev pub QuietIsWhole : Type 0
-QuietIsWhole = (a : State) (g : ℕ) (k : Kind) → Quiet a g → IsKept a g → Fits a g → records_in (a.group g) k ≡ derive a g k
+QuietIsWhole = (a : State) (g : ℕ) (k : Kind) → Quiet a g → IsBalanced a g → Fits a g → records_in (a.group g) k ≡ derive a g k
