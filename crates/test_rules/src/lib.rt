@@ -1,15 +1,8 @@
-//! Tests of the rules of free space, inodes, chains, drains, limbo, roots and forks, over public calls
-//! alone.
+//! Tests of the rules of free space, inodes, limbo, roots and finished steps, over public calls alone.
 #![tactic(auto)]
 
 #[cfg(test)]
-mod chains;
-#[cfg(test)]
 mod chunks;
-#[cfg(test)]
-mod fork_refusals;
-#[cfg(test)]
-mod forks;
 #[cfg(test)]
 mod heads;
 #[cfg(test)]

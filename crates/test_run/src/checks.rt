@@ -1,11 +1,12 @@
-use crate::fresh::{small_image, small_with, two_groups_with};
-use crate::runs::{ALL_GOOD, SOUND, expect_end, run_words};
-use crate::trees::{at, bno_leaf, run};
+use crate::runs::expect_end;
 use blk_device::MemDevice;
 use byte_fields::Block;
 use check_watch::NoWatch;
 use fs_model::{AnyRec, Entry, Fault, Unit, Verdict};
 use sblock::{BlockFault, Kind};
+use small_images::{
+    ALL_GOOD, SOUND, at, bno_leaf, run, run_words, small_image, small_with, two_groups_with,
+};
 use std::alloc::{AllocError, Global};
 use std::test::Fail;
 use xscrub::{MemHost, Purpose, RunEnd, judge};

@@ -7,12 +7,6 @@ mod checks;
 #[cfg(test)]
 mod endings;
 #[cfg(test)]
-mod files;
-#[cfg(test)]
-mod fresh;
-#[cfg(test)]
-mod heads;
-#[cfg(test)]
 mod lines;
 #[cfg(test)]
 mod makes;
@@ -22,13 +16,5 @@ mod redos;
 mod refusals;
 #[cfg(test)]
 mod runs;
-#[cfg(test)]
-mod spaces;
-#[cfg(test)]
-mod trees;
-#[cfg(test)]
-mod units;
-#[cfg(test)]
-mod unreadable;
 #[cfg(test)]
 mod watching;

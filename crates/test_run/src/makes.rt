@@ -1,8 +1,8 @@
 //! New images.
-use crate::fresh::{bare_image, small_heads};
-use crate::runs::{ALL_GOOD, expect_end, run_words, words_of};
+use crate::runs::expect_end;
 use byte_fields::Block;
 use fresh_image::fresh_block;
+use small_images::{ALL_GOOD, bare_image, run_words, small_heads, words_of};
 use std::alloc::{AllocError, Global};
 use std::collections::BTreeMap;
 use std::process::Abort;

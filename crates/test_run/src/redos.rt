@@ -1,8 +1,9 @@
 //! Checks with a redo file beside the image.
-use crate::fresh::{small_heads, small_image, small_with};
-use crate::heads::{altered, mended_heads};
-use crate::runs::{ALL_GOOD, expect_end, words_of};
+use crate::runs::expect_end;
 use byte_fields::Block;
+use small_images::{
+    ALL_GOOD, altered, mended_heads, small_heads, small_image, small_with, words_of,
+};
 use std::alloc::{AllocError, Global};
 use std::collections::BTreeMap;
 use std::process::Abort;

@@ -1,9 +1,9 @@
 //! Images that are refused for their superblock or for a head of a group.
-use crate::fresh::{
-    first_of_two, second_of_two, small_heads, small_image, small_with, two_groups_with,
-};
-use crate::heads::{altered, heads_of, mended_heads};
 use crate::runs::expect_check;
+use small_images::{
+    altered, first_of_two, heads_of, mended_heads, second_of_two, small_heads, small_image,
+    small_with, two_groups_with,
+};
 use std::test::Fail;
 
 #[test]

@@ -1,7 +1,7 @@
 //! What is heard of a check while it goes on.
-use crate::fresh::two_groups_with;
 use blk_device::MemDevice;
 use check_watch::{Phase, Watch};
+use small_images::two_groups_with;
 use std::alloc::Global;
 use std::test::Fail;
 use xscrub::judge;

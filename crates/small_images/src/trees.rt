@@ -6,14 +6,14 @@ use span_recs::{RefcRec, SpanRec};
 
 /// A block of a group that begins at block `first` of the device.
 #[derive(Clone, Copy)]
-pub(crate) struct Place {
+pub struct Place {
     pub group: u32,
     pub first: u64,
     pub block: u32,
 }
 
 /// A block of group 0.
-pub(crate) fn at(block: u32) -> Place {
+pub fn at(block: u32) -> Place {
     Place {
         group: 0,
         first: 0,
@@ -21,11 +21,13 @@ pub(crate) fn at(block: u32) -> Place {
     }
 }
 
-pub(crate) fn run(start: u32, count: u32) -> SpanRec {
+/// Free blocks (XFS Algorithms and Data Structures, "AG Free Space B+trees").
+pub fn run(start: u32, count: u32) -> SpanRec {
     SpanRec { start, count }
 }
 
-pub(crate) fn shared(start: u32, count: u32, refcount: u32) -> RefcRec {
+/// Blocks that files share (XFS Algorithms and Data Structures, "Reference Count B+tree").
+pub fn shared(start: u32, count: u32, refcount: u32) -> RefcRec {
     RefcRec {
         start,
         count,
@@ -36,7 +38,7 @@ pub(crate) fn shared(start: u32, count: u32, refcount: u32) -> RefcRec {
 /// Blocks of an owner that isn't an inode, by its number below zero: 3 for the heads, 5 for the
 /// group's space btrees and free list, 6 for its inode btrees, 7 for inodes, 8 for its refcount
 /// btree.
-pub(crate) fn owned(start: u32, count: u32, code: u64) -> RmapRec {
+pub fn owned(start: u32, count: u32, code: u64) -> RmapRec {
     RmapRec {
         start,
         count,
@@ -46,7 +48,7 @@ pub(crate) fn owned(start: u32, count: u32, code: u64) -> RmapRec {
 }
 
 /// Blocks of an inode's data, from the file offset `word` on.
-pub(crate) fn mapped(start: u32, count: u32, inode: u64, word: u64) -> RmapRec {
+pub fn mapped(start: u32, count: u32, inode: u64, word: u64) -> RmapRec {
     RmapRec {
         start,
         count,
@@ -73,7 +75,7 @@ fn header(magic: u32, place: Place, level: u16, entries: usize, left: u32, right
 }
 
 /// The block with the checksum of a btree block stored.
-pub(crate) fn mended(mut block: Block) -> Block {
+pub fn mended(mut block: Block) -> Block {
     let sum = sum_at(&block.bytes, 52);
     put_sum(&mut block.bytes, 52, sum);
     block
@@ -96,18 +98,18 @@ fn with_runs(mut block: Block, records: &[SpanRec]) -> Block {
 
 /// A leaf of free space by start between these siblings, with these records, of which it has room
 /// for 505.
-pub(crate) fn bno_part(place: Place, records: &[SpanRec], left: u32, right: u32) -> Block {
+pub fn bno_part(place: Place, records: &[SpanRec], left: u32, right: u32) -> Block {
     let block = header(0x4142_3342, place, 0, records.len(), left, right);
     with_runs(block, records)
 }
 
 /// A root leaf of free space by start.
-pub(crate) fn bno_leaf(place: Place, records: &[SpanRec]) -> Block {
+pub fn bno_leaf(place: Place, records: &[SpanRec]) -> Block {
     bno_part(place, records, NONE, NONE)
 }
 
 /// A root of free space by start over two leaves, each with its first record and its place.
-pub(crate) fn bno_root(place: Place, parts: &[(SpanRec, u32); 2]) -> Block {
+pub fn bno_root(place: Place, parts: &[(SpanRec, u32); 2]) -> Block {
     let mut block = header(0x4142_3342, place, 1, 2, NONE, NONE);
     for (i, (first, child)) in parts.iter().enumerate() {
         put_run(&mut block, i, first);
@@ -117,7 +119,7 @@ pub(crate) fn bno_root(place: Place, parts: &[(SpanRec, u32); 2]) -> Block {
 }
 
 /// A root leaf of free space by count, as `bno_leaf`.
-pub(crate) fn cnt_leaf(place: Place, records: &[SpanRec]) -> Block {
+pub fn cnt_leaf(place: Place, records: &[SpanRec]) -> Block {
     let block = header(0x4142_3343, place, 0, records.len(), NONE, NONE);
     with_runs(block, records)
 }
@@ -132,7 +134,7 @@ fn put_shared(block: &mut Block, i: usize, record: &RefcRec) {
 }
 
 /// A root leaf of reference counts, with these records, of which it has room for 336.
-pub(crate) fn refc_leaf(place: Place, records: &[RefcRec]) -> Block {
+pub fn refc_leaf(place: Place, records: &[RefcRec]) -> Block {
     let mut block = header(0x5233_4643, place, 0, records.len(), NONE, NONE);
     for (i, record) in records.iter().enumerate() {
         put_shared(&mut block, i, record);
@@ -152,7 +154,7 @@ fn put_mapping(block: &mut Block, i: usize, record: &RmapRec) {
 
 /// A leaf of reverse mappings between these siblings, with these records, of which it has room
 /// for 168.
-pub(crate) fn rmap_part(place: Place, records: &[RmapRec], left: u32, right: u32) -> Block {
+pub fn rmap_part(place: Place, records: &[RmapRec], left: u32, right: u32) -> Block {
     let mut block = header(0x524d_4233, place, 0, records.len(), left, right);
     for (i, record) in records.iter().enumerate() {
         put_mapping(&mut block, i, record);
@@ -161,7 +163,7 @@ pub(crate) fn rmap_part(place: Place, records: &[RmapRec], left: u32, right: u32
 }
 
 /// A root leaf of reverse mappings.
-pub(crate) fn rmap_leaf(place: Place, records: &[RmapRec]) -> Block {
+pub fn rmap_leaf(place: Place, records: &[RmapRec]) -> Block {
     rmap_part(place, records, NONE, NONE)
 }
 
@@ -176,7 +178,7 @@ fn put_key(block: &mut Block, place: usize, key: &RmapRec) {
 
 /// A root of reverse mappings over two leaves, each with the keys of its first and of its last
 /// block and its own place.
-pub(crate) fn rmap_root(place: Place, parts: &[(RmapRec, RmapRec, u32); 2]) -> Block {
+pub fn rmap_root(place: Place, parts: &[(RmapRec, RmapRec, u32); 2]) -> Block {
     let mut block = header(0x524d_4233, place, 1, 2, NONE, NONE);
     for (i, (low, high, child)) in parts.iter().enumerate() {
         put_key(&mut block, 56 + 40 * i, low);

@@ -1,15 +1,12 @@
 //! Records and counters that differ from what the reverse mappings give.
-use crate::files::{chunk_with, file_core, with_file, written};
-use crate::fresh::{
-    file_free, file_heads, file_shared, file_with, image_of, small_group, small_heads, small_owned,
-    small_with, two_groups_with,
-};
-use crate::heads::{Group, NONE, altered, heads_of, mended_heads};
-use crate::runs::{ALL_GOOD, SOUND, expect_check, run_words};
-use crate::trees::{
-    at, bno_leaf, bno_part, bno_root, cnt_leaf, mapped, owned, refc_leaf, rmap_leaf, run, shared,
-};
+use crate::runs::expect_check;
 use fresh_image::fresh_block;
+use small_images::{
+    ALL_GOOD, Group, NONE, SOUND, altered, at, bno_leaf, bno_part, bno_root, chunk_with, cnt_leaf,
+    file_core, file_free, file_heads, file_shared, file_with, heads_of, image_of, mapped,
+    mended_heads, owned, refc_leaf, rmap_leaf, run, run_words, shared, small_group, small_heads,
+    small_owned, small_with, two_groups_with, with_file, written,
+};
 use span_recs::{RefcRec, SpanRec};
 use std::alloc::{AllocError, Global};
 use std::test::Fail;

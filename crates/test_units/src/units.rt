@@ -1,15 +1,13 @@
 //! Inodes and reverse mappings that are faulty, and units that are given up.
-use crate::files::{Stretch, chunk_with, file_core, with_file, written};
-use crate::fresh::{
-    file_heads, first_of_two, second_of_two, small_group, small_heads, small_owned, small_with,
-    two_groups_with,
-};
-use crate::heads::{altered, heads_of, mended_heads};
-use crate::runs::{SKIPPED, expect_check};
-use crate::trees::{at, mapped, mended, owned, rmap_leaf};
+use crate::runs::expect_check;
 use byte_fields::Block;
 use fresh_image::fresh_block;
 use rmap_recs::RmapRec;
+use small_images::{
+    SKIPPED, Stretch, altered, at, chunk_with, file_core, file_heads, first_of_two, heads_of,
+    mapped, mended, mended_heads, owned, rmap_leaf, second_of_two, small_group, small_heads,
+    small_owned, small_with, two_groups_with, with_file, written,
+};
 use std::alloc::{AllocError, Global};
 use std::process::Abort;
 use std::test::Fail;

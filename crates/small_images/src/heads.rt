@@ -8,13 +8,13 @@ pub(crate) const UUID_HIGH: u64 = 0x0102_0304_0506_0708;
 
 pub(crate) const UUID_LOW: u64 = 0x090a_0b0c_0d0e_0f10;
 
-// What stands for no block and for no inode.
-pub(crate) const NONE: u32 = 0xffff_ffff;
+/// No block, and no inode (XFS Algorithms and Data Structures, "AG Inode Management").
+pub const NONE: u32 = 0xffff_ffff;
 
 /// A group of an image of `groups` groups of `len` blocks each, at most 2^`agblklog`, with the
 /// free blocks and the longest free run that its AGF counts.
 #[derive(Clone, Copy)]
-pub(crate) struct Group {
+pub struct Group {
     pub groups: u32,
     pub group: u32,
     pub len: u32,
@@ -132,7 +132,7 @@ fn put_agfl(block: &mut Block, group: u32) {
 }
 
 /// The block with the checksums of its four sectors stored.
-pub(crate) fn mended_heads(mut block: Block) -> Block {
+pub fn mended_heads(mut block: Block) -> Block {
     let superblock = sum_at(&block.bytes[..512], 224);
     put_sum(&mut block.bytes, 224, superblock);
     let agf = sum_at(&block.bytes[512..1024], 216);
@@ -145,13 +145,13 @@ pub(crate) fn mended_heads(mut block: Block) -> Block {
 }
 
 /// The block with another number in the four bytes at offset `at`. No checksum is stored.
-pub(crate) fn altered(mut block: Block, at: usize, value: u32) -> Block {
+pub fn altered(mut block: Block, at: usize, value: u32) -> Block {
     put_word(&mut block, at, value);
     block
 }
 
 /// Block 0 of a group whose six trees have one leaf each, at the blocks 1 to 6.
-pub(crate) fn heads_of(of: &Group) -> Block {
+pub fn heads_of(of: &Group) -> Block {
     let mut block = Block::zeroed();
     put_superblock(&mut block, of);
     put_sizes(&mut block, of.agblklog);

@@ -14,7 +14,7 @@ use std::collections::BTreeMap;
 use xscrub::MemImage;
 
 /// The one group of the small image: 256 blocks, of which (19, 5) and (32, 224) are free.
-pub(crate) fn small_group() -> Group {
+pub fn small_group() -> Group {
     Group {
         groups: 1,
         group: 0,
@@ -26,12 +26,12 @@ pub(crate) fn small_group() -> Group {
 }
 
 /// Block 0 of the small image.
-pub(crate) fn small_heads() -> Block {
+pub fn small_heads() -> Block {
     heads_of(&small_group())
 }
 
 /// The reverse mappings of the small image.
-pub(crate) fn small_owned() -> [RmapRec; 7] {
+pub fn small_owned() -> [RmapRec; 7] {
     [
         owned(0, 1, 3),
         owned(1, 2, 5),
@@ -44,7 +44,7 @@ pub(crate) fn small_owned() -> [RmapRec; 7] {
 }
 
 /// An image of so many blocks, which are these by their numbers, and zeros for the rest.
-pub(crate) fn bare_image(
+pub fn bare_image(
     alloc: Global,
     size: u64,
     blocks: &[(u64, Block)],
@@ -62,11 +62,7 @@ pub(crate) fn bare_image(
 
 /// An image of so many blocks, whose first group has the inode btrees and the chunk of a new one. These
 /// blocks are those of the rest that aren't zeros, or are others.
-pub(crate) fn image_of(
-    alloc: Global,
-    size: u64,
-    blocks: &[(u64, Block)],
-) -> Result<MemImage, AllocError> {
+pub fn image_of(alloc: Global, size: u64, blocks: &[(u64, Block)]) -> Result<MemImage, AllocError> {
     let mut image = bare_image(
         alloc,
         size,
@@ -82,7 +78,7 @@ pub(crate) fn image_of(
 }
 
 /// The small image, of which these blocks are others.
-pub(crate) fn small_with(alloc: Global, blocks: &[(u64, Block)]) -> Result<MemImage, AllocError> {
+pub fn small_with(alloc: Global, blocks: &[(u64, Block)]) -> Result<MemImage, AllocError> {
     let free = [run(19, 5), run(32, 224)];
     let mut image = image_of(
         alloc,
@@ -102,16 +98,13 @@ pub(crate) fn small_with(alloc: Global, blocks: &[(u64, Block)]) -> Result<MemIm
 }
 
 /// The small image.
-pub(crate) fn small_image(alloc: Global) -> Result<MemImage, AllocError> {
+pub fn small_image(alloc: Global) -> Result<MemImage, AllocError> {
     small_with(alloc, &[])
 }
 
 /// Two groups of 64 blocks. Free are (19, 5) and (32, 32) of the first, and (19, 45) of the second,
 /// which has no inodes. These blocks are others.
-pub(crate) fn two_groups_with(
-    alloc: Global,
-    blocks: &[(u64, Block)],
-) -> Result<MemImage, AllocError> {
+pub fn two_groups_with(alloc: Global, blocks: &[(u64, Block)]) -> Result<MemImage, AllocError> {
     let free = [run(19, 5), run(32, 32)];
     let second = |block| Place {
         group: 1,
@@ -143,7 +136,7 @@ pub(crate) fn two_groups_with(
 }
 
 /// The first of the two groups.
-pub(crate) fn first_of_two() -> Group {
+pub fn first_of_two() -> Group {
     Group {
         groups: 2,
         group: 0,
@@ -155,7 +148,7 @@ pub(crate) fn first_of_two() -> Group {
 }
 
 /// The second of the two groups.
-pub(crate) fn second_of_two() -> Group {
+pub fn second_of_two() -> Group {
     Group {
         group: 1,
         freeblks: 45,
@@ -165,12 +158,12 @@ pub(crate) fn second_of_two() -> Group {
 }
 
 /// The free space of the image of a file, by start.
-pub(crate) fn file_free() -> [SpanRec; 5] {
+pub fn file_free() -> [SpanRec; 5] {
     [run(19, 5), run(32, 8), run(41, 9), run(52, 8), run(61, 195)]
 }
 
 /// The shared blocks of the image of a file.
-pub(crate) fn file_shared() -> [RefcRec; 3] {
+pub fn file_shared() -> [RefcRec; 3] {
     [shared(40, 1, 2), shared(50, 2, 2), shared(60, 1, 3)]
 }
 
@@ -205,13 +198,13 @@ fn file_chunk(alloc: Global) -> Result<Block, AllocError> {
 }
 
 /// Block 0 of a group in which inode 195 is allocated.
-pub(crate) fn file_heads(of: &Group) -> Block {
+pub fn file_heads(of: &Group) -> Block {
     mended_heads(altered(heads_of(of), 1052, 60))
 }
 
 /// The image of a file: the small image with an inode that maps four blocks, all of them shared.
 /// These blocks are others.
-pub(crate) fn file_with(alloc: Global, blocks: &[(u64, Block)]) -> Result<MemImage, AllocError> {
+pub fn file_with(alloc: Global, blocks: &[(u64, Block)]) -> Result<MemImage, AllocError> {
     let group = Group {
         freeblks: 225,
         longest: 195,

@@ -1,14 +1,13 @@
 //! Trees that can't be read, and trees of several levels.
-use crate::files::{chunk_with, fork_leaf, tree_core, with_file};
-use crate::fresh::{file_heads, image_of, small_heads, small_owned, small_with, two_groups_with};
-use crate::heads::{Group, NONE, altered, mended_heads};
-use crate::runs::{ALL_GOOD, SKIPPED, SOUND, expect_check};
-use crate::trees::{
-    at, bno_leaf, cnt_leaf, mapped, mended, owned, refc_leaf, rmap_leaf, rmap_part, rmap_root, run,
-};
+use crate::runs::expect_check;
 use byte_fields::Block;
 use fresh_image::fresh_block;
 use rmap_recs::RmapRec;
+use small_images::{
+    ALL_GOOD, Group, NONE, SKIPPED, SOUND, altered, at, bno_leaf, chunk_with, cnt_leaf, file_heads,
+    fork_leaf, image_of, mapped, mended, mended_heads, owned, refc_leaf, rmap_leaf, rmap_part,
+    rmap_root, run, small_heads, small_owned, small_with, tree_core, two_groups_with, with_file,
+};
 use span_recs::SpanRec;
 use std::alloc::{AllocError, Global};
 use std::test::Fail;

@@ -8,13 +8,14 @@ use rmap_recs::RmapRec;
 
 /// So many blocks from one on, which are written data at this offset of a file.
 #[derive(Clone, Copy)]
-pub(crate) struct Stretch {
+pub struct Stretch {
     pub offset: u64,
     pub block: u64,
     pub count: u64,
 }
 
-pub(crate) fn written(offset: u64, block: u64, count: u64) -> Stretch {
+/// Written blocks of a file (XFS Algorithms and Data Structures, "Data Fork").
+pub fn written(offset: u64, block: u64, count: u64) -> Stretch {
     Stretch {
         offset,
         block,
@@ -63,7 +64,7 @@ fn core(format: u8, nextents: u32, literal: [u8; 336]) -> Core3 {
 }
 
 /// The core of a file with these mappings, of which an inode has room for 21.
-pub(crate) fn file_core(stretches: &[Stretch]) -> Core3 {
+pub fn file_core(stretches: &[Stretch]) -> Core3 {
     let mut literal = [0; 336];
     for (i, stretch) in stretches.iter().enumerate() {
         put_stretch(&mut literal, i, stretch);
@@ -73,7 +74,7 @@ pub(crate) fn file_core(stretches: &[Stretch]) -> Core3 {
 
 /// The core of a file with so many mappings in a btree: a root over one leaf, which has them from
 /// offset 0 on.
-pub(crate) fn tree_core(nextents: u32, leaf: u64) -> Core3 {
+pub fn tree_core(nextents: u32, leaf: u64) -> Core3 {
     let mut literal = [0; 336];
     put_u16(&mut literal, 0, 1);
     put_u16(&mut literal, 2, 1);
@@ -82,7 +83,7 @@ pub(crate) fn tree_core(nextents: u32, leaf: u64) -> Core3 {
 }
 
 /// Block 24 with this core in the place of inode 195.
-pub(crate) fn chunk_with(core: &Core3) -> Block {
+pub fn chunk_with(core: &Core3) -> Block {
     let mut block = fresh_block(1, 256, 24);
     let mut bytes = [0; 512];
     encode_core(core, &mut bytes);
@@ -91,7 +92,7 @@ pub(crate) fn chunk_with(core: &Core3) -> Block {
 }
 
 /// The leaf of one of the two inode btrees once inode 195 is allocated, which has one free inode less.
-pub(crate) fn with_file(leaf: Block) -> Block {
+pub fn with_file(leaf: Block) -> Block {
     mended(altered(altered(leaf, 60, 0x0000_403c), 68, 0xffff_fff0))
 }
 
@@ -128,7 +129,7 @@ fn with_sum(mut block: Block) -> Block {
 
 /// The only leaf of the btree of inode 195, at this block of group 0, with the blocks of these reverse
 /// mappings, of which it has room for 251.
-pub(crate) fn fork_leaf(at: u64, pieces: &[RmapRec]) -> Block {
+pub fn fork_leaf(at: u64, pieces: &[RmapRec]) -> Block {
     let mut block = fork_header(at, pieces.len());
     for (i, piece) in pieces.iter().enumerate() {
         put_piece(&mut block, i, piece);
