@@ -98,8 +98,10 @@ fn literal_in(bytes: &[u8]) -> [u8; 336]
     literal
 }
 
+/// What the fields of an inode's 512 bytes say, whatever they are: nothing is tested. It is for a core that
+/// was verified before, as by [`decode_core`] (XFS Algorithms and Data Structures, "On-disk Inode").
 #[tactic(auto, unfolding(crate::specs::Core::core_of, crate::specs::Parts::kinds_of, crate::specs::Parts::counts_of, crate::specs::Parts::changes_of))]
-fn core_in(bytes: &[u8]) -> Core3
+pub fn read_core(bytes: &[u8]) -> Core3
     requires { length bytes.now ≡ 512 }
     ensures { result ≡ core_of bytes.now }
 {
@@ -165,6 +167,6 @@ pub fn decode_core(bytes: &[u8], ino: u64, uuid: &[u8; 16]) -> Result<Core3, Cor
 {
     match first_fault(bytes, ino, uuid) {
         Some(fault) => Err(fault),
-        None => Ok(core_in(bytes)),
+        None => Ok(read_core(bytes)),
     }
 }

@@ -10,7 +10,7 @@ mod mapping;
 mod packed;
 mod shape;
 
-pub use decode::decode_core;
+pub use decode::{decode_core, read_core};
 pub use encode::{encode_core, writes_back};
 pub use inline::{first_bad, inline_fork, inline_is_whole, is_in_btree};
 pub use inode::{Core3, CoreFault};
