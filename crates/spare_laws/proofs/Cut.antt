@@ -1,12 +1,12 @@
 -- What of settled owners is the same behind an entry as in the state that its row decides, however edited trees are cut.
-use Rattle.std.proofs.Common.{◌≡◌, ℕ, ◌+◌, ◌==◌, ◌||◌, Bool, true, false, nat_lt, List, [], ◌∷◌, filter, flat_map, map, refl, sym, ap, ap₂, subst, ◌∙◌, inl, inr, arith, eqb-true, eq-eqb}
+use Rattle.std.proofs.Common.{◌≡◌, ℕ, ◌+◌, ◌≤◌, ◌==◌, ◌||◌, Bool, true, false, nat_lt, List, [], ◌∷◌, filter, flat_map, map, refl, sym, ap, ap₂, subst, ◌∙◌, inl, inr, arith, eqb-true, eq-eqb}
 use Rattle.std.specs.Prelude.{if◌then◌else◌}
 use Rattle.std.specs.List.{list_all}
 use Rattle.std.proofs.lemmas.Bool.{false≢true}
 use Rattle.std.proofs.lemmas.Bool.Decides.{nat_tests}
 use Rattle.account_laws.proofs.Framed.{same_parts, SameParts}
 use Rattle.change_laws.proofs.Members.{both_ways}
-use Rattle.cut_laws.proofs.Cut.{decided_splits}
+use Rattle.cut_laws.proofs.Cut.{decided_splits, stands_once}
 use Rattle.cut_laws.proofs.Told.{has_pairs, owned_has, told_behind, tuple_for}
 use Rattle.fs_change.proofs.Sets.{same_is}
 use Rattle.fs_change.specs.Chains.{given_by, most_chains, pending, settled_by, settled_forks, settled_own, taken_by}
@@ -31,7 +31,7 @@ use Rattle.move_laws.proofs.Claiming.{metadata_is, owner_plain}
 use Rattle.move_laws.proofs.Kept.{loose_alike}
 use Rattle.move_laws.proofs.Loose.{filter_own}
 use Rattle.move_laws.proofs.Moving.{Moved, blocks_moved}
-use Rattle.move_laws.proofs.Pairs.{Among, has_of}
+use Rattle.move_laws.proofs.Pairs.{Among, blocks_are, has_of}
 use Rattle.move_laws.specs.Moving.{is_own}
 use Rattle.owner_laws.proofs.Members.{has_metadata, metadata_same, runs_by, settled_is}
 use Rattle.owner_laws.specs.Told.{AreTold}
@@ -42,8 +42,8 @@ use Rattle.rmap_recs.specs.Runs.{AreRuns, has, is_same}
 use Rattle.rmap_recs.specs.declared.tuples.Tuple.{Tuple}
 use Rattle.sblock.specs.declared.kind.Kind.{Kind}
 use Rattle.sblock.specs.declared.kind.Kind.TheVariants.{Bno, Cnt, Rmap}
-use Rattle.tree_defs.specs.Lists.{AllDiffer}
-use Rattle.spare_laws.specs.Cut.{CutTold, MayCut}
+use Rattle.tree_defs.specs.Lists.{AllDiffer, times}
+use Rattle.spare_laws.specs.Cut.{CutTold, MayCut, SoundOnce}
 
 -- ---- two states with the same owners
 
@@ -145,7 +145,7 @@ module _ (a z : State) (left : List Kind) (e : Entry) (fit : HasFitting a.geomet
       inside : (js : List Kind) → js ≡ [] → Inside a.geometry.inobtcount left js (x.group g) (z.group g) → SameOwners x z g
       inside js gone m = still x z g splits alike s.loosely.chains (subst (λ is. Inside a.geometry.inobtcount left is (x.group g) (z.group g)) gone m)
 
-reserve_own : (unit : ScrubUnit) (spare : Bool) → list_all is_own (edits_reserve unit spare) ≡ true
+pub reserve_own : (unit : ScrubUnit) (spare : Bool) → list_all is_own (edits_reserve unit spare) ≡ true
 reserve_own units.Inode true = refl
 reserve_own units.Inode false = refl
 reserve_own units.Rmap true = refl
@@ -169,6 +169,8 @@ in_own a z left (entries.Freed c g b n true) fit s may told = told_same s.decide
 in_own a z left (entries.Freed c g b n false) fit s may told = told_same s.decided z g (own_cut a z left (entries.Freed c g b n false) fit s refl may) told
 in_own a z left (entries.Refilled e) fit s may told = told_same s.decided z e.group (own_cut a z left (entries.Refilled e) fit s refl may) told
 in_own a z left (entries.Trimmed e) fit s may told = told_same s.decided z e.group (own_cut a z left (entries.Trimmed e) fit s refl may) told
+in_own a z left (entries.Reserved g units.Rmap b false) fit s may told = told_same s.decided z g (uncut a z left (entries.Reserved g units.Rmap b false) fit s refl) told
+in_own a z left (entries.Reserved g units.Free b false) fit s may told = told_same s.decided z g (uncut a z left (entries.Reserved g units.Free b false) fit s refl) told
 in_own a z left (entries.Reserved g unit b spare) fit s may told = told_same s.decided z g (own_cut a z left (entries.Reserved g unit b spare) fit s (reserve_own unit spare) may) told
 in_own a z left (entries.Reaped e) fit s may told = told_same s.decided z e.group (own_cut a z left (entries.Reaped e) fit s (reaped_own (a.group e.group) e) may) told
 in_own a z left (entries.RefDone c g b n more) fit s may told = told_behind a z left (entries.RefDone c g b n more) g fit s may told
@@ -192,3 +194,6 @@ cut_told a z left e h fit s may told = by (h == group_of_entry a e) refl
         let here : h ≡ group_of_entry a e = eqb-true h (group_of_entry a e) same in
         subst (AreTold z) (sym here) (in_own a z left e fit s may (subst (AreTold s.decided) here told))
     by false out = told_same s.decided z h (in_others a z left e fit s h out) told
+
+pub sound_once : SoundOnce
+sound_once x g sound b = subst (λ n. n ≤ 1) (ap (times b) (blocks_are (x.group g))) (stands_once x g b (sound b))

@@ -1,4 +1,4 @@
--- A spare block that a rebuild of free space, or of reverse mappings, reserves: settled owners gain it, and mappings follow
+-- A spare block that a rebuild reserves: settled owners gain it, and mappings follow
 -- or don't.
 use Rattle.std.proofs.Common.{◌≡◌, ℕ, ◌+◌, ◌<◌, ◌≤◌, ◌==◌, ◌&&◌, ◌||◌, Bool, true, false, not, nat_lt, List, [], ◌∷◌, ◌++◌, filter, flat_map, map, Contains, refl, sym, ap, ap₂, subst, ◌∙◌, inl, inr, arith, eqb-true, eq-eqb}
 use Rattle.std.specs.Prelude.{◌⊎◌, ◌^◌, ◌/◌, if◌then◌else◌}
@@ -17,11 +17,12 @@ use Rattle.fs_change.proofs.Beside as beside
 use Rattle.fs_change.proofs.Sets.{has_of, has_passing, of_has, same_is}
 use Rattle.fs_change.proofs.Trees.{spaced}
 use Rattle.fs_change.specs.Chains.{settled_forks, settled_own}
-use Rattle.fs_change.specs.Changes.{block_extent, plain_run}
+use Rattle.fs_change.specs.Changes.{block_extent, give_owner, plain_run, take_free}
+use Rattle.fs_change.specs.Edited.{may_leave}
 use Rattle.fs_change.specs.Choice.{in_spans, is_spare}
 use Rattle.fs_change.specs.Loose.{owners_in, pool_of}
 use Rattle.fs_change.specs.Met.{give_each}
-use Rattle.fs_change.specs.Parts.{records_in, sick_in}
+use Rattle.fs_change.specs.Parts.{is_sick, records_in, sick_in}
 use Rattle.fs_change.specs.Records.{give_mapping}
 use Rattle.fs_change.specs.Step.{Step}
 use Rattle.fs_change.specs.Switch.{unit_owner}
@@ -36,7 +37,7 @@ use Rattle.fs_model.specs.declared.unit.Unit.TheVariants as units
 use Rattle.fs_state.specs.Apart.{is_chunk}
 use Rattle.fs_state.specs.Group.{is_among}
 use Rattle.fs_state.specs.Kinds.{RecOf}
-use Rattle.fs_state.specs.State.{Group, Index, Owned, State, blocks_in, recs_of}
+use Rattle.fs_state.specs.State.{Group, Index, Owned, State, blocks_in, is_readable, recs_of}
 use Rattle.geom.specs.Apart.{HasFitting}
 use Rattle.move_laws.proofs.Claiming.{metadata_is, owner_plain}
 use Rattle.owner_laws.proofs.Members.{runs_by, same_chunks, settled_is}
@@ -45,7 +46,7 @@ use Rattle.owner_laws.specs.Told.{AreTold}
 use Rattle.repair_laws.proofs.Totals.{chunk_part, front_part, has_weight, is_owner, limbo_weight, weigh, weigh_both}
 use Rattle.reserve_laws.proofs.OwnGroup.{held_now}
 use Rattle.reserve_laws.proofs.Owning.{SameHeld, same_owners}
-use Rattle.reserve_laws.proofs.Reserved.{is_found, spare_uncovered}
+use Rattle.reserve_laws.proofs.Reserved.{gets_owner, is_found, none_sick_there, spare_uncovered}
 use Rattle.reserve_laws.proofs.Reserving.{reserve_grows, reserved_group, reserved_in, with_reserve}
 use Rattle.rmap_recs.specs.Rmap.{is_key_before}
 use Rattle.rmap_recs.specs.Runs.{AreRuns, has, is_same, is_tuple_before}
@@ -54,8 +55,8 @@ use Rattle.run_edits.specs.EditLaws.{AreUntied}
 use Rattle.sblock.specs.declared.kind.Kind.{Kind}
 use Rattle.sblock.specs.declared.kind.Kind.TheVariants.{Rmap}
 use Rattle.tree_defs.specs.Lists.{AllDiffer, is_in, times}
-use Rattle.spare_laws.specs.Spare.{AreToldBut, IsUnnoted, SpareDecides, SpareNobodys, SpareTells, UnnotedElsewhere, UnnotedNobodys, UnnotedOwesNone, UnnotedOwns, UnnotedTells, UnnotedUnclaimed, reserved_owner}
-use Rattle.spare_laws.proofs.Cut.{SameOwners, decided_forks, in_others, own_cut, same_own, told_same, turned_back}
+use Rattle.spare_laws.specs.Spare.{AreToldBut, IsUnnoted, SpareDecides, SpareNobodys, SpareTells, UnnotedElsewhere, UnnotedNobodys, UnnotedOwesNone, UnnotedOwns, UnnotedTells, UnnotedUnclaimed, is_noting, reserved_owner}
+use Rattle.spare_laws.proofs.Cut.{SameOwners, decided_forks, in_others, own_cut, reserve_own, same_own, told_same, turned_back}
 use Rattle.spare_laws.proofs.Elsewhere.{elsewhere_told}
 use Rattle.spare_laws.proofs.Noted.{has_next, no_chunk, no_owner, nobodys_chunk, owed_settled, row_unclaimed, sound_uncovered, told_reads, unclaimed_nobodys, unclaimed_parts, unowned}
 
@@ -167,59 +168,88 @@ untied_with ts us n gains none untied t u c d = by (is_same t n) refl (is_same u
     by false e true f = inr (subst (λ (v : Tuple). (is_tuple_before t v ≡ true) ⊎ (is_tuple_before v t ≡ true)) (sym (same_is u n f)) (apart t n (none t (rest t c e))))
     by false e false f = untied t u (of_has ts t (rest t c e)) (of_has ts u (rest u d f))
 
--- ---- a rebuild of free space
+-- ---- a rebuild that isn't of reverse mappings
+
+gets_one : (unit : ScrubUnit) → is_noting unit ≡ true → gets_owner unit ≡ true
+gets_one units.Inode h = refl
+gets_one units.Free h = refl
+gets_one units.Refc h = refl
+gets_one units.Rmap h = absurd (false≢true h)
 
 pub spare_nobodys : SpareNobodys
-spare_nobodys a x left g b row told = no_owner (settled_own a g) (mappings a g) b told (spare_uncovered a g units.Free b refl (is_found a g units.Free b row.0.2))
+spare_nobodys a x left g b unit notes row told = no_owner (settled_own a g) (mappings a g) b told (spare_uncovered a g unit b (gets_one unit notes) (is_found a g unit b row.0.2))
 
 not_in_span : (b k : ℕ) → in_span b 1 k ≡ false → (k == b) ≡ false
 not_in_span b k h = grind (arith, nat_tests)
 
-module _ (a z : State) (left : List Kind) (g b : ℕ) (fit : HasFitting a.geometry) (s : Step a left (entries.Reserved g units.Free b true) z) (untied : AreUntied (settled_own a g)) (told : AreTold a g) where
-  abbrev owner_of_block : Owned
-  owner_of_block = pair (unit_owner units.Free) b
+not_sick : (a : State) (g b : ℕ) (unit : ScrubUnit) → is_noting unit ≡ true → is_spare a g unit b ≡ true → sick_in (a.group g) Rmap ≡ false
+unfolding is_spare
+not_sick a g b units.Inode notes h = (none_sick_there a g units.Inode b refl h).2
+not_sick a g b units.Refc notes h = (none_sick_there a g units.Refc b refl h).2
+not_sick a g b units.Rmap notes h = absurd (false≢true notes)
+not_sick a g b units.Free notes h = by (sick_in (a.group g) Rmap) (and_parts (not (sick_in (a.group g) Rmap)) (in_spans (bno_of a g) b) h).0
+  where
+    by : (k : Bool) → not k ≡ true → k ≡ false
+    by true e = absurd (false≢true e)
+    by false e = refl
+
+not_left : (ks : List Kind) → list_all (λ k. is_among k []) ks ≡ true → is_among Rmap ks ≡ false
+not_left [] h = refl
+not_left (k ∷ ks) h = absurd (false≢true h)
+
+-- the mappings of a group, written once more
+module _ (left : List Kind) (g b : ℕ) (p : Group) (sick : sick_in p Rmap ≡ false) (kept : is_among Rmap left ≡ false) (readable : is_readable (p.tree Rmap).reading ≡ true) where
+  written : (q : Group) → q.tree Rmap ≡ p.tree Rmap → IsWritten left q
+  written q same = record {
+    edited = ap₂ (λ (y w : Bool). if y then false else if w then false else true) (ap (λ (t : Index (RecOf Rmap)). is_sick t.trust) same ∙ sick) kept;
+    readable = ap (λ (t : Index (RecOf Rmap)). is_readable t.reading) same ∙ readable;
+  }
+
+  given : (owner : ℕ) (q : Group) → q.tree Rmap ≡ p.tree Rmap → records_in (give_owner left owner (block_extent g b) q) Rmap ≡ give_each (pair owner b ∷ []) (records_in p Rmap)
+  given owner q same =
+      edited_recs left (give_mapping (plain_run owner (block_extent g b))) q (written q same)
+      ∙ ap (λ (t : Index (RecOf Rmap)). give_mapping (plain_run owner (block_extent g b)) (recs_of t.reading)) same
+
+  noted_maps : (unit : ScrubUnit) → is_noting unit ≡ true → records_in (reserved_group left g unit b true p) Rmap ≡ give_each (pair (unit_owner unit) b ∷ []) (records_in p Rmap)
+  noted_maps units.Free notes = given (unit_owner units.Free) (with_reserve units.Free b p) refl
+  noted_maps units.Inode notes = given (unit_owner units.Inode) (take_free left (block_extent g b) (with_reserve units.Inode b p)) (spaced left Rmap (block_extent g b) (with_reserve units.Inode b p) refl refl)
+  noted_maps units.Refc notes = given (unit_owner units.Refc) (take_free left (block_extent g b) (with_reserve units.Refc b p)) (spaced left Rmap (block_extent g b) (with_reserve units.Refc b p) refl refl)
+  noted_maps units.Rmap notes = absurd (false≢true notes)
+
+module _ (a z : State) (left : List Kind) (g b : ℕ) (unit : ScrubUnit) (notes : is_noting unit ≡ true) (fit : HasFitting a.geometry) (s : Step a left (entries.Reserved g unit b true) z) (kept : (unit ≡ units.Free) ⊎ (is_among Rmap left ≡ false))
+    (untied : AreUntied (settled_own a g)) (told : AreTold a g) where
+  abbrev new_owner : Owned
+  new_owner = pair (unit_owner unit) b
 
   nobody : IsNobodys a (block_extent g b)
-  nobody = spare_nobodys a s.decided left g b s.row told
+  nobody = spare_nobodys a s.decided left g b unit notes s.row told
 
-  pub free_chunk : is_chunk a g (b / 8) ≡ false
-  free_chunk = nobodys_chunk a g b nobody
+  pub spare_chunk : is_chunk a g (b / 8) ≡ false
+  spare_chunk = nobodys_chunk a g b nobody
 
-  owns : (t : Tuple) → has (settled_own s.decided g) t ≡ has (map tuple_for (owner_of_block ∷ []) ++ settled_own a g) t
-  owns t = gains a z left g b units.Free fit s free_chunk t
+  owns : (t : Tuple) → has (settled_own s.decided g) t ≡ has (map tuple_for (new_owner ∷ []) ++ settled_own a g) t
+  owns t = gains a z left g b unit fit s spare_chunk t
 
   none_there : (t : Tuple) → has (settled_own a g) t ≡ true → (t.block == b) ≡ false
   none_there t h = not_in_span b t.block (nobody t h)
 
-  not_sick : is_spare a g units.Free b ≡ true → sick_in (a.group g) Rmap ≡ false
-  unfolding is_spare
-  not_sick h = by (sick_in (a.group g) Rmap) (and_parts (not (sick_in (a.group g) Rmap)) (in_spans (bno_of a g) b) h).0
-    where
-      by : (k : Bool) → not k ≡ true → k ≡ false
-      by true e = absurd (false≢true e)
-      by false e = refl
+  kept_by : is_among Rmap left ≡ false
+  kept_by = elim kept [
+    | inl free ↦ not_left left (subst (λ (u : ScrubUnit). list_all (λ k. is_among k (may_leave a (entries.Reserved g u b true))) left ≡ true) free s.leaves)
+    | inr none ↦ none
+  ]
 
-  not_left : (ks : List Kind) → list_all (λ k. is_among k []) ks ≡ true → is_among Rmap ks ≡ false
-  not_left [] h = refl
-  not_left (k ∷ ks) h = absurd (false≢true h)
-
-  written : IsWritten left (with_reserve units.Free b (a.group g))
-  written = record {
-    edited = ap₂ (λ (y w : Bool). if y then false else if w then false else true) (not_sick (is_found a g units.Free b s.row.0.2)) (not_left left s.leaves);
-    readable = told_reads a g told;
-  }
-
-  maps : mappings s.decided g ≡ give_each (owner_of_block ∷ []) (mappings a g)
-  maps = maps_by a z left g b units.Free fit s free_chunk ∙ edited_recs left (give_mapping (plain_run (unit_owner units.Free) (block_extent g b))) (with_reserve units.Free b (a.group g)) written
+  maps : mappings s.decided g ≡ give_each (new_owner ∷ []) (mappings a g)
+  maps = maps_by a z left g b unit fit s spare_chunk ∙ noted_maps left g b (a.group g) (not_sick a g b unit notes (is_found a g unit b s.row.0.2)) kept_by (told_reads a g told) unit notes
 
   pub noted : AreTold s.decided g
   noted =
       subst (AreRuns (settled_own s.decided g)) (sym maps)
-      (runs_by (map tuple_for (owner_of_block ∷ []) ++ settled_own a g) (settled_own s.decided g) owns (give_each (owner_of_block ∷ []) (mappings a g))
-      (given_runs (settled_own a g) (settled_own s.decided g) (mappings a g) (owner_of_block ∷ []) once_in fresh
-      (untied_with (settled_own a g) (settled_own s.decided g) (tuple_for owner_of_block) owns none_there untied) (λ t h. owns t ∙ h) told))
+      (runs_by (map tuple_for (new_owner ∷ []) ++ settled_own a g) (settled_own s.decided g) owns (give_each (new_owner ∷ []) (mappings a g))
+      (given_runs (settled_own a g) (settled_own s.decided g) (mappings a g) (new_owner ∷ []) once_in fresh
+      (untied_with (settled_own a g) (settled_own s.decided g) (tuple_for new_owner) owns none_there untied) (λ t h. owns t ∙ h) told))
     where
-      once_in : (k : ℕ) → times k (blocks_in (owner_of_block ∷ [])) ≤ 1
+      once_in : (k : ℕ) → times k (blocks_in (new_owner ∷ [])) ≤ 1
       once_in k = by (b == k)
         where
           by : (t : Bool) → (if t then 1 else 0) + 0 ≤ 1
@@ -230,30 +260,33 @@ module _ (a z : State) (left : List Kind) (g b : ℕ) (fit : HasFitting a.geomet
       or_none true = refl
       or_none false = refl
 
-      fresh : (t : Tuple) → has (map tuple_for (owner_of_block ∷ [])) t ≡ true → (t.block < 2 ^ 32) × (has (settled_own a g) t ≡ false)
+      fresh : (t : Tuple) → has (map tuple_for (new_owner ∷ [])) t ≡ true → (t.block < 2 ^ 32) × (has (settled_own a g) t ≡ false)
       fresh t h =
-          let at : t.block ≡ b = ap (λ (u : Tuple). u.block) (same_is t (tuple_for owner_of_block) (sym (or_none (is_same t (tuple_for owner_of_block))) ∙ h)) in (
-            subst (λ n. n < 2 ^ 32) (sym at) (has_next a g b units.Free fit s.row.0.2),
+          let at : t.block ≡ b = ap (λ (u : Tuple). u.block) (same_is t (tuple_for new_owner) (sym (or_none (is_same t (tuple_for new_owner))) ∙ h)) in (
+            subst (λ n. n < 2 ^ 32) (sym at) (has_next a g b unit fit s.row.0.2),
             no_true (has (settled_own a g) t) (λ k. true≢false (sym (eq-eqb t.block b at) ∙ none_there t k)),
           )
 
 pub spare_decides : SpareDecides
-spare_decides a z left g b h fit s untied told there = by (h == g) refl
+spare_decides a z left g b h unit notes fit s kept untied told there = by (h == g) refl
   where
     by : (t : Bool) → (h == g) ≡ t → AreTold s.decided h
-    by true e = subst (AreTold s.decided) (sym (eqb-true h g e)) (noted a z left g b fit s untied told)
+    by true e = subst (AreTold s.decided) (sym (eqb-true h g e)) (noted a z left g b unit notes fit s kept untied told)
     by false e =
-        told_same z s.decided h (turned_back s.decided z h (in_others a z left (entries.Reserved g units.Free b true) fit s h e))
-        (elsewhere_told a z left (entries.Reserved g units.Free b true) h fit s (free_chunk a z left g b fit s untied told) e there)
+        told_same z s.decided h (turned_back s.decided z h (in_others a z left (entries.Reserved g unit b true) fit s h e))
+        (elsewhere_told a z left (entries.Reserved g unit b true) h fit s (spare_chunk a z left g b unit notes fit s kept untied told) e there)
 
 pub spare_tells : SpareTells
-spare_tells a z left g b h fit s untied once told there = by (h == g) refl
+spare_tells a z left g b h unit notes fit s kept untied once told there = by (h == g) refl
   where
+    out : is_chunk a g (b / 8) ≡ false
+    out = spare_chunk a z left g b unit notes fit s kept untied told
+
     by : (t : Bool) → (h == g) ≡ t → AreTold z h
     by true e =
         subst (AreTold z) (sym (eqb-true h g e))
-        (told_same s.decided z g (own_cut a z left (entries.Reserved g units.Free b true) fit s refl (pool_once a z left g b units.Free fit s (free_chunk a z left g b fit s untied told) once)) (noted a z left g b fit s untied told))
-    by false e = elsewhere_told a z left (entries.Reserved g units.Free b true) h fit s (free_chunk a z left g b fit s untied told) e there
+        (told_same s.decided z g (own_cut a z left (entries.Reserved g unit b true) fit s (reserve_own unit true) (pool_once a z left g b unit fit s out once)) (noted a z left g b unit notes fit s kept untied told))
+    by false e = elsewhere_told a z left (entries.Reserved g unit b true) h fit s out e there
 
 -- ---- a rebuild of reverse mappings
 

@@ -1,6 +1,8 @@
 -- Behind an entry edited trees are cut into blocks anew, and blocks may get another owner: what is asked for that.
 use Rattle.std.specs.Prelude.{ℕ, ◌≡◌, ◌==◌, ◌<◌, false, List}
 use Rattle.account_laws.specs.Firsts.{run_shared}
+use Rattle.account_laws.specs.Ledger.{Sound}
+use Rattle.account_laws.specs.Stated.{ledger_at}
 use Rattle.change_laws.specs.Chunks.{LeavesChunks}
 use Rattle.change_laws.specs.Forks.{IsRunAt, IsSound}
 use Rattle.change_laws.specs.Settled.{LeavesOwners}
@@ -11,6 +13,7 @@ use Rattle.fs_change.specs.Loose.{pool_of}
 use Rattle.fs_change.specs.Step.{Step, group_of_entry, group_of_inode}
 use Rattle.fs_model.specs.declared.entry.Entry.{Entry}
 use Rattle.fs_model.specs.declared.entry.Entry.TheVariants as entries
+use Rattle.fs_model.specs.declared.unit.Unit.TheVariants as units
 use Rattle.fs_state.specs.State.{State}
 use Rattle.geom.specs.Apart.{HasFitting}
 use Rattle.owner_laws.specs.Told.{AreTold}
@@ -22,9 +25,11 @@ use Rattle.tree_defs.specs.Lists.{AllDiffer}
 abbrev pub MayCut : (a z : State) (left : List Kind) (e : Entry) → Step a left e z → Type 0
 MayCut a z left (entries.Mapped m) s = AllDiffer (pool_of (s.decided.group m.group))
 MayCut a z left (entries.RmapDone c ino g b n) s = AllDiffer (pool_of (s.decided.group g))
-MayCut a z left (entries.Freed c g b n kept) s = AllDiffer (pool_of (s.decided.group g))
+MayCut a z left (entries.Freed c g b n false) s = AllDiffer (pool_of (s.decided.group g))
 MayCut a z left (entries.Refilled e) s = AllDiffer (pool_of (s.decided.group e.group))
 MayCut a z left (entries.Trimmed e) s = AllDiffer (pool_of (s.decided.group e.group))
+MayCut a z left (entries.Reserved g units.Rmap b false) s = Unit {0}
+MayCut a z left (entries.Reserved g units.Free b false) s = Unit {0}
 MayCut a z left (entries.Reserved g unit b spare) s = AllDiffer (pool_of (s.decided.group g))
 MayCut a z left (entries.Reaped e) s = AllDiffer (pool_of (s.decided.group e.group))
 MayCut a z left (entries.RefDone c g b n more) s = MayMove left s.decided z g
@@ -35,6 +40,10 @@ MayCut a z left e s = Unit {0}
 -- then mappings that tell settled owners of the state that a row decides do so behind the entry, in every group
 abbrev pub CutTold : Type 0
 CutTold = (a z : State) (left : List Kind) (e : Entry) (h : ℕ) → HasFitting a.geometry → (s : Step a left e z) → MayCut a z left e s → AreTold s.decided h → AreTold z h
+
+-- no block stands there twice where each is sound
+abbrev pub SoundOnce : Type 0
+SoundOnce = (x : State) (g : ℕ) → ((b : ℕ) → Sound (ledger_at x g b)) → AllDiffer (pool_of (x.group g))
 
 -- What is asked of an entry elsewhere? Of a first event that the forks which it changes are in order and its run lies in a
 -- group; of a finished step that its chain is one, and of an owner that chunks don't have; of others that chunks stay, but

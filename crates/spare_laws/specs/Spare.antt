@@ -1,5 +1,5 @@
--- Whose a spare block was that a rebuild of free space or of reverse mappings reserves, and what mappings say behind it.
-use Rattle.std.specs.Prelude.{ℕ, ◌≡◌, ◌||◌, ◌==◌, true, false, not, List, ◌∷◌, filter}
+-- Whose a spare block was that a rebuild reserves, and what mappings say behind it.
+use Rattle.std.specs.Prelude.{ℕ, Bool, ◌⊎◌, ◌≡◌, ◌||◌, ◌==◌, true, false, not, List, ◌∷◌, filter}
 use Rattle.account_laws.specs.Ledger.{Sound}
 use Rattle.account_laws.specs.Stated.{ledger_at}
 use Rattle.fs_change.specs.Chains.{owed_takings, settled_forks, settled_own}
@@ -9,7 +9,9 @@ use Rattle.fs_change.specs.Step.{Row, Step}
 use Rattle.fs_derive.specs.Derive.{mappings}
 use Rattle.fs_derive.specs.Own.{own}
 use Rattle.fs_model.specs.declared.entry.Entry.TheVariants as entries
+use Rattle.fs_model.specs.declared.unit.Unit.{Unit as ScrubUnit}
 use Rattle.fs_model.specs.declared.unit.Unit.TheVariants as units
+use Rattle.fs_state.specs.Group.{is_among}
 use Rattle.fs_state.specs.State.{State}
 use Rattle.geom.specs.Apart.{HasFitting}
 use Rattle.owner_laws.specs.Nobodys.{IsNobodys}
@@ -20,23 +22,32 @@ use Rattle.rmap_recs.specs.declared.owner.Owner.TheVariants.{Ag}
 use Rattle.rmap_recs.specs.declared.tuples.Tuple.{Tuple}
 use Rattle.run_edits.specs.EditLaws.{AreUntied}
 use Rattle.sblock.specs.declared.kind.Kind.{Kind}
+use Rattle.sblock.specs.declared.kind.Kind.TheVariants.{Rmap}
 use Rattle.tree_defs.specs.Lists.{AllDiffer, is_in}
 
--- ---- a rebuild of free space
+-- ---- a rebuild that isn't of reverse mappings
 
--- its spare block is one of the free space that is derived from the mappings: where these tell settled owners, nobody's
+-- the mappings note the owner of its spare blocks
+abbrev pub is_noting : ScrubUnit → Bool
+is_noting units.Inode = true
+is_noting units.Rmap = false
+is_noting units.Free = true
+is_noting units.Refc = true
+
+-- no mapping covers its spare block: where these tell settled owners, it is nobody's
 abbrev pub SpareNobodys : Type 0
-SpareNobodys = (a x : State) (left : List Kind) (g b : ℕ) → Row a left (entries.Reserved g units.Free b true) x → AreTold a g → IsNobodys a (block_extent g b)
+SpareNobodys = (a x : State) (left : List Kind) (g b : ℕ) (unit : ScrubUnit) → is_noting unit ≡ true → Row a left (entries.Reserved g unit b true) x → AreTold a g → IsNobodys a (block_extent g b)
 
--- the mappings note its new owner, so those of every group go on telling settled owners: of the state that the row decides
+-- The mappings note its new owner, unless they are left, which they can't be where free space is rebuilt. So those of every
+-- group go on telling settled owners: of the state that the row decides,
 abbrev pub SpareDecides : Type 0
-SpareDecides = (a z : State) (left : List Kind) (g b h : ℕ) → HasFitting a.geometry → (s : Step a left (entries.Reserved g units.Free b true) z) → AreUntied (settled_own a g)
-    → AreTold a g → AreTold a h → AreTold s.decided h
+SpareDecides = (a z : State) (left : List Kind) (g b h : ℕ) (unit : ScrubUnit) → is_noting unit ≡ true → HasFitting a.geometry → (s : Step a left (entries.Reserved g unit b true) z) → (unit ≡ units.Free) ⊎ (is_among Rmap left ≡ false)
+    → AreUntied (settled_own a g) → AreTold a g → AreTold a h → AreTold s.decided h
 
 -- and of the one behind the entry, where no block of trees, list and limbo stands there twice
 abbrev pub SpareTells : Type 0
-SpareTells = (a z : State) (left : List Kind) (g b h : ℕ) → HasFitting a.geometry → Step a left (entries.Reserved g units.Free b true) z → AreUntied (settled_own a g) → AllDiffer (pool_of (a.group g))
-    → AreTold a g → AreTold a h → AreTold z h
+SpareTells = (a z : State) (left : List Kind) (g b h : ℕ) (unit : ScrubUnit) → is_noting unit ≡ true → HasFitting a.geometry → Step a left (entries.Reserved g unit b true) z → (unit ≡ units.Free) ⊎ (is_among Rmap left ≡ false)
+    → AreUntied (settled_own a g) → AllDiffer (pool_of (a.group g)) → AreTold a g → AreTold a h → AreTold z h
 
 -- ---- a rebuild of reverse mappings
 

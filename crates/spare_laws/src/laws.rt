@@ -11,7 +11,7 @@ ghost use Rattle.spare_laws.specs.Behind.{
   TrimmedTells,
   UnmappedTells,
 };
-ghost use Rattle.spare_laws.specs.Cut.{CutTold, ElsewhereTold};
+ghost use Rattle.spare_laws.specs.Cut.{CutTold, ElsewhereTold, SoundOnce};
 ghost use Rattle.spare_laws.specs.Held.{ChunkHolds, ConvertedHolds, MappedHolds, OthersHold, SharedHolds, UnmappedHolds};
 ghost use Rattle.spare_laws.specs.Spare.{
   SpareDecides,
@@ -28,7 +28,7 @@ ghost use Rattle.spare_laws.specs.Unread.{UnreadEnds, UnreadKeeps};
 
 use told_laws::lists_told;
 
-/// A law: a spare block that a rebuild of free space reserves was nobody's, where reverse mappings tell settled owners, and
+/// A law: a spare block that a rebuild reserves, but of reverse mappings, was nobody's, where these tell settled owners, and
 /// those of every group go on telling them (XFS Online Fsck Design, "Reserving New B+Tree Blocks").
 pub fn spare_stays_told()
     ensures nobodys { SpareNobodys }
@@ -58,6 +58,7 @@ pub fn owners_told_behind()
     ensures others { OthersTell }
     ensures finished { FinishedTells }
     ensures cut { CutTold }
+    ensures once { SoundOnce }
     ensures elsewhere { ElsewhereTold }
 {}
 

@@ -1,5 +1,5 @@
 use Rattle.spare_laws.proofs.Behind.{converted_tells, finished_tells, mapped_tells, others_tell, shared_tells, unmapped_tells}
-use Rattle.spare_laws.proofs.Cut.{cut_told}
+use Rattle.spare_laws.proofs.Cut.{cut_told, sound_once}
 use Rattle.spare_laws.proofs.Elsewhere.{elsewhere_told}
 use Rattle.spare_laws.proofs.laws.owners_told_behind.Goals as goal
 
@@ -23,6 +23,9 @@ returns-clause-finished c = finished_tells
 
 pub returns-clause-cut : goal.returns-clause-cut
 returns-clause-cut c = cut_told
+
+pub returns-clause-once : goal.returns-clause-once
+returns-clause-once c = sound_once
 
 pub returns-clause-elsewhere : goal.returns-clause-elsewhere
 returns-clause-elsewhere c = elsewhere_told
