@@ -39,7 +39,8 @@ MayCut a z left e s = Unit {0}
 
 -- then mappings that tell settled owners of the state that a row decides do so behind the entry, in every group
 abbrev pub CutTold : Type 0
-CutTold = (a z : State) (left : List Kind) (e : Entry) (h : ℕ) → HasFitting a.geometry → (s : Step a left e z) → MayCut a z left e s → AreTold s.decided h → AreTold z h
+CutTold = (a z : State) (left : List Kind) (e : Entry) (h : ℕ) → HasFitting a.geometry → (s : Step a left e z)
+    → MayCut a z left e s → AreTold s.decided h → AreTold z h
 
 -- no block stands there twice where each is sound
 abbrev pub SoundOnce : Type 0
@@ -58,4 +59,5 @@ LeavesElsewhere a e = LeavesOwners a e
 
 -- then the mappings of other groups go on telling settled owners, whoever makes the entry
 abbrev pub ElsewhereTold : Type 0
-ElsewhereTold = (a z : State) (left : List Kind) (e : Entry) (h : ℕ) → HasFitting a.geometry → Step a left e z → LeavesElsewhere a e → (h == group_of_entry a e) ≡ false → AreTold a h → AreTold z h
+ElsewhereTold = (a z : State) (left : List Kind) (e : Entry) (h : ℕ) → HasFitting a.geometry → Step a left e z
+    → LeavesElsewhere a e → (h == group_of_entry a e) ≡ false → AreTold a h → AreTold z h

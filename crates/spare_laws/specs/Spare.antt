@@ -36,24 +36,30 @@ is_noting units.Refc = true
 
 -- no mapping covers its spare block: where these tell settled owners, it is nobody's
 abbrev pub SpareNobodys : Type 0
-SpareNobodys = (a x : State) (left : List Kind) (g b : ℕ) (unit : ScrubUnit) → is_noting unit ≡ true → Row a left (entries.Reserved g unit b true) x → AreTold a g → IsNobodys a (block_extent g b)
+SpareNobodys = (a x : State) (left : List Kind) (g b : ℕ) (unit : ScrubUnit) → is_noting unit ≡ true
+    → Row a left (entries.Reserved g unit b true) x → AreTold a g → IsNobodys a (block_extent g b)
 
 -- The mappings note its new owner, unless they are left, which they can't be where free space is rebuilt. So those of every
 -- group go on telling settled owners: of the state that the row decides,
 abbrev pub SpareDecides : Type 0
-SpareDecides = (a z : State) (left : List Kind) (g b h : ℕ) (unit : ScrubUnit) → is_noting unit ≡ true → HasFitting a.geometry → (s : Step a left (entries.Reserved g unit b true) z) → (unit ≡ units.Free) ⊎ (is_among Rmap left ≡ false)
-    → AreUntied (settled_own a g) → AreTold a g → AreTold a h → AreTold s.decided h
+SpareDecides = (a z : State) (left : List Kind) (g b h : ℕ) (unit : ScrubUnit) → is_noting unit ≡ true
+    → HasFitting a.geometry → (s : Step a left (entries.Reserved g unit b true) z)
+    → (unit ≡ units.Free) ⊎ (is_among Rmap left ≡ false) → AreUntied (settled_own a g) → AreTold a g → AreTold a h
+    → AreTold s.decided h
 
 -- and of the one behind the entry, where no block of trees, list and limbo stands there twice
 abbrev pub SpareTells : Type 0
-SpareTells = (a z : State) (left : List Kind) (g b h : ℕ) (unit : ScrubUnit) → is_noting unit ≡ true → HasFitting a.geometry → Step a left (entries.Reserved g unit b true) z → (unit ≡ units.Free) ⊎ (is_among Rmap left ≡ false)
-    → AreUntied (settled_own a g) → AllDiffer (pool_of (a.group g)) → AreTold a g → AreTold a h → AreTold z h
+SpareTells = (a z : State) (left : List Kind) (g b h : ℕ) (unit : ScrubUnit) → is_noting unit ≡ true
+    → HasFitting a.geometry → Step a left (entries.Reserved g unit b true) z
+    → (unit ≡ units.Free) ⊎ (is_among Rmap left ≡ false) → AreUntied (settled_own a g) → AllDiffer (pool_of (a.group g))
+    → AreTold a g → AreTold a h → AreTold z h
 
 -- ---- a rebuild of reverse mappings
 
 -- nobody has the block, as all that is there says
 abbrev pub UnnotedUnclaimed : Type 0
-UnnotedUnclaimed = (a x : State) (left : List Kind) (g b : ℕ) → Row a left (entries.Reserved g units.Rmap b true) x → (t : Tuple) → has (own a g) t ≡ true → (t.block == b) ≡ false
+UnnotedUnclaimed = (a x : State) (left : List Kind) (g b : ℕ) → Row a left (entries.Reserved g units.Rmap b true) x
+    → (t : Tuple) → has (own a g) t ≡ true → (t.block == b) ≡ false
 
 -- no chain is still to take the block from who had it
 abbrev pub OwesNoTaking : State → ℕ → ℕ → Type 0
@@ -61,7 +67,8 @@ OwesNoTaking a g b = (t : Tuple) → has (owed_takings a g) t ≡ true → (t.bl
 
 -- where none is, no settled owner has it either
 abbrev pub UnnotedNobodys : Type 0
-UnnotedNobodys = (a x : State) (left : List Kind) (g b : ℕ) → Row a left (entries.Reserved g units.Rmap b true) x → OwesNoTaking a g b → IsNobodys a (block_extent g b)
+UnnotedNobodys = (a x : State) (left : List Kind) (g b : ℕ) → Row a left (entries.Reserved g units.Rmap b true) x
+    → OwesNoTaking a g b → IsNobodys a (block_extent g b)
 
 -- Do mappings tell the settled owners of all blocks but these?
 abbrev pub AreToldBut : State → ℕ → List ℕ → Type 0
@@ -69,7 +76,9 @@ AreToldBut a g bs = AreRuns (filter (λ t. not (is_in t.block bs)) (settled_own 
 
 -- of a sound block none is, where mappings tell so much: free space lists it
 abbrev pub UnnotedOwesNone : Type 0
-UnnotedOwesNone = (a x : State) (left : List Kind) (g b : ℕ) (bs : List ℕ) → Row a left (entries.Reserved g units.Rmap b true) x → Sound (ledger_at a g b) → is_in b bs ≡ false → AreToldBut a g bs → OwesNoTaking a g b
+UnnotedOwesNone = (a x : State) (left : List Kind) (g b : ℕ) (bs : List ℕ)
+    → Row a left (entries.Reserved g units.Rmap b true) x → Sound (ledger_at a g b) → is_in b bs ≡ false
+    → AreToldBut a g bs → OwesNoTaking a g b
 
 -- the owner of a block that the mappings' rebuild reserves
 abbrev pub reserved_owner : ℕ → Tuple
@@ -83,13 +92,16 @@ pub record IsUnnoted (a z : State) (g b : ℕ) : Type 0 where
   pub owns : (t : Tuple) → has (settled_own z g) t ≡ (is_same t (reserved_owner b) || has (settled_own a g) t)
 
 abbrev pub UnnotedOwns : Type 0
-UnnotedOwns = (a z : State) (left : List Kind) (g b : ℕ) → HasFitting a.geometry → Step a left (entries.Reserved g units.Rmap b true) z → AllDiffer (pool_of (a.group g)) → IsUnnoted a z g b
+UnnotedOwns = (a z : State) (left : List Kind) (g b : ℕ) → HasFitting a.geometry
+    → Step a left (entries.Reserved g units.Rmap b true) z → AllDiffer (pool_of (a.group g)) → IsUnnoted a z g b
 
 -- so what mappings told of all blocks but those that were reserved before, they tell of all but this one too
 abbrev pub UnnotedTells : Type 0
-UnnotedTells = (a z : State) (left : List Kind) (g b : ℕ) (bs : List ℕ) → HasFitting a.geometry → Step a left (entries.Reserved g units.Rmap b true) z → AllDiffer (pool_of (a.group g)) → OwesNoTaking a g b
+UnnotedTells = (a z : State) (left : List Kind) (g b : ℕ) (bs : List ℕ) → HasFitting a.geometry
+    → Step a left (entries.Reserved g units.Rmap b true) z → AllDiffer (pool_of (a.group g)) → OwesNoTaking a g b
     → AreToldBut a g bs → AreToldBut z g (b ∷ bs)
 
 -- and those of other groups tell what they told
 abbrev pub UnnotedElsewhere : Type 0
-UnnotedElsewhere = (a z : State) (left : List Kind) (g b h : ℕ) → HasFitting a.geometry → Step a left (entries.Reserved g units.Rmap b true) z → (h == g) ≡ false → AreTold a h → AreTold z h
+UnnotedElsewhere = (a z : State) (left : List Kind) (g b h : ℕ) → HasFitting a.geometry
+    → Step a left (entries.Reserved g units.Rmap b true) z → (h == g) ≡ false → AreTold a h → AreTold z h

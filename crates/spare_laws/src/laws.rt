@@ -24,7 +24,7 @@ ghost use Rattle.spare_laws.specs.Spare.{
   UnnotedTells,
   UnnotedUnclaimed,
 };
-ghost use Rattle.spare_laws.specs.Unread.{UnreadEnds, UnreadKeeps};
+ghost use Rattle.spare_laws.specs.Unread.{UnreadKeeps, UnreadMisses};
 
 use told_laws::lists_told;
 
@@ -85,10 +85,10 @@ pub fn holders_stay_behind()
     ensures chunk { ChunkHolds }
 {}
 
-/// A law: the switch of the inode btrees keeps what is known of reverse mappings where an old one that couldn't be read claims
-/// no block; where a block loses its owner so, mappings don't hold what they should
+/// A law: the switch of the inode btrees keeps what is known of reverse mappings where an old one that couldn't be read
+/// claims no block; where it claims one, mappings that held what they should don't
 /// (XFS Online Fsck Design, "Reaping After Repairing Ondisk Metadata").
 pub fn unread_inodes()
     ensures keeps { UnreadKeeps }
-    ensures ends { UnreadEnds }
+    ensures misses { UnreadMisses }
 {}
