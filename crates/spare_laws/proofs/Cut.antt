@@ -130,6 +130,14 @@ module _ (a z : State) (left : List Kind) (e : Entry) (fit : HasFitting a.geomet
   pub in_others : (h : ℕ) → (h == g) ≡ false → SameOwners x z h
   in_others h out = still x z h splits alike s.loosely.chains (s.loosely.others h (λ same. false≢true (sym out ∙ eq-eqb h g same)))
 
+  -- a block stands in trees, list and limbo as often
+  pub pool_cut : (b : ℕ) → times b (pool_of (z.group g)) ≡ times b (pool_of (x.group g))
+  pool_cut b = inside (edited_in a left e) s.loosely.inside
+    where
+      inside : (js : List Kind) → Inside a.geometry.inobtcount left js (x.group g) (z.group g) → times b (pool_of (z.group g)) ≡ times b (pool_of (x.group g))
+      inside [] m = ap (λ (p : Group). times b (pool_of p)) m
+      inside (j ∷ js) m = m.none_lost b
+
   -- where the trees that it edits are of the list's owner
   pub own_cut : list_all is_own (edited_kinds a e) ≡ true → AllDiffer (pool_of (x.group g)) → SameOwners x z g
   own_cut own once = inside (edited_in a left e) (filter_own (is_edited left (a.group g)) (edited_kinds a e) own) s.loosely.inside

@@ -14,7 +14,7 @@ use Rattle.fs_change.proofs.Sets.{has_set, of_has, same_is, same_self}
 use Rattle.fs_change.proofs.Settled.{in_settled}
 use Rattle.fs_change.specs.Chains.{owed_gifts, owed_takings, settled_forks, settled_own}
 use Rattle.fs_change.specs.Changes.{block_extent}
-use Rattle.fs_change.specs.Choice.{has_claim, in_spans, is_spare, spare_block}
+use Rattle.fs_change.specs.Choice.{has_claim, in_spans, is_guarded, is_spare, is_unowned, none_sick, space_kinds, spare_block}
 use Rattle.fs_change.specs.Laws.{fork_owners}
 use Rattle.fs_change.specs.Parts.{records_in, sick_in}
 use Rattle.fs_derive.specs.Chunks.{chunks}
@@ -76,16 +76,16 @@ claimed_block (c ∷ cs) t b h at = by (is_same t (tuple_of c)) refl h (λ k. cl
     by true e k more = ap (λ (z : Bool). z || has_claim cs b) (eq-eqb c.block b (ap (λ (u : Tuple). u.block) (sym (same_is t (tuple_of c) e)) ∙ at))
     by false e k more = or_right (c.block == b) (has_claim cs b) (more k)
 
+last_false : (p q r s : Bool) → (p && q && r && not s) ≡ true → s ≡ false
+last_false true true true true h = absurd (false≢true h)
+last_false p q r false h = refl
+last_false true true false true h = absurd (false≢true h)
+last_false true false r true h = absurd (false≢true h)
+last_false false q r true h = absurd (false≢true h)
+
 pub row_unclaimed : (a : State) (g b : ℕ) → is_spare a g units.Rmap b ≡ true → has_claim (claims a g) b ≡ false
 unfolding is_spare
 row_unclaimed a g b h = last_false (is_readable ((a.group g).tree Bno).reading) (not (sick_in (a.group g) Bno)) (in_spans (records_in (a.group g) Bno) b) (has_claim (claims a g) b) h
-  where
-    last_false : (p q r s : Bool) → (p && q && r && not s) ≡ true → s ≡ false
-    last_false true true true true h = absurd (false≢true h)
-    last_false p q r false h = refl
-    last_false true true false true h = absurd (false≢true h)
-    last_false true false r true h = absurd (false≢true h)
-    last_false false q r true h = absurd (false≢true h)
 
 no_claim : (a : State) (g b : ℕ) → has_claim (claims a g) b ≡ false → (t : Tuple) → t.block ≡ b → hasc (claims a g) t ≡ false
 no_claim a g b none t at = no_true (hasc (claims a g) t) (λ h. true≢false (sym (claimed_block (claims a g) t b h at) ∙ none))
@@ -223,7 +223,18 @@ no_chunk a g b none = no_true (is_chunk a g (b / 8)) (λ is.
     more : (f o r c : ℕ) → nat_lt 0 c ≡ true → nat_lt 0 (f + o + r + c) ≡ true
     more f o r c h = grind (arith, nat_tests)
 
--- nor has one of a block that no settled owner has
+-- nor has one of a block that metadata doesn't claim
+pub unclaimed_chunk : (a : State) (g b : ℕ) → has_claim (metadata_claims a g) b ≡ false → is_chunk a g (b / 8) ≡ false
+unclaimed_chunk a g b none = no_chunk a g b (λ t at. no_true (has_metadata a g t) (λ h. true≢false (sym (claimed_block (metadata_claims a g) t b h at) ∙ none)))
+
+pub row_unowned : (a : State) (g b : ℕ) → is_unowned a g b ≡ true → has_claim (metadata_claims a g) b ≡ false
+row_unowned a g b h = last_false (none_sick space_kinds (a.group g)) (in_spans (records_in (a.group g) Bno) b) (not (is_guarded (records_in (a.group g) Rmap) b 1)) (has_claim (metadata_claims a g) b) h
+
+pub beside_unowned : (a : State) (g b : ℕ) → (is_spare a g units.Inode b ≡ is_unowned a g b) × (is_spare a g units.Refc b ≡ is_unowned a g b)
+unfolding is_spare
+beside_unowned a g b = (refl, refl)
+
+-- or that no settled owner has
 pub nobodys_chunk : (a : State) (g b : ℕ) → IsNobodys a (block_extent g b) → is_chunk a g (b / 8) ≡ false
 nobodys_chunk a g b nobody = no_chunk a g b (λ t at. no_true (has_metadata a g t) (λ h.
     true≢false (sym (inside b t.block at) ∙ nobody t (settled_is a g t ∙ ap (λ (z : Bool). z || has (settled_forks a g) t) h))))

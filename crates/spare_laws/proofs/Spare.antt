@@ -55,10 +55,10 @@ use Rattle.run_edits.specs.EditLaws.{AreUntied}
 use Rattle.sblock.specs.declared.kind.Kind.{Kind}
 use Rattle.sblock.specs.declared.kind.Kind.TheVariants.{Rmap}
 use Rattle.tree_defs.specs.Lists.{AllDiffer, is_in, times}
-use Rattle.spare_laws.specs.Spare.{AreToldBut, IsUnnoted, SpareDecides, SpareNobodys, SpareTells, UnnotedElsewhere, UnnotedNobodys, UnnotedOwesNone, UnnotedOwns, UnnotedTells, UnnotedUnclaimed, is_noting, reserved_owner}
-use Rattle.spare_laws.proofs.Cut.{SameOwners, decided_forks, in_others, own_cut, reserve_own, same_own, told_same, turned_back}
+use Rattle.spare_laws.specs.Spare.{AreToldBut, IsUnnoted, SpareAgain, SpareDecides, SpareElsewhere, SpareNoChunk, SpareNobodys, SpareTells, UnnotedNobodys, UnnotedOwesNone, UnnotedOwns, UnnotedTells, UnnotedUnclaimed, is_noting, reserved_owner}
+use Rattle.spare_laws.proofs.Cut.{SameOwners, decided_forks, in_others, own_cut, pool_cut, reserve_own, same_own, told_same, turned_back}
 use Rattle.spare_laws.proofs.Elsewhere.{elsewhere_told}
-use Rattle.spare_laws.proofs.Noted.{has_next, no_chunk, no_owner, nobodys_chunk, owed_settled, row_unclaimed, sound_uncovered, told_reads, unclaimed_nobodys, unclaimed_parts, unowned}
+use Rattle.spare_laws.proofs.Noted.{beside_unowned, has_next, no_chunk, no_owner, nobodys_chunk, owed_settled, row_unclaimed, row_unowned, sound_uncovered, told_reads, unclaimed_chunk, unclaimed_nobodys, unclaimed_parts, unowned}
 
 abbrev pair : ℕ → ℕ → Owned
 pair owner b = record { block = b; owner = owner }
@@ -168,6 +168,24 @@ untied_with ts us n gains none untied t u c d = by (is_same t n) refl (is_same u
     by false e true f = inr (subst (λ (v : Tuple). (is_tuple_before t v ≡ true) ⊎ (is_tuple_before v t ≡ true)) (sym (same_is u n f)) (apart t n (none t (rest t c e))))
     by false e false f = untied t u (of_has ts t (rest t c e)) (of_has ts u (rest u d f))
 
+untied_same : (ts us : List Tuple) → ((t : Tuple) → has us t ≡ has ts t) → AreUntied ts → AreUntied us
+untied_same ts us same untied t u c d = untied t u (of_has ts t (sym (same t) ∙ has_of us t c)) (of_has ts u (sym (same u) ∙ has_of us u d))
+
+-- ---- any rebuild
+
+not_in_span : (b k : ℕ) → in_span b 1 k ≡ false → (k == b) ≡ false
+not_in_span b k h = grind (arith, nat_tests)
+
+pub spare_again : SpareAgain
+spare_again a z left g b unit fit s nobody untied once =
+    let e : Entry = entries.Reserved g unit b true in
+    let out : is_chunk a g (b / 8) ≡ false = nobodys_chunk a g b nobody in
+    let kept : AllDiffer (pool_of (s.decided.group g)) = pool_once a z left g b unit fit s out once in
+    let decided : AreUntied (settled_own s.decided g) = untied_with (settled_own a g) (settled_own s.decided g) (tuple_for (pair (unit_owner unit) b)) (gains a z left g b unit fit s out) (λ t h. not_in_span b t.block (nobody t h)) untied in (
+      untied_same (settled_own s.decided g) (settled_own z g) (same_own s.decided z g (own_cut a z left e fit s (reserve_own unit true) kept)) decided,
+      λ k. let same = pool_cut a z left e fit s k in let most = kept k in omega (arith, same, most),
+    )
+
 -- ---- a rebuild that isn't of reverse mappings
 
 gets_one : (unit : ScrubUnit) → is_noting unit ≡ true → gets_owner unit ≡ true
@@ -179,8 +197,14 @@ gets_one units.Rmap h = absurd (false≢true h)
 pub spare_nobodys : SpareNobodys
 spare_nobodys a x left g b unit notes row told = no_owner (settled_own a g) (mappings a g) b told (spare_uncovered a g unit b (gets_one unit notes) (is_found a g unit b row.0.2))
 
-not_in_span : (b k : ℕ) → in_span b 1 k ≡ false → (k == b) ≡ false
-not_in_span b k h = grind (arith, nat_tests)
+pub spare_no_chunk : SpareNoChunk
+spare_no_chunk a x left g b units.Inode row told = unclaimed_chunk a g b (row_unowned a g b (sym (beside_unowned a g b).0 ∙ is_found a g units.Inode b row.0.2))
+spare_no_chunk a x left g b units.Refc row told = unclaimed_chunk a g b (row_unowned a g b (sym (beside_unowned a g b).1 ∙ is_found a g units.Refc b row.0.2))
+spare_no_chunk a x left g b units.Free row told = nobodys_chunk a g b (spare_nobodys a x left g b units.Free refl row (told refl))
+spare_no_chunk a x left g b units.Rmap row told = no_chunk a g b (λ t at. (unclaimed_parts a g b (row_unclaimed a g b (is_found a g units.Rmap b row.0.2)) t at).0)
+
+pub spare_elsewhere : SpareElsewhere
+spare_elsewhere a z left g b h unit fit s told out there = elsewhere_told a z left (entries.Reserved g unit b true) h fit s (spare_no_chunk a s.decided left g b unit s.row told) out there
 
 not_sick : (a : State) (g b : ℕ) (unit : ScrubUnit) → is_noting unit ≡ true → is_spare a g unit b ≡ true → sick_in (a.group g) Rmap ≡ false
 unfolding is_spare
@@ -306,8 +330,8 @@ unnoted_owes_none a x left g b bs row sound out told t h = no_true (t.block == b
     ∙ not_in_span b t.block (no_owner (filter (λ v. not (is_in v.block bs)) (settled_own a g)) (mappings a g) b told (sound_uncovered a g b (is_found a g units.Rmap b row.0.2) sound) t kept)))
 
 module _ (a z : State) (left : List Kind) (g b : ℕ) (fit : HasFitting a.geometry) (s : Step a left (entries.Reserved g units.Rmap b true) z) where
-  pub rmap_chunk : is_chunk a g (b / 8) ≡ false
-  rmap_chunk = no_chunk a g b (λ t at. (unclaimed_parts a g b (row_unclaimed a g b (is_found a g units.Rmap b s.row.0.2)) t at).0)
+  rmap_chunk : is_chunk a g (b / 8) ≡ false
+  rmap_chunk = spare_no_chunk a s.decided left g b units.Rmap s.row (λ e. absurd (false≢true (ap is_noting e)))
 
   maps_stay : mappings s.decided g ≡ mappings a g
   maps_stay =
@@ -359,6 +383,3 @@ module _ (a z : State) (g b : ℕ) (bs : List ℕ) (u : IsUnnoted a z g b) (nobo
 
 pub unnoted_tells : UnnotedTells
 unnoted_tells a z left g b bs fit s once owes told = told_but a z g b bs (unnoted a z left g b fit s once) (unnoted_nobodys a s.decided left g b s.row owes) told
-
-pub unnoted_elsewhere : UnnotedElsewhere
-unnoted_elsewhere a z left g b h fit s out told = elsewhere_told a z left (entries.Reserved g units.Rmap b true) h fit s (rmap_chunk a z left g b fit s) out told

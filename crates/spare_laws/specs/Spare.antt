@@ -1,5 +1,5 @@
 -- Whose a spare block was that a rebuild reserves, and what mappings say behind it.
-use Rattle.std.specs.Prelude.{ℕ, Bool, ◌⊎◌, ◌≡◌, ◌||◌, ◌==◌, true, false, not, List, ◌∷◌, filter}
+use Rattle.std.specs.Prelude.{ℕ, Bool, ◌⊎◌, ◌/◌, ◌≡◌, ◌||◌, ◌==◌, true, false, not, List, ◌∷◌, filter}
 use Rattle.account_laws.specs.Ledger.{Sound}
 use Rattle.account_laws.specs.Stated.{ledger_at}
 use Rattle.fs_change.specs.Chains.{owed_takings, settled_forks, settled_own}
@@ -11,6 +11,7 @@ use Rattle.fs_derive.specs.Own.{own}
 use Rattle.fs_model.specs.declared.entry.Entry.TheVariants as entries
 use Rattle.fs_model.specs.declared.unit.Unit.{Unit as ScrubUnit}
 use Rattle.fs_model.specs.declared.unit.Unit.TheVariants as units
+use Rattle.fs_state.specs.Apart.{is_chunk}
 use Rattle.fs_state.specs.Group.{is_among}
 use Rattle.fs_state.specs.State.{State}
 use Rattle.geom.specs.Apart.{HasFitting}
@@ -53,6 +54,26 @@ SpareTells = (a z : State) (left : List Kind) (g b h : ℕ) (unit : ScrubUnit) �
     → HasFitting a.geometry → Step a left (entries.Reserved g unit b true) z
     → (unit ≡ units.Free) ⊎ (is_among Rmap left ≡ false) → AreUntied (settled_own a g) → AllDiffer (pool_of (a.group g))
     → AreTold a g → AreTold a h → AreTold z h
+
+-- ---- any rebuild
+
+-- its spare block is of no chunk, where free space is rebuilt by mappings that tell settled owners
+abbrev pub SpareNoChunk : Type 0
+SpareNoChunk = (a x : State) (left : List Kind) (g b : ℕ) (unit : ScrubUnit)
+    → Row a left (entries.Reserved g unit b true) x → (unit ≡ units.Free → AreTold a g) → is_chunk a g (b / 8) ≡ false
+
+-- so mappings of other groups tell what they told
+abbrev pub SpareElsewhere : Type 0
+SpareElsewhere = (a z : State) (left : List Kind) (g b h : ℕ) (unit : ScrubUnit) → HasFitting a.geometry
+    → Step a left (entries.Reserved g unit b true) z → (unit ≡ units.Free → AreTold a g) → (h == g) ≡ false
+    → AreTold a h → AreTold z h
+
+-- behind one that was nobody's no two settled owners differ in the unwritten flag alone, and no block stands twice, where it
+-- was so before
+abbrev pub SpareAgain : Type 0
+SpareAgain = (a z : State) (left : List Kind) (g b : ℕ) (unit : ScrubUnit) → HasFitting a.geometry
+    → Step a left (entries.Reserved g unit b true) z → IsNobodys a (block_extent g b) → AreUntied (settled_own a g)
+    → AllDiffer (pool_of (a.group g)) → AreUntied (settled_own z g) × AllDiffer (pool_of (z.group g))
 
 -- ---- a rebuild of reverse mappings
 
@@ -100,8 +121,3 @@ abbrev pub UnnotedTells : Type 0
 UnnotedTells = (a z : State) (left : List Kind) (g b : ℕ) (bs : List ℕ) → HasFitting a.geometry
     → Step a left (entries.Reserved g units.Rmap b true) z → AllDiffer (pool_of (a.group g)) → OwesNoTaking a g b
     → AreToldBut a g bs → AreToldBut z g (b ∷ bs)
-
--- and those of other groups tell what they told
-abbrev pub UnnotedElsewhere : Type 0
-UnnotedElsewhere = (a z : State) (left : List Kind) (g b h : ℕ) → HasFitting a.geometry
-    → Step a left (entries.Reserved g units.Rmap b true) z → (h == g) ≡ false → AreTold a h → AreTold z h

@@ -14,10 +14,12 @@ ghost use Rattle.spare_laws.specs.Behind.{
 ghost use Rattle.spare_laws.specs.Cut.{CutTold, ElsewhereTold, SoundOnce};
 ghost use Rattle.spare_laws.specs.Held.{ChunkHolds, ConvertedHolds, MappedHolds, OthersHold, SharedHolds, UnmappedHolds};
 ghost use Rattle.spare_laws.specs.Spare.{
+  SpareAgain,
   SpareDecides,
+  SpareElsewhere,
+  SpareNoChunk,
   SpareNobodys,
   SpareTells,
-  UnnotedElsewhere,
   UnnotedNobodys,
   UnnotedOwesNone,
   UnnotedOwns,
@@ -36,6 +38,14 @@ pub fn spare_stays_told()
     ensures behind { SpareTells }
 {}
 
+/// A law: a spare block of any rebuild is of no chunk, other groups' mappings tell what they told, and what is asked of the
+/// group holds again (XFS Online Fsck Design, "Reserving New B+Tree Blocks").
+pub fn spare_leaves_others()
+    ensures no_chunk { SpareNoChunk }
+    ensures elsewhere { SpareElsewhere }
+    ensures again { SpareAgain }
+{}
+
 /// A law: one that a rebuild of reverse mappings reserves was nobody's too, and mappings tell the settled owners of all
 /// blocks but these (XFS Online Fsck Design, "Case Study: Rebuilding Reverse Mapping Records").
 pub fn unnoted_spare()
@@ -44,7 +54,6 @@ pub fn unnoted_spare()
     ensures owes_none { UnnotedOwesNone }
     ensures owns { UnnotedOwns }
     ensures tells { UnnotedTells }
-    ensures elsewhere { UnnotedElsewhere }
 {}
 
 /// A law: behind first events, steps of chains and what changes trust, mappings that told settled owners tell them,

@@ -4,6 +4,6 @@
 mod laws;
 
 pub use laws::{
-    holders_stay_behind, lists_told_behind, owners_told_behind, spare_stays_told, unnoted_spare,
-    unread_inodes,
+    holders_stay_behind, lists_told_behind, owners_told_behind, spare_leaves_others,
+    spare_stays_told, unnoted_spare, unread_inodes,
 };

@@ -1,4 +1,4 @@
-use Rattle.spare_laws.proofs.Spare.{unnoted_elsewhere, unnoted_nobodys, unnoted_owes_none, unnoted_owns, unnoted_tells, unnoted_unclaimed}
+use Rattle.spare_laws.proofs.Spare.{unnoted_nobodys, unnoted_owes_none, unnoted_owns, unnoted_tells, unnoted_unclaimed}
 use Rattle.spare_laws.proofs.laws.unnoted_spare.Goals as goal
 
 pub returns-clause-unclaimed : goal.returns-clause-unclaimed
@@ -15,6 +15,3 @@ returns-clause-owns c = unnoted_owns
 
 pub returns-clause-tells : goal.returns-clause-tells
 returns-clause-tells c = unnoted_tells
-
-pub returns-clause-elsewhere : goal.returns-clause-elsewhere
-returns-clause-elsewhere c = unnoted_elsewhere
