@@ -2,6 +2,6 @@ pub mod Behind
 pub mod Cut
 pub mod Elsewhere
 pub mod Held
-pub mod Noted
 pub mod Spare
 pub mod Unread
+pub mod Whose

@@ -58,7 +58,7 @@ use Rattle.tree_defs.specs.Lists.{AllDiffer, is_in, times}
 use Rattle.spare_laws.specs.Spare.{AreToldBut, IsUnnoted, SpareAgain, SpareDecides, SpareElsewhere, SpareNoChunk, SpareNobodys, SpareTells, UnnotedNobodys, UnnotedOwesNone, UnnotedOwns, UnnotedTells, UnnotedUnclaimed, is_noting, reserved_owner}
 use Rattle.spare_laws.proofs.Cut.{SameOwners, decided_forks, in_others, own_cut, pool_cut, reserve_own, same_own, told_same, turned_back}
 use Rattle.spare_laws.proofs.Elsewhere.{elsewhere_told}
-use Rattle.spare_laws.proofs.Noted.{beside_unowned, has_next, no_chunk, no_owner, nobodys_chunk, owed_settled, row_unclaimed, row_unowned, sound_uncovered, told_reads, unclaimed_chunk, unclaimed_nobodys, unclaimed_parts, unowned}
+use Rattle.spare_laws.proofs.Whose.{beside_unowned, has_next, no_chunk, no_owner, nobodys_chunk, owed_settled, row_unclaimed, row_unowned, sound_uncovered, told_written, unclaimed_chunk, unclaimed_nobodys, unclaimed_parts, unowned}
 
 abbrev pair : ℕ → ℕ → Owned
 pair owner b = record { block = b; owner = owner }
@@ -222,11 +222,11 @@ not_left [] h = refl
 not_left (k ∷ ks) h = absurd (false≢true h)
 
 -- the mappings of a group, written once more
-module _ (left : List Kind) (g b : ℕ) (p : Group) (sick : sick_in p Rmap ≡ false) (kept : is_among Rmap left ≡ false) (readable : is_readable (p.tree Rmap).reading ≡ true) where
+module _ (left : List Kind) (g b : ℕ) (p : Group) (w : IsWritten left p) where
   written : (q : Group) → q.tree Rmap ≡ p.tree Rmap → IsWritten left q
   written q same = record {
-    edited = ap₂ (λ (y w : Bool). if y then false else if w then false else true) (ap (λ (t : Index (RecOf Rmap)). is_sick t.trust) same ∙ sick) kept;
-    readable = ap (λ (t : Index (RecOf Rmap)). is_readable t.reading) same ∙ readable;
+    edited = ap (λ (t : Index (RecOf Rmap)). if is_sick t.trust then false else if is_among Rmap left then false else true) same ∙ w.edited;
+    readable = ap (λ (t : Index (RecOf Rmap)). is_readable t.reading) same ∙ w.readable;
   }
 
   given : (owner : ℕ) (q : Group) → q.tree Rmap ≡ p.tree Rmap → records_in (give_owner left owner (block_extent g b) q) Rmap ≡ give_each (pair owner b ∷ []) (records_in p Rmap)
@@ -264,7 +264,7 @@ module _ (a z : State) (left : List Kind) (g b : ℕ) (unit : ScrubUnit) (notes 
   ]
 
   maps : mappings s.decided g ≡ give_each (new_owner ∷ []) (mappings a g)
-  maps = maps_by a z left g b unit fit s spare_chunk ∙ noted_maps left g b (a.group g) (not_sick a g b unit notes (is_found a g unit b s.row.0.2)) kept_by (told_reads a g told) unit notes
+  maps = maps_by a z left g b unit fit s spare_chunk ∙ noted_maps left g b (a.group g) (told_written a left g told (not_sick a g b unit notes (is_found a g unit b s.row.0.2)) kept_by) unit notes
 
   pub noted : AreTold s.decided g
   noted =

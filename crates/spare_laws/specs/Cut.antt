@@ -3,6 +3,7 @@ use Rattle.std.specs.Prelude.{ℕ, ◌≡◌, ◌==◌, ◌<◌, false, List}
 use Rattle.account_laws.specs.Firsts.{run_shared}
 use Rattle.account_laws.specs.Ledger.{Sound}
 use Rattle.account_laws.specs.Stated.{ledger_at}
+use Rattle.account_laws.specs.Steps.{IsWritten}
 use Rattle.change_laws.specs.Chunks.{LeavesChunks}
 use Rattle.change_laws.specs.Forks.{IsRunAt, IsSound}
 use Rattle.change_laws.specs.Settled.{LeavesOwners}
@@ -10,14 +11,17 @@ use Rattle.cut_laws.specs.Told.{MayMove}
 use Rattle.fs_change.specs.Chains.{most_chains}
 use Rattle.fs_change.specs.Changes.{extent_of}
 use Rattle.fs_change.specs.Loose.{pool_of}
+use Rattle.fs_change.specs.Parts.{sick_in}
 use Rattle.fs_change.specs.Step.{Step, group_of_entry, group_of_inode}
 use Rattle.fs_model.specs.declared.entry.Entry.{Entry}
 use Rattle.fs_model.specs.declared.entry.Entry.TheVariants as entries
 use Rattle.fs_model.specs.declared.unit.Unit.TheVariants as units
+use Rattle.fs_state.specs.Group.{is_among}
 use Rattle.fs_state.specs.State.{State}
 use Rattle.geom.specs.Apart.{HasFitting}
 use Rattle.owner_laws.specs.Told.{AreTold}
 use Rattle.sblock.specs.declared.kind.Kind.{Kind}
+use Rattle.sblock.specs.declared.kind.Kind.TheVariants.{Rmap}
 use Rattle.tree_defs.specs.Lists.{AllDiffer}
 
 -- What is asked where an entry's trees are cut anew? Where all that it edits have the list's owner, that no block of trees,
@@ -45,6 +49,11 @@ CutTold = (a z : State) (left : List Kind) (e : Entry) (h : ℕ) → HasFitting 
 -- no block stands there twice where each is sound
 abbrev pub SoundOnce : Type 0
 SoundOnce = (x : State) (g : ℕ) → ((b : ℕ) → Sound (ledger_at x g b)) → AllDiffer (pool_of (x.group g))
+
+-- mappings that tell settled owners, aren't sick and aren't left can be edited: heads have a block, so they can be read
+abbrev pub ToldWritten : Type 0
+ToldWritten = (a : State) (left : List Kind) (g : ℕ) → AreTold a g → sick_in (a.group g) Rmap ≡ false
+    → is_among Rmap left ≡ false → IsWritten left (a.group g)
 
 -- What is asked of an entry elsewhere? Of a first event that the forks which it changes are in order and its run lies in a
 -- group; of a finished step that its chain is one, and of an owner that chunks don't have; of others that chunks stay, but

@@ -11,7 +11,7 @@ ghost use Rattle.spare_laws.specs.Behind.{
   TrimmedTells,
   UnmappedTells,
 };
-ghost use Rattle.spare_laws.specs.Cut.{CutTold, ElsewhereTold, SoundOnce};
+ghost use Rattle.spare_laws.specs.Cut.{CutTold, ElsewhereTold, SoundOnce, ToldWritten};
 ghost use Rattle.spare_laws.specs.Held.{ChunkHolds, ConvertedHolds, MappedHolds, OthersHold, SharedHolds, UnmappedHolds};
 ghost use Rattle.spare_laws.specs.Spare.{
   SpareAgain,
@@ -68,6 +68,7 @@ pub fn owners_told_behind()
     ensures finished { FinishedTells }
     ensures cut { CutTold }
     ensures once { SoundOnce }
+    ensures written { ToldWritten }
     ensures elsewhere { ElsewhereTold }
 {}
 

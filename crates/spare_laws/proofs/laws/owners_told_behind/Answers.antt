@@ -1,6 +1,7 @@
 use Rattle.spare_laws.proofs.Behind.{converted_tells, finished_tells, mapped_tells, others_tell, shared_tells, unmapped_tells}
 use Rattle.spare_laws.proofs.Cut.{cut_told, sound_once}
 use Rattle.spare_laws.proofs.Elsewhere.{elsewhere_told}
+use Rattle.spare_laws.proofs.Whose.{told_written}
 use Rattle.spare_laws.proofs.laws.owners_told_behind.Goals as goal
 
 pub returns-clause-mapped : goal.returns-clause-mapped
@@ -26,6 +27,9 @@ returns-clause-cut c = cut_told
 
 pub returns-clause-once : goal.returns-clause-once
 returns-clause-once c = sound_once
+
+pub returns-clause-written : goal.returns-clause-written
+returns-clause-written c = told_written
 
 pub returns-clause-elsewhere : goal.returns-clause-elsewhere
 returns-clause-elsewhere c = elsewhere_told

@@ -43,6 +43,7 @@ use Rattle.rmap_recs.specs.declared.records.RmapRec.{RmapRec}
 use Rattle.rmap_recs.specs.declared.tuples.Tuple.{Tuple}
 use Rattle.sblock.specs.declared.kind.Kind.TheVariants.{Bno, Rmap}
 use Rattle.span_recs.specs.declared.span.SpanRec.{SpanRec}
+use Rattle.spare_laws.specs.Cut.{ToldWritten}
 use Rattle.spare_laws.specs.Spare.{OwesNoTaking}
 
 -- a tuple of a block that stands in its run of one
@@ -278,5 +279,11 @@ read_by : (r : Reading RmapRec) (rec : RmapRec) → Contains (recs_of r) rec →
 read_by (Readable recs blocks) rec c = refl
 read_by (Unreadable block fault held) rec c = absurd (nothing_in rec c)
 
-pub told_reads : (a : State) (g : ℕ) → AreTold a g → is_readable ((a.group g).tree Rmap).reading ≡ true
+told_reads : (a : State) (g : ℕ) → AreTold a g → is_readable ((a.group g).tree Rmap).reading ≡ true
 told_reads a g told = let hit = told.all heads_tuple (of_has (settled_own a g) heads_tuple (heads_owned a g)) in read_by ((a.group g).tree Rmap).reading hit.0 hit.2
+
+pub told_written : ToldWritten
+told_written a left g told sick kept = record {
+  edited = ap₂ (λ (y w : Bool). if y then false else if w then false else true) sick kept;
+  readable = told_reads a g told;
+}
