@@ -25,7 +25,7 @@ image_closed (Ok x) ps gate old mid new homes closed =
 image_closed (Err e) ps gate old mid new homes closed = tt
 
 -- a batch fault that isn't TooMany
-pub only_failed : (fault : BatchFault) (P : Type 0) → ((n : ℕ) → IsErrOf {T = Unit {0}} (Err fault) (TooMany n) → ⊥) → (IsErrOf {T = Unit {0}} (Err fault) Failed → P) → P
+only_failed : (fault : BatchFault) (P : Type 0) → ((n : ℕ) → IsErrOf {T = Unit {0}} (Err fault) (TooMany n) → ⊥) → (IsErrOf {T = Unit {0}} (Err fault) Failed → P) → P
 only_failed (TooMany n) P few failed = absurd (few n refl)
 only_failed Failed P few failed = failed refl
 
