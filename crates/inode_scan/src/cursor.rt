@@ -90,11 +90,11 @@ fn next_in_tree<D: Device, L: Ledger>(
     let Some(from) = start_in(at, first, end) else {
         return Ok(None);
     };
-    match next_in_group::<D, L>(dev, cache, geo, tree, from, end, steps) {
-        Ok(None) => Ok(None),
-        Ok(Some(number)) => Ok(Some(first + u64::from(number))),
-        Err(fault) => Err(fault),
-    }
+    let found = next_in_group::<D, L>(dev, cache, geo, tree, from, end, steps)?;
+    let Some(number) = found else {
+        return Ok(None);
+    };
+    Ok(Some(first + u64::from(number)))
 }
 
 impl Cursor {

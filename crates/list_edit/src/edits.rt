@@ -25,10 +25,8 @@ fn insert<K: RecKind>(list: &mut Vec<K::Rec>, rec: &K::Rec) -> Result<(), ListFa
         return Err(ListFault::Overlap);
     }
     let place = place_for::<K>(list, rec);
-    match list.insert(place, *rec) {
-        Ok(()) => Ok(()),
-        Err(_) => Err(ListFault::Memory),
-    }
+    list.insert(place, *rec)?;
+    Ok(())
 }
 
 // Takes out the record that is this one.

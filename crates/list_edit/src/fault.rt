@@ -1,3 +1,6 @@
+ghost use Rattle.std.specs.Prelude.{◌≡◌};
+
+use std::alloc::AllocFailed;
 use thiserror::Error;
 
 /// Why a list isn't edited: it lacks the record that is to be taken out, or one with the key of the
@@ -11,4 +14,14 @@ pub enum ListFault {
     Overlap,
     #[error("memory")]
     Memory,
+}
+
+impl<T: Drop> From<AllocFailed<T>> for ListFault {
+    ghost use Rattle.list_edit.specs.declared.fault.ListFault.TheVariants.{Memory};
+
+    ghost from_gives = { λ _ e. e ≡ Memory };
+
+    fn from(_e: AllocFailed<T>) -> Self {
+        ListFault::Memory
+    }
 }

@@ -1,5 +1,5 @@
 -- A block that gets into a transaction.
-use Rattle.std.proofs.Common.{◌≡◌, ◌≤◌, ◌<◌, ◌+◌, Bool, true, false, ℕ, suc, ◌&&◌, List, length, refl, sym, ◌∙◌, ap, subst, arith, Option, Some, None, Result, Ok, Err, IfOk, IfErr, IsErrOf}
+use Rattle.std.proofs.Common.{◌≡◌, ◌≤◌, ◌<◌, ◌+◌, Bool, true, false, ℕ, ◌&&◌, List, length, refl, sym, ◌∙◌, ap, subst, arith, Option, None, Result, Ok, Err, IfOk, IfErr, IsErrOf}
 use Rattle.std.specs.Prelude.{◌↔◌, nat_lt, is_some, not, MatchOption}
 use Rattle.std.proofs.lemmas.Bool.Decides.{nat_tests}
 use Rattle.blk_device.specs.Contents.{Contents, Holds}
@@ -7,9 +7,9 @@ use Rattle.blk_device.specs.declared.device.Region.TheVariants.{Image}
 use Rattle.redo_area.specs.Area.{Batch}
 use Rattle.meta_txn.specs.declared.fault.TxnFault.{TxnFault}
 use Rattle.meta_txn.specs.declared.fault.TxnFault.TheVariants.{TooMany, Failed}
-use Rattle.meta_txn.specs.Entering.{IsAbsent, IsEntered, IsFound, IsReadIn}
-use Rattle.meta_txn.specs.Joined.{Joined, bytes_at, reads_block, with_block, Finds, WouldBe}
-use Rattle.meta_txn.specs.Places.{place, is_there, bytes_in, set_bytes}
+use Rattle.meta_txn.specs.Entering.{IsEntered, IsFound, IsReadIn}
+use Rattle.meta_txn.specs.Joined.{Joined, bytes_at, reads_block, with_block, WouldBe}
+use Rattle.meta_txn.specs.Places.{bytes_in, set_bytes}
 use Rattle.meta_txn.proofs.ListLemmas.{bytes_after, place_after, place_inside, set_after, set_joined}
 
 -- no answer but TooMany is one

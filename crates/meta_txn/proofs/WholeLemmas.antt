@@ -1,7 +1,8 @@
 -- How the steps of a batch that is written whole go on.
-use Rattle.std.proofs.Common.{◌≡◌, ◌<◌, refl, ℕ, Bool, true, List, [], ◌∷◌, length, nat_eq, arith, eqb-true, Option, Some, None, IfSome, Result, Ok, Err, OnOk, IsErrOf, subst, sym, ◌∙◌, ap}
+use Rattle.std.proofs.Common.{◌≡◌, ◌<◌, ◌≤◌, refl, ℕ, Bool, true, List, [], ◌∷◌, length, nat_eq, arith, eqb-true, Option, Some, None, IfSome, Result, Ok, Err, is_ok, OnOk, IsErrOf, subst, sym, ◌∙◌, ap}
 use Rattle.blk_cache.specs.Cache.{kept, Agrees}
 use Rattle.blk_cache.specs.declared.cache.BlkCache.{BlkCache}
+use Rattle.blk_device.specs.Causes.{HasCause, Rose, any_error}
 use Rattle.blk_device.specs.Contents.{Contents, map_told, put, Becomes}
 use Rattle.blk_device.specs.Crash.{LeavesOnly}
 use Rattle.blk_device.specs.declared.device.Region.TheVariants.{Image, Redo}
@@ -24,9 +25,24 @@ image_closed (Ok x) ps gate old mid new homes closed =
 image_closed (Err e) ps gate old mid new homes closed = tt
 
 -- a batch fault that isn't TooMany
-pub only_failed : (fault : BatchFault) (P : Type 0) → ((n : ℕ) → IsErrOf {T = Unit {0}} (Err fault) (TooMany n) → ⊥) → (IsErrOf {T = Unit {0}} (Err fault) Failed → P) → P
+only_failed : (fault : BatchFault) (P : Type 0) → ((n : ℕ) → IsErrOf {T = Unit {0}} (Err fault) (TooMany n) → ⊥) → (IsErrOf {T = Unit {0}} (Err fault) Failed → P) → P
 only_failed (TooMany n) P few failed = absurd (few n refl)
 only_failed Failed P few failed = failed refl
+
+-- what holds on Ok, where another fault stands in for the fault
+pub ok_as : {T E F : Type 0} (result : Result T E) (told : Result T F) (P : Type 0) → is_ok told ≡ is_ok result → OnOk result P → OnOk told P
+ok_as (Ok x) (Ok y) P same holds = holds
+ok_as (Ok x) (Err e) P same holds = tt
+ok_as (Err fault) (Ok y) P same holds = cc
+ok_as (Err fault) (Err e) P same holds = tt
+
+-- a batch that isn't too large is refused by the device alone
+pub by_device : {F : Type 0} (result : Result (Unit {0}) BatchFault) (told : Result (Unit {0}) F) (before now : ℕ) → is_ok told ≡ is_ok result → ((n : ℕ) → IsErrOf result (TooMany n) → ⊥)
+    → (IsErrOf result Failed → Rose before now) → OnOk result (now ≡ before) → before ≤ now → HasCause any_error before now told
+by_device (Ok x) (Ok y) before now same few failed calm later = calm
+by_device (Ok x) (Err e) before now same few failed calm later = cc
+by_device (Err fault) (Ok y) before now same few failed calm later = cc
+by_device (Err fault) (Err e) before now same few failed calm later = (later, only_failed fault (Rose before now) few failed)
 
 -- a cache agrees with the image alone
 same_image : (cache : BlkCache) (c d : Contents) → c Image ≡ d Image → Agrees cache c → Agrees cache d

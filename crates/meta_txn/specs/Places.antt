@@ -1,5 +1,5 @@
 -- Places in the list of joined blocks, counted from 0.
-use Rattle.std.specs.Prelude.{ℕ, zero, suc, nat_lt, ◌==◌, Bool, true, false, if◌then◌else◌, List, [], ◌∷◌, Result, Ok, Err}
+use Rattle.std.specs.Prelude.{ℕ, zero, suc, nat_lt, ◌==◌, Bool, false, if◌then◌else◌, List, [], ◌∷◌, Result, Ok, Err}
 use Rattle.redo_area.specs.Area.{Batch}
 
 -- the place of this number, which so many lower numbers come before

@@ -235,10 +235,8 @@ impl Txn {
         ensures later { D.faults dev.old ≤ D.faults dev.new }
         ensures agrees { AgreesTold cache.new (D.content dev.new) }
     {
-        match self.enter(dev, cache, at, steps) {
-            Ok(i) => Ok(self.block_in(i)),
-            Err(fault) => Err(fault),
-        }
+        let i = self.enter(dev, cache, at, steps)?;
+        Ok(self.block_in(i))
     }
 
     /// Writes the joined blocks as one batch, and tells the cache. Where no batch waits and all

@@ -77,10 +77,8 @@ fn prepared<D: Device>(dev: &mut D, batch: &[(u64, Block)]) -> Result<(), Device
     ensures cause { HasCause any_error (D.faults dev.old) (D.faults dev.new) result }
     ensures reads { D.reads dev.new ≡ D.reads dev.old }
 {
-    match prepare(dev, batch) {
-        Ok(()) => Ok(()),
-        Err(_) => Err(DeviceFailed),
-    }
+    // A batch of so few blocks is refused only where the device failed.
+    prepare(dev, batch).map_err(|_| DeviceFailed)
 }
 
 /// Writes a batch of 1 to 160 blocks whose numbers rise and count blocks of the image. Where no

@@ -1,5 +1,5 @@
 -- What a reading through a cache is to the device, the cache and the steps.
-use Rattle.std.specs.Prelude.{◌≡◌, ℕ, ◌+◌, List, Option, Some, None}
+use Rattle.std.specs.Prelude.{◌≡◌, ℕ, List, Option, Some, None}
 use Rattle.std.specs.Borrow.{MutBor}
 use Rattle.byte_fields.specs.Steps.{StepCount}
 use Rattle.blk_device.specs.Contents.{Contents}

@@ -1,5 +1,5 @@
 -- One reading through a cache after the other.
-use Rattle.std.proofs.Common.{◌≡◌, ◌≤◌, ℕ, refl, ◌∙◌}
+use Rattle.std.proofs.Common.{◌≤◌, ℕ, refl, ◌∙◌}
 use Rattle.std.specs.Borrow.{MutBor}
 use Rattle.byte_fields.specs.Steps.{StepCount}
 use Rattle.blk_device.specs.Contents.{Contents}

@@ -14,10 +14,8 @@ pub fn put_block(list: &mut Vec<u32>, block: u32) -> Result<(), WalkFault>
     ensures exact { OnOk result ((b : ℕ) → lists list.new.items b ≡ (lists list.old.items b || (b == block))) }
     ensures memory { IfErr result IsMemory }
 {
-    match list.push(block) {
-        Ok(()) => Ok(()),
-        Err(_) => Err(WalkFault::Memory),
-    }
+    list.push(block)?;
+    Ok(())
 }
 
 /// The set of no block.
@@ -25,10 +23,7 @@ pub fn empty_set(alloc: Global) -> Result<RunSet, WalkFault>
     ensures empty { IfOk result (λ set. (b : ℕ) → has set b ≡ false) }
     ensures memory { IfErr result IsMemory }
 {
-    match RunSet::new(alloc) {
-        Ok(set) => Ok(set),
-        Err(_) => Err(WalkFault::Memory),
-    }
+    RunSet::new(alloc).map_err(|_| WalkFault::Memory)
 }
 
 // Puts one block into a set.
@@ -41,10 +36,7 @@ fn add_block(alloc: Global, set: &mut RunSet, block: u32) -> Result<(), WalkFaul
         start: block,
         count: 1,
     };
-    match set.add(alloc, run) {
-        Ok(()) => Ok(()),
-        Err(_) => Err(WalkFault::Memory),
-    }
+    set.add(alloc, run).map_err(|_| WalkFault::Memory)
 }
 
 /// The set of one block.
@@ -54,10 +46,8 @@ pub fn one_block(alloc: Global, block: u32) -> Result<RunSet, WalkFault>
     ensures memory { IfErr result IsMemory }
 {
     let mut set = empty_set(alloc)?;
-    match add_block(alloc, &mut set, block) {
-        Ok(()) => Ok(set),
-        Err(fault) => Err(fault),
-    }
+    add_block(alloc, &mut set, block)?;
+    Ok(set)
 }
 
 // The blocks that are in one of the two sets.
@@ -65,10 +55,7 @@ fn joined(alloc: Global, front: &RunSet, rest: &RunSet) -> Result<RunSet, WalkFa
     ensures exact { IfOk result (λ set. (b : ℕ) → has set b ≡ (has front.now b || has rest.now b)) }
     ensures memory { IfErr result IsMemory }
 {
-    match front.union(alloc, rest) {
-        Ok(set) => Ok(set),
-        Err(_) => Err(WalkFault::Memory),
-    }
+    front.union(alloc, rest).map_err(|_| WalkFault::Memory)
 }
 
 /// The set of the blocks of a list, in whatever order and however often they stand in it: the sets

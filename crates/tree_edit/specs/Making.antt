@@ -3,15 +3,25 @@ use Rattle.std.specs.Prelude.{◌≡◌, ⊤, ℕ, ◌≤◌, ◌+◌, List, ◌
 use Rattle.byte_fields.specs.Steps.{StepCount}
 use Rattle.sblock.specs.Blocks.{AreBlocks}
 use Rattle.sblock.specs.Form.{Form}
+use Rattle.sblock.specs.declared.block.BlockFault.TheVariants.{Sibling}
 use Rattle.sblock.specs.declared.kind.Kind.{Kind}
 use Rattle.tree_defs.specs.Lists.{AllDiffer}
 use Rattle.tree_defs.specs.declared.site.Site.{Site}
 use Rattle.edit_blocks.specs.Choice.{chosen, need_of}
+use Rattle.load_trees.specs.declared.unfit.Unfit.{Unfit}
+use Rattle.load_trees.specs.declared.unfit.Unfit.TheVariants as unfit
 use Rattle.tree_edit.specs.Anew.{root_of, AreChosen, IsMade}
 use Rattle.tree_edit.specs.Plans.{HasSize, RefusesBlocks}
 use Rattle.tree_edit.specs.declared.fault.EditFault.{EditFault}
 use Rattle.tree_edit.specs.declared.fault.EditFault.TheVariants.{Bad, Missing, Overlap, Short, TooLarge, Failed, Memory}
 use Rattle.tree_edit.specs.declared.make.Made.{Made}
+
+-- why blocks aren't laid, as an edit tells it: what isn't want of memory is a bad root
+abbrev pub laid_as : ℕ → Unfit → EditFault
+laid_as root unfit.Order = Bad root Sibling
+laid_as root unfit.Range = Bad root Sibling
+laid_as root unfit.Blocks = Bad root Sibling
+laid_as root unfit.Memory = Memory
 
 -- each of these is a block of the group behind its block 0, and none stands twice
 abbrev pub AreApart : ℕ → List ℕ → Type 0

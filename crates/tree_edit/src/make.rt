@@ -6,7 +6,7 @@ ghost use Rattle.sblock.specs.Blocks.{IsRising, AllInside};
 ghost use Rattle.edit_blocks.specs.Choice.{freed};
 ghost use Rattle.tree_edit.specs.Anew.{root_of, IsMade};
 ghost use Rattle.tree_edit.specs.Device.{OnlyWrites};
-ghost use Rattle.tree_edit.specs.Making.{IsReady, RefusesLaying, RefusesMaking, CountsLaying};
+ghost use Rattle.tree_edit.specs.Making.{IsReady, RefusesLaying, RefusesMaking, CountsLaying, laid_as};
 
 use crate::fault::EditFault;
 use crate::plan::plan_blocks;
@@ -32,6 +32,19 @@ pub(crate) struct Made {
     pub need: u32,
 }
 
+// What isn't want of memory is told as a bad root.
+fn laying_fault(unfit: Unfit, root: u32) -> EditFault
+    ensures { result ≡ laid_as root unfit }
+{
+    match unfit {
+        Unfit::Memory => EditFault::Memory,
+        Unfit::Order | Unfit::Range | Unfit::Blocks => EditFault::Bad {
+            block: root,
+            fault: BlockFault::Sibling,
+        },
+    }
+}
+
 // The blocks of a tree of these records. A block that stands twice among the tree's and the list's, or
 // that is no tree's, is told as a bad root.
 fn lay<K: RecKind, L: Ledger>(
@@ -53,14 +66,8 @@ fn lay<K: RecKind, L: Ledger>(
     ensures refused { IfErr result (RefusesLaying site.now.bounds.length claimed.now) }
     ensures unlaid { IfErr result (CountsLaying K.form.kind (length recs.now) steps.old steps.new) }
 {
-    match load_tree::<K, L>(alloc, recs, site, tree.lsn, claimed, steps) {
-        Ok(placed) => Ok(placed),
-        Err(Unfit::Memory) => Err(EditFault::Memory),
-        Err(_) => Err(EditFault::Bad {
-            block: tree.root,
-            fault: BlockFault::Sibling,
-        }),
-    }
+    let laid = load_tree::<K, L>(alloc, recs, site, tree.lsn, claimed, steps);
+    laid.map_err(|unfit| laying_fault(unfit, tree.root))
 }
 
 // The tree's blocks behind the first so many.

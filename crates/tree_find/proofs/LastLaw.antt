@@ -1,12 +1,12 @@
 -- Of a readable tree the last record is found.
-use Rattle.std.proofs.Common.{◌≡◌, ℕ, zero, suc, ◌+◌, ◌-◌, ◌<◌, ◌≤◌, Bool, true, false, List, [], ◌∷◌, ◌++◌, Option, None, Some, Result, Ok, Err, refl, sym, subst, ◌∙◌, ap, arith}
+use Rattle.std.proofs.Common.{◌≡◌, ℕ, zero, suc, ◌-◌, ◌<◌, ◌≤◌, Bool, true, false, List, [], ◌∷◌, ◌++◌, Option, None, Result, Ok, refl, sym, ◌∙◌, ap, arith}
 use Rattle.std.proofs.lemmas.List.{append-nil}
 use Rattle.sblock.specs.Area.{area_of, child_of}
 use Rattle.sblock.specs.Blocks.{numrecs}
 use Rattle.sblock.specs.Form.{Form, IsLawful}
 use Rattle.sblock.specs.Lists.{items_from}
-use Rattle.tree_defs.specs.Levels.{over, AllEntries, recs_of, IsSound, IsTree}
-use Rattle.tree_defs.specs.Tree.{entries_from, top_of}
+use Rattle.tree_defs.specs.Levels.{over, recs_of, IsSound, IsTree}
+use Rattle.tree_defs.specs.Tree.{entries_from}
 use Rattle.tree_defs.specs.declared.site.Site.{Site}
 use Rattle.tree_defs.proofs.Parts.{last_rec, last_is, last_rec_append}
 use Rattle.tree_defs.proofs.Trees.{reads_trees_lem}
@@ -17,7 +17,7 @@ use Rattle.tree_find.specs.Meets.{Meets}
 use Rattle.tree_find.proofs.FindLaw.{opens_right, is_level}
 use Rattle.tree_find.proofs.FindLemmas.{does_lie}
 use Rattle.tree_find.proofs.NextLaw.{has_records}
-use Rattle.tree_find.proofs.NodeLemmas.{Fits, entry, in_front, behind, fit_behind, recs_parts}
+use Rattle.tree_find.proofs.NodeLemmas.{entry, in_front, behind, fit_behind, recs_parts}
 use Rattle.tree_find.proofs.OpenLemmas.{node_some}
 
 -- of some records behind others, the last is that of these

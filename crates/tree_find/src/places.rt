@@ -123,10 +123,7 @@ pub fn records_after<K: RecKind>(
     let n = count_of(block);
     let mut recs = Vec::new(alloc);
     for i in place_after::<K>(area, true, n, after)..n as usize {
-        match recs.push(K::record_at(area, i)) {
-            Ok(()) => {}
-            Err(_) => return Err(WalkFault::Memory),
-        }
+        recs.push(K::record_at(area, i))?;
     }
     Ok(recs)
 }

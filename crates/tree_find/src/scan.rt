@@ -58,10 +58,8 @@ fn next_site<K: RecKind, B: Blocks>(
         });
     }
     let level = top_level(tree.levels);
-    match next_node::<K, B>(alloc, blocks, site, level, true, root, after) {
-        Ok(found) => Ok(records_in(alloc, found)),
-        Err(fault) => Err(fault),
-    }
+    let found = next_node::<K, B>(alloc, blocks, site, level, true, root, after)?;
+    Ok(records_in(alloc, found))
 }
 
 /// The records of a tree above a key, of the first leaf that has some; of the first leaf, where no

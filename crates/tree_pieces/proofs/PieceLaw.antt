@@ -1,38 +1,37 @@
 -- On a readable tree the pieces are the leaves one after the other, with the blocks that each meets first.
-use Rattle.std.proofs.Common.{◌≡◌, ℕ, zero, suc, ◌+◌, ◌-◌, ◌<◌, ◌≤◌, Bool, true, false, List, [], ◌∷◌, ◌++◌, length, length-append, Option, Some, None, Result, Ok, Err, refl, sym, subst, ◌∙◌, ap, inl, inr, arith, append_assoc}
-use Rattle.std.specs.Prelude.{nat_le, nat_lt, ◌⊎◌, ◌==◌, ◌&&◌, not, unwrap_or, filter}
-use Rattle.std.proofs.lemmas.Bool.{cases_lt, false≢true, eqb-true}
+use Rattle.std.proofs.Common.{◌≡◌, ℕ, zero, suc, ◌+◌, ◌-◌, ◌<◌, ◌≤◌, Bool, true, false, List, [], ◌∷◌, ◌++◌, length, Option, Some, None, Ok, refl, sym, subst, ◌∙◌, ap, inl, inr, arith, append_assoc}
+use Rattle.std.specs.Prelude.{nat_le, nat_lt, ◌⊎◌, ◌==◌, ◌&&◌, not, unwrap_or}
+use Rattle.std.proofs.lemmas.Bool.{cases_lt}
 use Rattle.std.proofs.lemmas.Bool.Decides.{nat_tests}
 use Rattle.std.proofs.lemmas.List.{append-nil}
 use Rattle.sblock.specs.Area.{area_of, child_of}
-use Rattle.sblock.specs.Blocks.{numrecs, records_of, is_rising, IsRising}
+use Rattle.sblock.specs.Blocks.{numrecs, records_of, IsRising}
 use Rattle.sblock.specs.Form.{Form, IsLawful}
 use Rattle.sblock.specs.Lists.{items_from, Each}
 use Rattle.sblock.specs.Spans.{span_of}
 use Rattle.sblock.specs.declared.block.BlockFault.{BlockFault}
 use Rattle.sblock.proofs.ListLemmas.{items_each}
-use Rattle.tree_defs.specs.Claims.{lone_fault}
-use Rattle.tree_defs.specs.Levels.{over, AllEntries, entries, recs_of, blocks_of, IsRight, IsSound, IsTree}
+use Rattle.tree_defs.specs.Levels.{over, AllEntries, entries, recs_of, blocks_of, IsRight, IsSound}
 use Rattle.tree_defs.specs.Tree.{Entry, agrees, entries_from, top_of, read_tree}
 use Rattle.tree_defs.specs.declared.site.Site.{Site}
 use Rattle.tree_defs.proofs.EachLemmas.{each_append}
 use Rattle.tree_defs.proofs.Parts.{both_same}
 use Rattle.tree_defs.proofs.Trees.{reads_trees_lem}
-use Rattle.tree_find.specs.Next.{is_above, records_above, place_above, start_of, some_of}
-use Rattle.tree_pieces.specs.Pieces.{met_with, then_behind, leaf_piece, is_first, first_piece, piece_behind, piece_below, piece_in, key_behind, are_above, unmet, IsPiece, PieceIn, GivesPieces, AreInSum, SumsToWalk}
-use Rattle.tree_find.specs.Places.{is_reached, place_behind}
+use Rattle.tree_find.specs.Next.{is_above, records_above, start_of}
+use Rattle.tree_pieces.specs.Pieces.{met_with, is_first, first_piece, piece_behind, piece_below, piece_in, key_behind, are_above, unmet, IsPiece, PieceIn, GivesPieces, AreInSum, SumsToWalk}
+use Rattle.tree_find.specs.Places.{place_behind}
 use Rattle.tree_find.proofs.AboveLemmas.{above_from, from_place, place_within as leaf_within}
 use Rattle.tree_find.proofs.EntryLemmas.{over_append, none_agrees, reached_begins}
 use Rattle.tree_find.proofs.Facts.{is_either}
 use Rattle.tree_find.proofs.FindLaw.{opens_right, is_level}
 use Rattle.tree_find.proofs.FindLemmas.{does_lie}
 use Rattle.tree_find.proofs.LastLemmas.{items_length}
-use Rattle.tree_find.proofs.NextLaw.{has_records, place_within}
+use Rattle.tree_find.proofs.NextLaw.{has_records}
 use Rattle.tree_find.proofs.NextLemmas.{less, not_less}
 use Rattle.tree_find.proofs.NodeLemmas.{Fits, entry, in_front, behind, split_at, low_reached, low_unreached, lies_from, fit_behind, recs_parts}
 use Rattle.tree_find.proofs.OpenLemmas.{leaf_rising, node_some}
-use Rattle.tree_find.proofs.Parting.{Begins, LiesAbove, rising_front, rising_rest, all_above, all_passed, passed_not_above}
-use Rattle.tree_pieces.proofs.PieceLists.{Fails, each_left, each_right, filter_kept, filter_dropped, fails_from, met_assoc, are_yes, yes_each, are_no, are_no_one, above_none, Behind, behind as part_behind, left_behind, Parts, parts_of, each_filtered}
+use Rattle.tree_find.proofs.Parting.{Begins, rising_front, rising_rest, all_above, all_passed, passed_not_above}
+use Rattle.tree_pieces.proofs.PieceLists.{Fails, each_left, each_right, filter_kept, filter_dropped, fails_from, met_assoc, are_yes, yes_each, are_no, are_no_one, above_none, Behind, behind as part_behind, left_behind, parts_of, each_filtered}
 
 not_zero : (i : ℕ) → (suc i == 0) ≡ false
 not_zero i = grind (arith, nat_tests)

@@ -1,8 +1,6 @@
 -- What reading a piece meets, block by block.
-use Rattle.std.proofs.Common.{◌≡◌, ℕ, zero, suc, ◌+◌, ◌-◌, ◌*◌, ◌<◌, ◌≤◌, Bool, true, false, List, [], ◌∷◌, ◌++◌, Option, Some, None, Result, Ok, Err, Vec, refl, sym, subst, ◌∙◌, ap, arith}
-use Rattle.std.specs.Prelude.{◌&&◌, ◌==◌, OnOk, unwrap_or, nat_le, nat_lt, if◌then◌else◌, IfOk, IfErr, IfSome, IfNone}
-use Rattle.std.proofs.lemmas.Bool.{and_parts, leb-true}
-use Rattle.std.proofs.lemmas.Bool.Decides.{nat_tests}
+use Rattle.std.proofs.Common.{◌≡◌, ℕ, zero, suc, ◌+◌, ◌-◌, ◌<◌, ◌≤◌, Bool, true, false, List, [], ◌∷◌, ◌++◌, Option, Some, None, Result, Ok, Err, Vec, refl, subst, ◌∙◌, ap, arith}
+use Rattle.std.specs.Prelude.{◌==◌, OnOk, IfOk, IfErr, IfSome, IfNone}
 use Rattle.sblock.specs.Area.{area_of, child_of}
 use Rattle.sblock.specs.Blocks.{numrecs, records_of}
 use Rattle.sblock.specs.Form.{Form}
@@ -15,10 +13,9 @@ use Rattle.tree_defs.specs.declared.site.Site.{Site}
 use Rattle.tree_blocks.specs.Meets.{Refuses, RefusesBlock, IsMemory}
 use Rattle.tree_blocks.specs.declared.tree.WalkFault.{WalkFault}
 use Rattle.tree_blocks.specs.declared.tree.WalkFault.TheVariants.{Bad, Failed, Memory}
-use Rattle.tree_find.specs.Find.{way_of}
 use Rattle.tree_pieces.specs.Meets.{MeetsFirst, MeetsMet, MeetsPiece, GivesPiece}
-use Rattle.tree_pieces.specs.Pieces.{Met, met_with, then_behind, as_met, or_no_records, leaf_piece, is_first, first_piece, piece_behind, piece_below, piece_in, IsPiece}
-use Rattle.tree_find.proofs.Facts.{same_some, same_ok}
+use Rattle.tree_pieces.specs.Pieces.{met_with, then_behind, as_met, or_no_records, leaf_piece, is_first, first_piece, piece_behind, piece_below, piece_in, IsPiece}
+use Rattle.tree_find.proofs.Facts.{same_some}
 use Rattle.tree_find.proofs.FindLemmas.{lies_not, does_lie}
 use Rattle.tree_find.specs.Next.{records_above, place_above, start_of, AreAbove}
 use Rattle.tree_find.proofs.NextLemmas.{less, not_less}

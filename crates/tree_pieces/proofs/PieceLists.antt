@@ -1,15 +1,14 @@
 -- Rising records in parts, and what of them lies above a key.
-use Rattle.std.proofs.Common.{◌≡◌, ℕ, zero, suc, ◌+◌, ◌-◌, ◌<◌, ◌≤◌, Bool, true, false, List, [], ◌∷◌, ◌++◌, Option, Some, None, refl, sym, subst, ◌∙◌, ap, inl, inr, arith, append_assoc}
-use Rattle.std.specs.Prelude.{◌&&◌, not, filter}
-use Rattle.std.proofs.lemmas.Bool.{false≢true, and_parts, and_from}
-use Rattle.std.proofs.lemmas.List.{append-nil}
+use Rattle.std.proofs.Common.{◌≡◌, ℕ, Bool, true, false, List, [], ◌∷◌, ◌++◌, Option, Some, None, refl, sym, subst, ◌∙◌, ap, inl, inr, append_assoc}
+use Rattle.std.specs.Prelude.{not, filter}
+use Rattle.std.proofs.lemmas.Bool.{and_parts, and_from}
 use Rattle.sblock.specs.Blocks.{IsRising}
 use Rattle.sblock.specs.Form.{Form, IsLawful}
 use Rattle.sblock.specs.Lists.{Each}
 use Rattle.tree_find.specs.Next.{is_above, records_above}
 use Rattle.tree_pieces.specs.Pieces.{met_with, key_behind, are_above}
 use Rattle.tree_find.proofs.Facts.{is_either}
-use Rattle.tree_find.proofs.Parting.{LiesAbove, rising_front, rising_rest, all_above, all_passed, passed_not_above}
+use Rattle.tree_find.proofs.Parting.{rising_rest, all_above, all_passed, passed_not_above}
 
 pub each_left : {A : Type 0} (test : A → Bool) (xs ys : List A) → Each test (xs ++ ys) → Each test xs
 each_left test [] ys h = tt

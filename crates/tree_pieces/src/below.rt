@@ -22,10 +22,8 @@ fn meet(met: &mut Vec<u32>, p: u32) -> Result<(), WalkFault>
     ensures done { OnOk result (met.new.items ≡ met.old.items ++ p ∷ []) }
     ensures memory { IfErr result IsMemory }
 {
-    match met.push(p) {
-        Ok(()) => Ok(()),
-        Err(_) => Err(WalkFault::Memory),
-    }
+    met.push(p)?;
+    Ok(())
 }
 
 // The block is met now where none of its keys is at the key or before it.

@@ -60,13 +60,11 @@ pub fn piece_site<K: RecKind, B: Blocks>(
     }
     let level = top_level(tree.levels);
     let mut met = Vec::new(alloc);
-    match piece_node::<K, B>(alloc, blocks, site, level, true, root, after, &mut met) {
-        Ok(found) => Ok(TreeRead {
-            recs: records_in(alloc, found),
-            blocks: met,
-        }),
-        Err(fault) => Err(fault),
-    }
+    let found = piece_node::<K, B>(alloc, blocks, site, level, true, root, after, &mut met)?;
+    Ok(TreeRead {
+        recs: records_in(alloc, found),
+        blocks: met,
+    })
 }
 
 /// One leaf of a tree: the records above a key of the first leaf that has some, or of the first leaf

@@ -73,10 +73,7 @@ pub fn enter<K: RecKind, B: Blocks>(
     if let Some(fault) = fault_in_place::<K>(&block, seen, site, level, root, p) {
         return Err(WalkFault::Bad { block: p, fault });
     }
-    match seen.blocks.push(p) {
-        Ok(()) => {}
-        Err(_) => return Err(WalkFault::Memory),
-    }
+    seen.blocks.push(p)?;
     seen.before[level as usize] = p;
     seen.next[level as usize] = right_of(&block);
     Ok(block)

@@ -38,10 +38,7 @@ pub fn take_leaf<K: RecKind>(
     for i in 0..count_of(block) {
         let rec = K::record_at(area, i as usize);
         span = join_spans::<K>(span, Some(span_in_range::<K>(&rec, bounds)));
-        match seen.recs.push(rec) {
-            Ok(()) => {}
-            Err(_) => return Err(WalkFault::Memory),
-        }
+        seen.recs.push(rec)?;
     }
     Ok(span)
 }

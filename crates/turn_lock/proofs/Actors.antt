@@ -1,5 +1,5 @@
 -- For which actors the two parts of a pass speak, where the pass spoke for n actors from a up. These are for callers of the lock.
-use Rattle.std.proofs.Common.{◌≡◌, ℕ, ◌+◌, ◌-◌, ◌≤◌, ◌<◌, zero, suc, List, [], ◌∷◌, refl, sym, ap, ◌∙◌, subst, arith, length, map, lt_of_not-le}
+use Rattle.std.proofs.Common.{◌≡◌, ℕ, ◌+◌, ◌-◌, ◌≤◌, ◌<◌, zero, suc, List, [], ◌∷◌, refl, sym, ap, ◌∙◌, subst, arith, length, map}
 use native.Mathlib.Decide.{ℕ_discrete, dec_le}
 use mathlib.Core.Option.{some}
 use Rattle.turn_lock.specs.Lists.{from_up, Has, actors_of, below, above, skip_if, keep_if}

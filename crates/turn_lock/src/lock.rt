@@ -3,7 +3,8 @@ ghost use Rattle.std.specs.Prelude.{◌≡◌};
 
 use crate::recorded::Recorded;
 use crate::rule::LockTable;
-use std::alloc::AllocError;
+use atomic_table::Refused;
+use std::alloc::{AllocError, Global};
 use thiserror::Error;
 
 /// Why a lock can't be made or closed. The value is gone then.
@@ -23,6 +24,12 @@ pub struct TurnLock<T: Recorded> {
 
 impl From<AllocError> for LockFault {
     fn from(_: AllocError) -> Self {
+        LockFault::Memory
+    }
+}
+
+impl<T: Drop> From<Refused<T, Global>> for LockFault {
+    fn from(_: Refused<T, Global>) -> Self {
         LockFault::Memory
     }
 }

@@ -66,10 +66,8 @@ impl<T: Recorded> TurnLock<T> {
             ticket: Snapshot::of(&ticket),
         };
         let slots = home_of(alloc, value)?;
-        match Table::new(alloc, &words, slots, &about) {
-            Ok((table, seat)) => Ok((TurnLock { table }, Pass { seat })),
-            Err(_) => Err(LockFault::Memory),
-        }
+        let (table, seat) = Table::new(alloc, &words, slots, &about)?;
+        Ok((TurnLock { table }, Pass { seat }))
     }
 
     /// Waits for its turn, calls the function once on the value, and answers what it answered.

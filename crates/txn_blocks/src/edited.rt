@@ -64,10 +64,8 @@ impl<'d, 'c, 's, 't, D: Device, L: Ledger> Blocks for Edited<'d, 'c, 's, 't, D, 
             return Ok(block);
         }
         let mut block = Block::zeroed();
-        match self.cache.get(self.dev, at, &mut block) {
-            Ok(()) => Ok(block),
-            Err(_) => Err(WalkFault::Failed),
-        }
+        self.cache.get(self.dev, at, &mut block)?;
+        Ok(block)
     }
 }
 

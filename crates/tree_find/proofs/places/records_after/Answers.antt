@@ -19,6 +19,6 @@ pub loop-i-preserved : goal.loop-i-preserved
 loop-i-preserved g c =
     let form = g.K.RecKind.form in
     record {
-      whole = take_one (form.record_at c.data_area-area.result.now) c.loop-i.recs.items c.push.new.self.items (records_above form c.args.after.now (records_of form c.args.block.now.bytes)) c.record_at.result c.count_of-n.result c.loop-i.i c.loop-i.invariant.whole c.loop-i-test.true c.record_at.ensures c.in-Ok.ensures.items;
+      whole = take_one (form.record_at c.data_area-area.result.now) c.loop-i.recs.items c.push.new.self.items (records_above form c.args.after.now (records_of form c.args.block.now.bytes)) c.record_at.result c.count_of-n.result c.loop-i.i c.loop-i.invariant.whole c.loop-i-test.true c.record_at.ensures c.in_ok-push.ensures.items;
       room = c.loop-i.invariant.room;
     }

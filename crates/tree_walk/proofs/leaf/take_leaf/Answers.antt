@@ -29,7 +29,7 @@ loop-i-preserved g c =
     let here : r ≡ form.record_at (area_of bytes) c.loop-i.i = rw (c.data_area-area.ensures.shows) at c.record_at-rec.ensures in
     let more = one_more_item (form.record_at (area_of bytes)) c.loop-i.i in
     record {
-      trail = rw (more, ← here) (pushed (trail_of c.loop-i.seen) (trail_of c.args.seen.now) rs c.push.new.self.items r c.loop-i.invariant.trail c.in-Ok.ensures.items);
+      trail = rw (more, ← here) (pushed (trail_of c.loop-i.seen) (trail_of c.args.seen.now) rs c.push.new.self.items r c.loop-i.invariant.trail c.in_ok-push.ensures.items);
       span = rw (more, record_taken form g.met.K.RecKind.lawful rs (form.record_at (area_of bytes) c.loop-i.i)) (c.join_spans-span.ensures ∙ rw (c.loop-i.invariant.span, c.span_in_range.ensures, here) refl);
       blocks = c.loop-i.invariant.blocks;
     }

@@ -1,5 +1,4 @@
-use Rattle.std.proofs.Common.{◌≡◌, ◌<◌, ◌^◌, ℕ, true, List, length, get_or, refl, sym, ◌∙◌, ap, subst, arith}
-use Rattle.byte_fields.specs.declared.block.Block.{Block}
+use Rattle.std.proofs.Common.{◌≡◌, ◌<◌, ◌^◌, length, refl, ◌∙◌, ap, arith}
 use Rattle.redo_area.specs.Area.{Batch, bytes_of}
 use Rattle.redo_area.specs.Table.{rises}
 use Rattle.meta_txn.specs.Joined.{Joined}

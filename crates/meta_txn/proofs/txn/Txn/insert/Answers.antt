@@ -1,8 +1,6 @@
-use Rattle.std.proofs.Common.{◌≡◌, ◌<◌, ◌+◌, ◌^◌, ℕ, Bool, true, false, List, length, refl, ◌∙◌, ap, arith, vec_len, vec_capacity}
+use Rattle.std.proofs.Common.{◌≡◌, ◌<◌, ◌+◌, ◌^◌, Bool, true, false, length, ap, arith, vec_len, vec_capacity}
 use Rattle.std.specs.Prelude.{is_ok, if◌then◌else◌}
 use Rattle.std.specs.List.{insert}
-use Rattle.byte_fields.specs.declared.block.Block.{Block}
-use Rattle.redo_area.specs.Area.{bytes_of}
 use Rattle.meta_txn.specs.Joined.{Joined}
 use Rattle.meta_txn.proofs.ListLemmas.{inserted, inserted_rises, length_bytes_of, place_bound}
 use Rattle.meta_txn.proofs.txn.Txn.insert.Goals as goal

@@ -1,13 +1,14 @@
-use Rattle.std.proofs.Common.{◌≡◌, ℕ, List, sym, ap, subst, inl, inr}
+use Rattle.std.proofs.Common.{ℕ, List, sym, ap, subst, inl, inr}
+use Rattle.std.proofs.lemmas.Result.{err_from_is_err_and}
 use Rattle.meta_txn.specs.Joined.{Joined, Finds}
 use Rattle.meta_txn.proofs.EnterLemmas.{fault_of}
 use Rattle.meta_txn.proofs.txn.Txn.join.Goals as goal
 
-pub returns-in-Ok : goal.returns-in-Ok
-returns-in-Ok g c =
+pub returns : goal.returns
+returns g c =
     let d = g.D.Device in
     let old = c.args.self.now in
-    let all = c.in-Ok.ensures in
+    let all = c.in_ok-i.ensures in
     let entered = all.entered in (
       λ j. inl (c.block_in.result.ghost_name, λ left. record { blocks = entered.left left.bytes j; marked = entered.marked j }),
       record {
@@ -28,12 +29,13 @@ returns-in-Ok g c =
       },
     )
 
-pub returns-in-Err : goal.returns-in-Err
-returns-in-Err g c =
-    let all = c.in-Err.ensures in
-    let fault = c.in-Err.fault in (
-      ap (λ (t : Joined). inr t) all.refused,
-      record {
+pub returns-in_err-i : goal.returns-in_err-i
+returns-in_err-i g c =
+    let all = c.in_err-i.ensures in
+    let fault = c.in_err-i.field-0.0 in
+    let p = err_from_is_err_and c.from_residual.result c.from_residual.ensures.1 in (
+      rw (p.1) (ap (λ (t : Joined). inr t) all.refused),
+      rw (p.1, p.2) (record {
         lends = tt;
         bytes = tt;
         too_many = λ n. (λ e. (all.too_many n).0 (fault_of fault _ e), λ would. fault_of fault _ ((all.too_many n).1 would));
@@ -48,5 +50,5 @@ returns-in-Err g c =
         calm = λ none. all.calm (λ e. none (fault_of fault _ e));
         later = all.later;
         agrees = all.agrees;
-      },
+      }),
     )
