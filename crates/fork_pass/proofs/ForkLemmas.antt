@@ -351,9 +351,6 @@ module _ (at : Layout) (image : Image) (core : Core3) where
 
 -- ---- the inode in a slot
 
-pub no_core : (fault : CoreFault) → ◌≡◌ {A = Option CoreFault} None (Some fault) → ⊥
-no_core fault e = cc
-
 -- a free inode has no forks
 free_fork : (at : Layout) (image : Image) (bytes : List ℕ) (f : Fork) → field 2 bytes 2 ≡ 0 → slot_fork at image bytes f ≡ Ok no_fork
 unfolding core_of

@@ -1,5 +1,6 @@
 pub mod CountLemmas
 pub mod ForkLemmas
+pub mod InlineLemmas
 pub mod PassLemmas
 pub mod PieceLemmas
 pub mod SetLemmas

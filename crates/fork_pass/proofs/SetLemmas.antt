@@ -1,7 +1,7 @@
 -- Sets of claims that gain pieces, one call after the other.
-use Rattle.std.proofs.Common.{◌≡◌, ℕ, zero, suc, ◌+◌, ◌<◌, Bool, true, false, inl, inr, List, [], ◌∷◌, ◌++◌, length, get_or, set, take, refl, ap, sym, ◌∙◌, arith, append_assoc}
-use Rattle.std.specs.Prelude.{◌==◌}
-use Rattle.std.proofs.lemmas.Bool.{cases_Bool}
+use Rattle.std.proofs.Common.{◌≡◌, ℕ, zero, suc, ◌+◌, ◌<◌, Bool, true, false, Result, Ok, Err, is_ok, inl, inr, List, [], ◌∷◌, ◌++◌, length, get_or, set, take, refl, ap, sym, ◌∙◌, arith, append_assoc}
+use Rattle.std.specs.Prelude.{◌==◌, OnOk}
+use Rattle.std.proofs.lemmas.Bool.{cases_Bool, false≢true}
 use Rattle.std.proofs.lemmas.Bool.Decides.{nat_tests}
 use Rattle.std.proofs.lemmas.List.{append-nil}
 use Rattle.fs_derive.specs.Lists.{only_if}
@@ -68,6 +68,11 @@ put_each (x ∷ xs) (suc i) s d piece lt is (suc g) = put_each xs i s d piece (o
 -- one set gains a piece
 pub put_at : (sets : List ClaimSet) (i : ℕ) (s d : ClaimSet) (piece : Piece) → i < length sets → pieces_of s ≡ pieces_of (get_or sets i d) ++ piece ∷ [] → Adds sets (set sets i s) (λ g. only_if (i == g) piece)
 put_at sets i s d piece lt is = record { long = set_long sets i s; each = put_each sets i s d piece lt is }
+
+-- what a call says of its answer holds where there is one
+pub answered : {T E : Type 0} (P : Type 0) (result : Result T E) → is_ok result ≡ true → OnOk result P → P
+answered P (Ok x) is h = h
+answered P (Err e) is h = absurd (false≢true is)
 
 long_more : (xs : List ClaimSet) (s : ClaimSet) → length (xs ++ s ∷ []) ≡ length xs + 1
 long_more [] s = refl

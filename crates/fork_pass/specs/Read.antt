@@ -9,6 +9,8 @@ use Rattle.dinode_core.specs.Frame.{fork_in, list_of}
 use Rattle.dinode_core.specs.declared.inode.Core3.{Core3}
 use Rattle.dinode_core.specs.declared.mapping.Fork.{Fork}
 use Rattle.dinode_core.specs.declared.mapping.Fork.TheVariants as forks
+use Rattle.dinode_core.specs.declared.mapping.ForkError.{ForkError}
+use Rattle.dinode_core.specs.declared.mapping.ForkError.TheVariants.{Fault, Memory as NoListMemory}
 use Rattle.dinode_core.specs.declared.mapping.ForkFault.{ForkFault}
 use Rattle.fork_read.specs.Whole.{Follow, HasFault, all_blocks, all_mappings}
 use Rattle.dinode_core.specs.declared.mapping.ForkFault.TheVariants as faults
@@ -63,6 +65,11 @@ IsRefusal (IsFork fault) result = result ≡ Ok (Some fault)
 IsRefusal (IsCoreFault fault) result = result ≡ Ok (Some faults.Format)
 IsRefusal ReadFailed result = result ≡ Err Failed
 IsRefusal NoMemory result = result ≡ Err Memory
+
+-- what the inode itself shows of a fork is its first fault, or there was no memory
+abbrev pub IsShown : ForkError → Result ForkRead PassStop → Type 0
+IsShown (Fault fault) result = result ≡ Ok (Bad fault)
+IsShown NoListMemory result = result ≡ Err Memory
 
 -- the fork's first fault, or the refusal's where no such is found
 abbrev pub worst_of : ForkFault → Option ForkFault → ForkFault

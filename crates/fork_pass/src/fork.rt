@@ -1,13 +1,13 @@
-ghost use Rattle.std.specs.Prelude.{◌≡◌, ◌+◌, ◌*◌, ◌^◌, ◌<◌, ◌≤◌, ◌++◌, ℕ, List, [], length, true, Some, None, IfErr, IfOk, OnOk};
+ghost use Rattle.std.specs.Prelude.{◌≡◌, ◌+◌, ◌*◌, ◌^◌, ◌<◌, ◌≤◌, ◌++◌, ℕ, List, [], length, true, false, Some, None, IfErr, IfOk, OnOk};
 ghost use Rattle.blk_device.specs.Causes.{HasCause};
 ghost use Rattle.blk_device.specs.Contents.{Contents};
 ghost use Rattle.blk_device.specs.Reading.{OnlyRead};
 ghost use Rattle.blk_device.specs.declared.device.Region.TheVariants.{Image};
-ghost use Rattle.dinode_core.specs.ForkTree.{walk_fault};
+ghost use Rattle.dinode_core.specs.ForkTree.{is_tree, walk_fault};
 ghost use Rattle.fork_read.specs.Answers.{IsOutside, is_failed as is_failed_read};
 ghost use Rattle.fork_read.specs.First.{most_met};
 ghost use Rattle.fork_pass.specs.Counted.{fork_most, pieces_most};
-ghost use Rattle.fork_pass.specs.Read.{HasRead, IsForkRead, IsRefusal, IsWorst, is_number_wrong as is_wrong};
+ghost use Rattle.fork_pass.specs.Read.{HasRead, IsForkRead, IsRefusal, IsShown, IsWorst, is_number_wrong as is_wrong};
 ghost use Rattle.fork_pass.specs.Told.{CountsMost, CountsPiece, TakesPiece};
 ghost use Rattle.geom.specs.Places.{layout};
 ghost use Rattle.inode_pass.specs.Stops.{is_failed};
@@ -15,7 +15,9 @@ ghost use Rattle.inode_pass.specs.Stops.{is_failed};
 use crate::pieces::put_mappings;
 use blk_device::Device;
 use byte_fields::Steps;
-use dinode_core::{Core3, Fork, ForkFault, is_in_btree, mapping_count};
+use dinode_core::{
+    Core3, Fork, ForkError, ForkFault, inline_fork, inline_is_whole, is_in_btree, mapping_count,
+};
 use fork_read::{
     ForkPiece, ReadFault, first_fault_of_core, first_fault_tells, piece_of_core, pieces_are_few,
     pieces_join,
@@ -51,10 +53,7 @@ fn note_piece(met: &mut Met, piece: &ForkPiece) -> Result<(), PassStop>
     ensures blocks { OnOk result (met.new.blocks.items ≡ met.old.blocks.items ++ piece.now.tree_blocks.items) }
     ensures memory { IfErr result (λ stop. stop ≡ PassStop.Memory) }
 {
-    match met.blocks.extend_from_slice(piece.tree_blocks.as_slice()) {
-        Ok(()) => {}
-        Err(_) => return Err(PassStop::Memory),
-    }
+    met.blocks.extend_from_slice(piece.tree_blocks.as_slice())?;
     met.count += piece.mappings.len() as u128;
     met.next = piece.next;
     Ok(())
@@ -179,11 +178,9 @@ fn is_number_wrong(core: &Core3, fork: Fork, count: u128) -> bool
     is_in_btree(core, fork) && count != u128::from(mapping_count(core, fork))
 }
 
-/// Reads a fork of this core piece by piece, and puts its mappings into the sets of their groups; or
-/// says the fork's first fault, the number of a btree's mappings at last. Each block is read once, the
-/// way down to a piece again, and all once more where there is a fault. A device that failed and want
-/// of memory are the refusals (XFS Algorithms and Data Structures, "Data Fork").
-pub fn see_fork<D: Device, L: Ledger>(
+// Reads a fork of this core piece by piece, and puts its mappings into the sets of their groups; or
+// says its first fault.
+fn see_pieces<D: Device, L: Ledger>(
     alloc: Global,
     dev: &mut D,
     geo: &Geometry,
@@ -213,4 +210,65 @@ pub fn see_fork<D: Device, L: Ledger>(
         return Ok(ForkRead::Bad(ForkFault::Count));
     }
     Ok(ForkRead::Blocks(met.blocks))
+}
+
+// What the reading of a fork comes to of which the inode itself shows this.
+fn shown(error: ForkError) -> Result<ForkRead, PassStop>
+    ensures shown { IsShown error result }
+    ensures memory { IfErr result (λ stop. stop ≡ PassStop.Memory) }
+{
+    match error {
+        ForkError::Fault(fault) => Ok(ForkRead::Bad(fault)),
+        ForkError::Memory => Err(PassStop::Memory),
+    }
+}
+
+// Puts the mappings of a fork that the inode itself holds, or says its first fault. Nothing is read.
+fn see_inline(
+    alloc: Global,
+    geo: &Geometry,
+    core: &Core3,
+    fork: Fork,
+    sets: &mut [ClaimSet],
+) -> Result<ForkRead, PassStop>
+    requires own { is_tree core.now fork ≡ false }
+    requires groups { length sets.old ≡ geo.now.agcount }
+    ensures exact { IfOk result (λ read. (image : ℕ → List ℕ) → IsForkRead (layout geo.now) image core.now fork sets.old sets.new read) }
+    ensures groups { length sets.new ≡ length sets.old }
+    ensures memory { IfErr result (λ stop. stop ≡ PassStop.Memory) }
+{
+    inline_is_whole(core, fork, geo);
+    let mappings = match inline_fork(alloc, core, fork, geo) {
+        Ok(mappings) => mappings,
+        Err(error) => return shown(error),
+    };
+    put_mappings(sets, geo, fork, core.ino, mappings.as_slice())?;
+    Ok(ForkRead::Blocks(Vec::new(alloc)))
+}
+
+/// Reads a fork of this core, one in btree format piece by piece, and puts its mappings into the sets of
+/// their groups; or says the fork's first fault, the number of a btree's mappings at last. Each block is
+/// read once, the way down to a piece again, and all once more where there is a fault. A device that
+/// failed and want of memory are the refusals (XFS Algorithms and Data Structures, "Data Fork").
+pub fn see_fork<D: Device, L: Ledger>(
+    alloc: Global,
+    dev: &mut D,
+    geo: &Geometry,
+    core: &Core3,
+    fork: Fork,
+    sets: &mut [ClaimSet],
+    steps: &mut Steps<L>,
+) -> Result<ForkRead, PassStop>
+    requires room { geo.now.dblocks ≤ D.blocks dev.old Image }
+    requires groups { length sets.old ≡ geo.now.agcount }
+    ensures exact { IfOk result (λ read. (c : Contents) → D.content dev.old ≡ Some c → IsForkRead (layout geo.now) (c Image) core.now fork sets.old sets.new read) }
+    ensures groups { length sets.new ≡ length sets.old }
+    ensures each { CountsMost (D.content dev.old) (λ c. fork_most (layout geo.now) (c Image) core.now fork) steps.old.reads steps.new.reads }
+    ensures reading { OnlyRead D.Device dev.old dev.new steps.old steps.new }
+    ensures cause { HasCause is_failed (D.faults dev.old) (D.faults dev.new) result }
+{
+    if is_in_btree(core, fork) {
+        return see_pieces(alloc, dev, geo, core, fork, sets, steps);
+    }
+    see_inline(alloc, geo, core, fork, sets)
 }

@@ -4,7 +4,6 @@ ghost use Rattle.blk_device.specs.Contents.{Contents};
 ghost use Rattle.blk_device.specs.Reading.{OnlyRead};
 ghost use Rattle.blk_device.specs.declared.device.Region.TheVariants.{Image};
 ghost use Rattle.byte_fields.specs.Fields.{field};
-ghost use Rattle.fork_read.specs.Pieces.{DecodesCore};
 ghost use Rattle.fork_pass.specs.Counted.{fork_most, inode_most, slot_most};
 ghost use Rattle.fork_pass.specs.Read.{IsInodeRead, IsRestRead};
 ghost use Rattle.fork_pass.specs.Told.{CountsMost, SeesAllocated, SeesSlot};
@@ -12,11 +11,12 @@ ghost use Rattle.fs_state.specs.Inodes.{slot_in};
 ghost use Rattle.geom.specs.Places.{layout};
 ghost use Rattle.inode_pass.specs.Stops.{is_failed};
 
+use crate::decode::core_at;
 use crate::fork::{ForkRead, see_fork};
 use crate::pieces::put_blocks;
 use blk_device::Device;
 use byte_fields::{Block, Steps, get_u16};
-use dinode_core::{Core3, CoreFault, Fork, ForkFault, decode_core};
+use dinode_core::{Core3, Fork, ForkFault};
 use fs_model::Evidence;
 use geom::Geometry;
 use inode_pass::PassStop;
@@ -32,16 +32,6 @@ fn mode_in(block: &Block, slot: u32) -> u16
     let (_, rest) = block.bytes.split_at(512 * slot as usize);
     let (own, _) = rest.split_at(512);
     get_u16(own, 2)
-}
-
-// The core of the inode in a slot of its block, or why it doesn't verify.
-fn core_at(block: &Block, geo: &Geometry, ino: u64, slot: u32) -> Result<Core3, CoreFault>
-    requires { slot < 8 }
-    ensures { DecodesCore (slot_in block.now.bytes slot) ino geo.now.uuid result }
-{
-    let (_, rest) = block.bytes.split_at(512 * slot as usize);
-    let (own, _) = rest.split_at(512);
-    decode_core(own, ino, &geo.uuid)
 }
 
 // Reads the attribute fork of a core, and puts what it claims and these blocks of the data fork's
@@ -150,8 +140,7 @@ pub fn see_slot<D: Device, L: Ledger>(
     if mode_in(block, slot) == 0 {
         return Ok(None);
     }
-    match core_at(block, geo, ino, slot) {
-        Ok(core) => see_allocated(alloc, dev, geo, &core, ino, sets, steps),
-        Err(_) => Ok(None),
-    }
+    // The pass over the cores tested it, and what an inode claims is told of one that verifies alone.
+    let core = core_at(block, slot);
+    see_allocated(alloc, dev, geo, &core, ino, sets, steps)
 }

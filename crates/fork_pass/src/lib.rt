@@ -2,6 +2,7 @@
 //! that can't be read.
 #![tactic(auto)]
 
+mod decode;
 mod fork;
 mod inode;
 mod pass;

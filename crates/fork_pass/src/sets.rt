@@ -16,10 +16,7 @@ pub fn fresh_sets(alloc: Global, groups: u32) -> Result<Vec<ClaimSet>, PassStop>
     for i in 0..groups {
         let _group = i;
         let set = ClaimSet::new(alloc);
-        match sets.push(set) {
-            Ok(()) => {}
-            Err(_) => return Err(PassStop::Memory),
-        }
+        sets.push(set)?;
     }
     Ok(sets)
 }
@@ -32,8 +29,6 @@ pub fn put_piece(sets: &mut [ClaimSet], g: u32, piece: Piece) -> Result<(), Pass
     ensures groups { length sets.new ≡ length sets.old }
     ensures memory { IfErr result (λ stop. stop ≡ PassStop.Memory) }
 {
-    match sets[g as usize].put(piece) {
-        Ok(()) => Ok(()),
-        Err(_) => Err(PassStop::Memory),
-    }
+    sets[g as usize].put(piece).map_err(|_| PassStop::Memory)?;
+    Ok(())
 }

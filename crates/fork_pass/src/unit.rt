@@ -11,11 +11,11 @@ ghost use Rattle.inode_pass.specs.Stops.{is_failed};
 
 use crate::inode::see_slot;
 use blk_device::Device;
-use byte_fields::Steps;
+use byte_fields::{Block, Steps};
 use check_watch::Watch;
 use fs_model::Evidence;
 use geom::{Geometry, InodePlace};
-use inode_pass::{PassStop, load_block};
+use inode_pass::{PassStop, read_block};
 use std::alloc::Global;
 use std::sync::ledger::Ledger;
 use unit_plan::ClaimSet;
@@ -41,13 +41,14 @@ fn number_of(geo: &Geometry, g: u32, b: u32, slot: u32) -> u64
     })
 }
 
-// Passes the eight inodes of a group's block, which is read once.
+// Passes the eight inodes of a group's block, which is read once, into a block that is lent.
 fn pass_block<D: Device, L: Ledger>(
     alloc: Global,
     dev: &mut D,
     geo: &Geometry,
     g: u32,
     b: u32,
+    block: &mut Block,
     sets: &mut [ClaimSet],
     steps: &mut Steps<L>,
 ) -> Result<Option<Evidence>, PassStop>
@@ -62,10 +63,10 @@ fn pass_block<D: Device, L: Ledger>(
     ensures cause { HasCause is_failed (D.faults dev.old) (D.faults dev.new) result }
 {
     let at = geo.device_block(g, b);
-    let block = load_block(dev, at, steps)?;
+    read_block(dev, at, block, steps)?;
     for slot in 0..BLOCK_INODES {
         let ino = number_of(geo, g, b, slot);
-        match see_slot(alloc, dev, geo, &block, ino, slot, sets, steps)? {
+        match see_slot(alloc, dev, geo, block, ino, slot, sets, steps)? {
             None => {}
             Some(found) => return Ok(Some(found)),
         }
@@ -93,8 +94,10 @@ fn pass_unit<D: Device, L: Ledger>(
     ensures reading { OnlyRead D.Device dev.old dev.new steps.old steps.new }
     ensures cause { HasCause is_failed (D.faults dev.old) (D.faults dev.new) result }
 {
+    let mut block = Block::zeroed();
     for j in 0..UNIT_BLOCKS {
-        match pass_block(alloc, dev, geo, g, UNIT_BLOCKS * unit + j, sets, steps)? {
+        let b = UNIT_BLOCKS * unit + j;
+        match pass_block(alloc, dev, geo, g, b, &mut block, sets, steps)? {
             None => {}
             Some(found) => return Ok(Some(found)),
         }

@@ -53,6 +53,13 @@ inline_ranged at core fork from ms items blocks next (Ok piece) good is same giv
     ranged at fork from ms blocks next piece (ap (first_bad at fork) (same ∙ is) ∙ own) given
 inline_ranged at core fork from ms items blocks next (Err error) good is same given = tt
 
+-- so is each that the inode itself holds, where that shows no fault
+pub inline_in_range : (at : Layout) (core : Core3) (fork : Fork) → inline_fault at core fork ≡ None → All (λ m. in_range at fork m ≡ true) (inline_mappings core fork)
+unfolding inline_fault
+inline_in_range at core fork good =
+    let own = (else_parts (form_fault core fork) (first_bad at fork (inline_mappings core fork)) good).1 in
+    All-from_recursion (λ m. in_range at fork m ≡ true) (inline_mappings core fork) (each_in_range at fork (inline_mappings core fork) own)
+
 -- a fork of which a piece is refused has a first fault
 pub refused_has : (at : Layout) (image : Image) (core : Core3) (fork : Fork) (pieces : List ForkPiece) (from : ℕ) (fault : ForkFault) → Follow at image core fork (Some 0) pieces (Some from) → IsForkFault at image core fork from fault → HasFault (walk_fault at image core fork)
 refused_has at image core fork pieces from fault follow refused =

@@ -93,17 +93,12 @@ fn take_block(seen: &mut Seen, task: &Task, block: &Block) -> Result<(), ReadFau
     ensures taken { OnOk result (trail_of seen.new ≡ taken_in 0 task.now.level (entry_of task.now) block.now.bytes (trail_of seen.old)) }
     ensures memory { IfErr result (λ error. error ≡ ReadFault.Memory) }
 {
-    match note_block(seen, task, 0, block) {
-        Ok(()) => {}
-        Err(_) => return Err(ReadFault::Memory),
-    }
+    note_block(seen, task, 0, block)?;
     if task.level > 0 {
         return Ok(());
     }
-    match take_leaf(seen, block) {
-        Ok(()) => Ok(()),
-        Err(_) => Err(ReadFault::Memory),
-    }
+    take_leaf(seen, block)?;
+    Ok(())
 }
 
 // Walks these subtrees of a level to their end, one after the other, each block before what lies

@@ -46,10 +46,8 @@ fn load<D: Device, L: Ledger>(
 {
     let mut block = Block::zeroed();
     steps.block_read();
-    match cache.get(dev, at, &mut block) {
-        Ok(()) => Ok(block),
-        Err(_) => Err(ReadFault::Failed),
-    }
+    cache.get(dev, at, &mut block)?;
+    Ok(block)
 }
 
 /// Reads the core of an inode, through the cache.
@@ -75,8 +73,5 @@ pub fn load_core<D: Device, L: Ledger>(
     };
     let at = geo.device_block(place.0, place.1);
     let block = load(dev, cache, at, steps)?;
-    match core_in(&block, ino, geo) {
-        Ok(core) => Ok(core),
-        Err(fault) => Err(ReadFault::Core(fault)),
-    }
+    Ok(core_in(&block, ino, geo)?)
 }

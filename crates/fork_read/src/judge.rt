@@ -99,12 +99,8 @@ pub fn piece_of(
     ensures piece { IfOk result (λ piece. IsPiece from mappings.now (map (λ b. b.block) blocks.now) next piece) }
     ensures memory { IfErr result (λ error. error ≡ ReadFault.Memory) }
 {
-    let Ok(mappings) = mappings_from(alloc, mappings, from) else {
-        return Err(ReadFault::Memory);
-    };
-    let Ok(tree_blocks) = numbers_of(alloc, blocks) else {
-        return Err(ReadFault::Memory);
-    };
+    let mappings = mappings_from(alloc, mappings, from)?;
+    let tree_blocks = numbers_of(alloc, blocks)?;
     Ok(ForkPiece {
         mappings,
         tree_blocks,
@@ -130,14 +126,11 @@ pub fn answer(
     if let Some(fault) = judge(geo, fork, levels, seen, stop) {
         return Err(ReadFault::Fork(fault));
     }
-    match piece_of(
+    piece_of(
         alloc,
         seen.mappings.as_slice(),
         seen.blocks.as_slice(),
         from,
         next_after(stop),
-    ) {
-        Ok(piece) => Ok(piece),
-        Err(_) => Err(ReadFault::Memory),
-    }
+    )
 }

@@ -1,4 +1,4 @@
-ghost use Rattle.std.specs.Prelude.{◌≡◌, ◌+◌, ◌-◌, ◌*◌, ◌/◌, ◌≤◌, ◌++◌, is_some, length, true, Some, None, IfOk, OnOk};
+ghost use Rattle.std.specs.Prelude.{◌≡◌, ◌+◌, ◌-◌, ◌*◌, ◌/◌, ◌≤◌, ◌++◌, is_some, length, true, Some, None, IfErr, IfOk, OnOk};
 ghost use Rattle.blk_cache.specs.Cache.{AgreesTold};
 ghost use Rattle.blk_device.specs.Causes.{HasCause};
 ghost use Rattle.blk_device.specs.Contents.{Contents};
@@ -10,7 +10,7 @@ ghost use Rattle.dinode_core.specs.ForkTree.{entries, is_tree};
 ghost use Rattle.dinode_core.specs.Inline.{form_fault, key_room, root_keys, root_level};
 ghost use Rattle.dinode_core.specs.Shape.{size_of};
 ghost use Rattle.fork_read.specs.Answers.{is_failed};
-ghost use Rattle.fork_read.specs.Pieces.{AreInRange, CachesInode, IsAnswer, IsForkAnswer, IsRefused, IsSized, IsTreeAnswer};
+ghost use Rattle.fork_read.specs.Pieces.{AreInRange, CachesInode, IsAnswer, IsForkAnswer, IsSized, IsTreeAnswer};
 ghost use Rattle.fork_read.specs.Told.{PaysInode, PaysPiece, SpendsInode, SpendsPiece};
 ghost use Rattle.fork_read.specs.Walk.{pruned, tasks_of};
 
@@ -23,7 +23,7 @@ use crate::walk::walk_piece;
 use blk_cache::BlkCache;
 use blk_device::Device;
 use byte_fields::{Steps, get_u16};
-use dinode_core::{Core3, Fork, ForkError, fork_area, fork_size, inline_fork, is_in_btree};
+use dinode_core::{Core3, Fork, fork_area, fork_size, inline_fork, is_in_btree};
 use geom::Geometry;
 use std::alloc::Global;
 use std::collections::VecDeque;
@@ -50,6 +50,7 @@ fn push_root(
     requires long { 4 + 16 * room ≤ length area.now }
     ensures pushed { OnOk result (tasks.new.items ≡ tasks_of (root_level area.now - 1) (pruned from (entries (root_keys area.now) 4 (4 + 8 * room) area.now)) ++ tasks.old.items) }
     ensures level { IfOk result (λ level. level ≡ root_level area.now) }
+    ensures memory { IfErr result (λ error. error ≡ ReadFault.Memory) }
 {
     let level = get_u16(area, 0) as u8;
     let table = Table {
@@ -57,10 +58,8 @@ fn push_root(
         pointers: 4 + 8 * room,
         count: get_u16(area, 2) as usize,
     };
-    match push_entries(area, &table, level - 1, from, tasks) {
-        Ok(()) => Ok(level),
-        Err(_) => Err(ReadFault::Memory),
-    }
+    push_entries(area, &table, level - 1, from, tasks)?;
+    Ok(level)
 }
 
 // The piece of a fork in btree format.
@@ -89,22 +88,9 @@ fn tree_piece<D: Device, L: Ledger>(
     let mut seen = fresh_seen(alloc);
     let area = fork_area(core, fork);
     let room = root_room(core, fork);
-    let level = match push_root(area, room, from, &mut tasks) {
-        Ok(level) => level,
-        Err(_) => return Err(ReadFault::Memory),
-    };
+    let level = push_root(area, room, from, &mut tasks)?;
     let stop = walk_piece(dev, geo, core, from, &mut seen, &mut tasks, steps)?;
     answer(alloc, geo, fork, level, from, &seen, &stop)
-}
-
-// Why what the inode itself shows isn't answered.
-fn refused(error: ForkError) -> ReadFault
-    ensures { IsRefused error result }
-{
-    match error {
-        ForkError::Fault(fault) => ReadFault::Fork(fault),
-        ForkError::Memory => ReadFault::Memory,
-    }
 }
 
 /// The next mappings of a fork of this core, which was read before: what `fork_piece` answers of an
@@ -129,10 +115,7 @@ pub fn piece_of_core<D: Device, L: Ledger>(
     ensures spent { SpendsPiece (layout geo.now) (D.content dev.old) core.now fork from steps.old.reads steps.new.reads }
     ensures paid { PaysPiece (D.content dev.old) core.now fork from result steps.old.reads steps.new.reads }
 {
-    let mappings = match inline_fork(alloc, core, fork, geo) {
-        Ok(mappings) => mappings,
-        Err(error) => return Err(refused(error)),
-    };
+    let mappings = inline_fork(alloc, core, fork, geo)?;
     if is_in_btree(core, fork) {
         return tree_piece(alloc, dev, geo, core, fork, from, steps);
     }

@@ -1,4 +1,4 @@
-ghost use Rattle.std.specs.Prelude.{◌≡◌, ◌<◌, ◌≤◌, ◌+◌, ◌++◌, ◌==◌, ℕ, [], ◌∷◌, length, map, if◌then◌else◌, OnOk};
+ghost use Rattle.std.specs.Prelude.{◌≡◌, ◌<◌, ◌≤◌, ◌+◌, ◌++◌, ◌==◌, ℕ, [], ◌∷◌, length, map, if◌then◌else◌, IfErr, OnOk};
 ghost use Rattle.dinode_core.specs.ForkTree.{is_beside, leaf_mappings, numrecs, ends, start, with_mappings};
 ghost use Rattle.fork_read.specs.Answers.{given_of};
 ghost use Rattle.fork_read.specs.Walk.{block_of, blocks_given, entry_of, last_or, is_resumed, last_in, passed_from, skipped_to, trail_of};
@@ -94,6 +94,7 @@ fn give_block(seen: &mut Seen, task: &Task, from: u64) -> Result<(), ReadFault>
     ensures blocks { OnOk result (map block_of seen.new.blocks.items ≡ blocks_given from task.now seen.old) }
     ensures mappings { seen.new.mappings.items ≡ seen.old.mappings.items }
     ensures lasts { seen.new.lasts ≡ seen.old.lasts }
+    ensures memory { IfErr result (λ error. error ≡ ReadFault.Memory) }
 {
     let resumed = is_resumed_at(seen, task, from);
     if resumed {
@@ -103,10 +104,8 @@ fn give_block(seen: &mut Seen, task: &Task, from: u64) -> Result<(), ReadFault>
         block: task.block,
         before: seen.mappings.len(),
     };
-    match seen.blocks.push(read) {
-        Ok(()) => Ok(()),
-        Err(_) => Err(ReadFault::Memory),
-    }
+    seen.blocks.push(read)?;
+    Ok(())
 }
 
 // Keeps what was read last on a level.
@@ -122,6 +121,7 @@ pub fn note_block(seen: &mut Seen, task: &Task, from: u64, block: &Block) -> Res
     requires { task.now.level < 9 }
     ensures trail { OnOk result (trail_of seen.new ≡ passed_from from task.now.level (entry_of task.now) block.now.bytes (trail_of seen.old)) }
     ensures mappings { seen.new.mappings.items ≡ seen.old.mappings.items }
+    ensures memory { IfErr result (λ error. error ≡ ReadFault.Memory) }
 {
     give_block(seen, task, from)?;
     let read = LastRead {
@@ -138,15 +138,13 @@ pub fn take_leaf(seen: &mut Seen, block: &Block) -> Result<(), ReadFault>
     requires { numrecs block.now.bytes ≤ 251 }
     ensures trail { OnOk result (trail_of seen.new ≡ with_mappings (leaf_mappings block.now.bytes) (trail_of seen.old)) }
     ensures few { OnOk result ((from : ℕ) → given_of from seen.new.mappings.items ≤ given_of from seen.old.mappings.items + 251) }
+    ensures memory { IfErr result (λ error. error ≡ ReadFault.Memory) }
 {
     let (_, area) = block.bytes.split_at(72);
     let mut rest = area;
     let mut left = get_u16(&block.bytes, 6);
     while left > 0 {
-        match seen.mappings.push(mapping_at(rest, 0)) {
-            Ok(()) => {}
-            Err(_) => return Err(ReadFault::Memory),
-        }
+        seen.mappings.push(mapping_at(rest, 0))?;
         let (_, tail) = rest.split_at(16);
         rest = tail;
         left -= 1;

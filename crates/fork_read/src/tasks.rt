@@ -1,4 +1,4 @@
-ghost use Rattle.std.specs.Prelude.{◌≡◌, ◌+◌, ◌-◌, ◌*◌, ◌≤◌, ◌<◌, ◌++◌, length, OnOk};
+ghost use Rattle.std.specs.Prelude.{◌≡◌, ◌+◌, ◌-◌, ◌*◌, ◌≤◌, ◌<◌, ◌++◌, length, IfErr, OnOk};
 ghost use Rattle.fork_read.specs.First.{entries_from, entries_in};
 ghost use Rattle.fork_read.specs.Walk.{pruned, tasks_of};
 
@@ -48,6 +48,7 @@ pub fn push_entries(
     requires keys { table.now.keys + 8 * table.now.count ≤ length bytes.now }
     requires small { table.now.pointers + 8 * table.now.count ≤ length bytes.now }
     ensures pushed { OnOk result (tasks.new.items ≡ tasks_of level (pruned from (entries_in table.now bytes.now)) ++ tasks.old.items) }
+    ensures memory { IfErr result (λ error. error ≡ ReadFault.Memory) }
 {
     let first = first_entry(bytes, table, from);
     let mut i = table.count;
@@ -58,10 +59,7 @@ pub fn push_entries(
             key: get_u64(bytes, table.keys + 8 * i),
             block: get_u64(bytes, table.pointers + 8 * i),
         };
-        match tasks.push_front(task) {
-            Ok(()) => {}
-            Err(_) => return Err(ReadFault::Memory),
-        }
+        tasks.push_front(task)?;
     }
     Ok(())
 }

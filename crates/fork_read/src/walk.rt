@@ -58,10 +58,8 @@ fn load<D: Device, L: Ledger>(
 {
     let mut block = Block::zeroed();
     steps.block_read();
-    match dev.read(Region::Image, at, &mut block) {
-        Ok(()) => Ok(block),
-        Err(_) => Err(ReadFault::Failed),
-    }
+    dev.read(Region::Image, at, &mut block)?;
+    Ok(block)
 }
 
 /// Reads the block of a subtree and tests it in its place; none where it isn't sound.
@@ -126,25 +124,18 @@ fn read_task<D: Device, L: Ledger>(
         return Ok(false);
     };
     let skipped = skipped_at(seen, task, from);
-    match note_block(seen, task, from, &block) {
-        Ok(()) => {}
-        Err(_) => return Err(ReadFault::Memory),
-    }
+    note_block(seen, task, from, &block)?;
     if task.level == 0 {
-        match take_leaf(seen, &block) {
-            Ok(()) => return Ok(true),
-            Err(_) => return Err(ReadFault::Memory),
-        }
+        take_leaf(seen, &block)?;
+        return Ok(true);
     }
     let table = Table {
         keys: 72,
         pointers: 72 + 8 * 251,
         count: get_u16(&block.bytes, 6) as usize,
     };
-    match push_entries(&block.bytes, &table, task.level - 1, skipped, tasks) {
-        Ok(()) => Ok(true),
-        Err(_) => Err(ReadFault::Memory),
-    }
+    push_entries(&block.bytes, &table, task.level - 1, skipped, tasks)?;
+    Ok(true)
 }
 
 // Whether no subtree begins before this offset.

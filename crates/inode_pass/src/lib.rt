@@ -7,7 +7,7 @@ mod stop;
 mod unit;
 mod units;
 
-pub use load::load_block;
+pub use load::{load_block, read_block};
 pub use stop::PassStop;
 pub use unit::UnitSeen;
 pub use units::see_units;

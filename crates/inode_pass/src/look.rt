@@ -20,10 +20,7 @@ fn look(block: &Block, geo: &Geometry, ino: u64, slot: u32) -> Result<u16, CoreF
 {
     let (_, rest) = block.bytes.split_at(512 * slot as usize);
     let (own, _) = rest.split_at(512);
-    match decode_core(own, ino, &geo.uuid) {
-        Ok(core) => Ok(core.mode),
-        Err(fault) => Err(fault),
-    }
+    decode_core(own, ino, &geo.uuid).map(|core| core.mode)
 }
 
 // The same of a slot of a group's block.

@@ -1,5 +1,6 @@
 ghost use Rattle.std.specs.Prelude.{◌≡◌};
 
+use blk_device::DeviceFailed;
 use std::alloc::{AllocError, AllocFailed};
 use thiserror::Error;
 
@@ -11,6 +12,16 @@ pub enum PassStop {
     Failed,
     #[error("memory")]
     Memory,
+}
+
+impl From<DeviceFailed> for PassStop {
+    ghost use Rattle.inode_pass.specs.declared.stop.PassStop.TheVariants.{Failed};
+
+    ghost from_gives = { λ _ e. e ≡ Failed };
+
+    fn from(_: DeviceFailed) -> Self {
+        PassStop::Failed
+    }
 }
 
 impl From<AllocError> for PassStop {

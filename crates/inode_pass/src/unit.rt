@@ -9,11 +9,11 @@ ghost use Rattle.inode_pass.specs.Cores.{block_looks, blocks_looks, broken_from,
 ghost use Rattle.inode_pass.specs.Stops.{is_failed};
 ghost use Rattle.inode_pass.specs.Units.{IsSeen};
 
-use crate::load::load_block;
+use crate::load::read_block;
 use crate::look::look_block;
 use crate::stop::PassStop;
 use blk_device::Device;
-use byte_fields::Steps;
+use byte_fields::{Block, Steps};
 use dinode_core::CoreFault;
 use fs_model::Evidence;
 use geom::Geometry;
@@ -21,10 +21,12 @@ use index_derive::{UnitCores, free_mask};
 use std::alloc::{AllocError, Global};
 use std::sync::ledger::Ledger;
 
-// The blocks of a unit, and the inodes of a block.
+// The blocks of a unit, the inodes of a block, and those of a unit.
 const UNIT_BLOCKS: u32 = 8;
 
 const BLOCK_INODES: u32 = 8;
+
+const UNIT_INODES: usize = 64;
 
 /// What the 64 cores of a unit say together: which of its inodes are free, where all verify, and
 /// the first that doesn't, as evidence that names its block
@@ -35,12 +37,13 @@ pub struct UnitSeen {
     pub broken: Option<Evidence>,
 }
 
-// Puts down what the cores of one block of a group say.
+// Puts down what the cores of one block of a group say, which is read into a block that is lent.
 fn look_read<D: Device, L: Ledger>(
     dev: &mut D,
     geo: &Geometry,
     g: u32,
     b: u32,
+    block: &mut Block,
     looks: &mut Vec<Result<u16, CoreFault>>,
     steps: &mut Steps<L>,
 ) -> Result<(), PassStop>
@@ -54,8 +57,8 @@ fn look_read<D: Device, L: Ledger>(
     ensures one { steps.new.reads ≡ steps.old.reads + 1 }
 {
     let at = geo.device_block(g, b);
-    let block = load_block(dev, at, steps)?;
-    look_block(&block, geo, g, b, looks)?;
+    read_block(dev, at, block, steps)?;
+    look_block(block, geo, g, b, looks)?;
     Ok(())
 }
 
@@ -77,9 +80,11 @@ fn look_unit<D: Device, L: Ledger>(
     ensures cause { HasCause is_failed (D.faults dev.old) (D.faults dev.new) result }
     ensures few { steps.new.reads ≤ steps.old.reads + 8 }
 {
-    let mut looks = Vec::new(alloc);
+    let mut looks = Vec::with_capacity(alloc, UNIT_INODES)?;
+    let mut block = Block::zeroed();
     for j in 0..UNIT_BLOCKS {
-        look_read(dev, geo, g, UNIT_BLOCKS * unit + j, &mut looks, steps)?;
+        let b = UNIT_BLOCKS * unit + j;
+        look_read(dev, geo, g, b, &mut block, &mut looks, steps)?;
     }
     Ok(looks)
 }

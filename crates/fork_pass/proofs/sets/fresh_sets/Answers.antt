@@ -7,7 +7,7 @@ pub loop-i-init : goal.loop-i-init
 loop-i-init c = fresh_none c.new-sets.result.items c.new-sets.ensures.items
 
 pub loop-i-preserved : goal.loop-i-preserved
-loop-i-preserved c = fresh_more c.loop-i.i c.loop-i.sets.items c.push.new.self.items c.new-set.result c.loop-i.invariant c.in-Ok.ensures.items c.new-set.ensures
+loop-i-preserved c = fresh_more c.loop-i.i c.loop-i.sets.items c.push.new.self.items c.new-set.result c.loop-i.invariant c.in_ok-push.ensures.items c.new-set.ensures
 
 pub returns-clause-fresh : goal.returns-clause-fresh
 returns-clause-fresh c =

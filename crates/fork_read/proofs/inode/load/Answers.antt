@@ -1,8 +1,8 @@
 use Rattle.std.proofs.Common.{inl, inr}
 use Rattle.fork_read.proofs.inode.load.Goals as goal
 
-pub returns-in-Ok-clause-cached : goal.returns-in-Ok-clause-cached
-returns-in-Ok-clause-cached g c = inr (c.get.new.into, c.in-Ok.ensures.keeps)
+pub returns-clause-cached : goal.returns-clause-cached
+returns-clause-cached g c = inr (c.get.new.into, c.in_ok-get.ensures.keeps)
 
-pub returns-in-Err-clause-cached : goal.returns-in-Err-clause-cached
-returns-in-Err-clause-cached g c = inl c.in-Err.ensures.failed
+pub returns-in_err-get-clause-cached : goal.returns-in_err-get-clause-cached
+returns-in_err-get-clause-cached g c = inl c.in_err-get.ensures.failed

@@ -14,8 +14,8 @@ load-requires-clause-inside g c =
 pub returns-in_err-block-clause-cached : goal.returns-in_err-block-clause-cached
 returns-in_err-block-clause-cached g c = caches_inode (layout c.args.geo.now) (split_of (layout c.args.geo.now) (c.args.ino / 8)) c.in-Some.place c.device_block-at.result c.args.cache.now c.load.new.cache (sym c.split_fs_block.ensures.exact ∙ c.in-Some.is) c.device_block-at.ensures c.load.ensures.cached
 
-pub returns-in-Ok-clause-cached : goal.returns-in-Ok-clause-cached
-returns-in-Ok-clause-cached g c = caches_inode (layout c.args.geo.now) (split_of (layout c.args.geo.now) (c.args.ino / 8)) c.in-Some.place c.device_block-at.result c.args.cache.now c.load.new.cache (sym c.split_fs_block.ensures.exact ∙ c.in-Some.is) c.device_block-at.ensures c.load.ensures.cached
+pub returns-clause-cached : goal.returns-clause-cached
+returns-clause-cached g c = caches_inode (layout c.args.geo.now) (split_of (layout c.args.geo.now) (c.args.ino / 8)) c.in-Some.place c.device_block-at.result c.args.cache.now c.load.new.cache (sym c.split_fs_block.ensures.exact ∙ c.in-Some.is) c.device_block-at.ensures c.load.ensures.cached
 
-pub returns-in-Err-clause-cached : goal.returns-in-Err-clause-cached
-returns-in-Err-clause-cached g c = caches_inode (layout c.args.geo.now) (split_of (layout c.args.geo.now) (c.args.ino / 8)) c.in-Some.place c.device_block-at.result c.args.cache.now c.load.new.cache (sym c.split_fs_block.ensures.exact ∙ c.in-Some.is) c.device_block-at.ensures c.load.ensures.cached
+pub returns-in_err-core_in-clause-cached : goal.returns-in_err-core_in-clause-cached
+returns-in_err-core_in-clause-cached g c = caches_inode (layout c.args.geo.now) (split_of (layout c.args.geo.now) (c.args.ino / 8)) c.in-Some.place c.device_block-at.result c.args.cache.now c.load.new.cache (sym c.split_fs_block.ensures.exact ∙ c.in-Some.is) c.device_block-at.ensures c.load.ensures.cached

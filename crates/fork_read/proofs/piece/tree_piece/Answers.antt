@@ -37,47 +37,47 @@ push_root-requires-clause-long g c =
 pub walk_piece-requires-clause-low : goal.walk_piece-requires-clause-low
 walk_piece-requires-clause-low g c =
     let root = root_facts c.args.core.now c.args.fork c.requires.form c.requires.tree in
-    low_first c.args.core.now c.args.fork c.args.from c.fork_area-area.result.now c.root_room-room.result c.push_root.new.tasks.items c.new-tasks.result.items root.low root.high c.fork_area-area.ensures.bytes c.root_room-room.ensures c.new-tasks.ensures.items c.in-Ok.ensures.pushed
+    low_first c.args.core.now c.args.fork c.args.from c.fork_area-area.result.now c.root_room-room.result c.push_root.new.tasks.items c.new-tasks.result.items root.low root.high c.fork_area-area.ensures.bytes c.root_room-room.ensures c.new-tasks.ensures.items c.in_ok-level.ensures.pushed
 
 pub answer-requires : goal.answer-requires
 answer-requires g c =
     let root = root_facts c.args.core.now c.args.fork c.requires.form c.requires.tree in
-    rw (c.in-Ok.ensures.level, c.fork_area-area.ensures.bytes) root.high
+    rw (c.in_ok-level.ensures.level, c.fork_area-area.ensures.bytes) root.high
 
 pub returns-in_err-stop-clause-exact : goal.returns-in_err-stop-clause-exact
 returns-in_err-stop-clause-exact g c = λ m e.
-    let p = err_from_is_err_and c.from_residual.result c.from_residual.ensures.1 in rw (p.1, p.2) (tree_outside (layout c.args.geo.now) (m Image) c.args.core.now c.args.fork c.args.from c.in_err-stop.field-0.0 c.in_err-stop.ensures.outside)
+    let p = err_from_is_err_and c.from_residual-in_err-stop.result c.from_residual-in_err-stop.ensures.1 in rw (p.1, p.2) (tree_outside (layout c.args.geo.now) (m Image) c.args.core.now c.args.fork c.args.from c.in_err-stop.field-0.0 c.in_err-stop.ensures.outside)
 
 pub returns-clause-exact : goal.returns-clause-exact
 returns-clause-exact g c = λ m e.
-    let first = first_pushed c.args.core.now c.args.fork c.args.from c.fork_area-area.result.now c.root_room-room.result c.push_root.new.tasks.items c.new-tasks.result.items c.fork_area-area.ensures.bytes c.root_room-room.ensures c.new-tasks.ensures.items c.in-Ok.ensures.pushed in
-    let level : c.in-Ok.level ≡ root_level (area_of c.args.core.now c.args.fork) = c.in-Ok.ensures.level ∙ ap root_level c.fork_area-area.ensures.bytes in
+    let first = first_pushed c.args.core.now c.args.fork c.args.from c.fork_area-area.result.now c.root_room-room.result c.push_root.new.tasks.items c.new-tasks.result.items c.fork_area-area.ensures.bytes c.root_room-room.ensures c.new-tasks.ensures.items c.in_ok-level.ensures.pushed in
+    let level : c.in_ok-level.level ≡ root_level (area_of c.args.core.now c.args.fork) = c.in_ok-level.ensures.level ∙ ap root_level c.fork_area-area.ensures.bytes in
     let walked = ends_of (layout c.args.geo.now) (m Image) c.args.core.now c.args.fork c.args.from c.push_root.new.tasks.items c.walk_piece.new.tasks.items (trail_of c.fresh_seen-seen.result) (trail_of c.walk_piece.new.seen) c.in_ok-stop.stop first c.fresh_seen-seen.ensures (c.in_ok-stop.ensures.reached m e) (c.in_ok-stop.ensures.stopped m e) in
-    tree_answered (layout c.args.geo.now) (m Image) c.args.core.now c.args.fork c.args.from c.in_ok-stop.stop (trail_of c.walk_piece.new.seen) c.in-Ok.level (map (λ b. b.block) c.walk_piece.new.seen.blocks.items) c.answer.result walked level (numbers_same c.walk_piece.new.seen.blocks.items) c.answer.ensures.good c.answer.ensures.piece c.answer.ensures.fault
+    tree_answered (layout c.args.geo.now) (m Image) c.args.core.now c.args.fork c.args.from c.in_ok-stop.stop (trail_of c.walk_piece.new.seen) c.in_ok-level.level (map (λ b. b.block) c.walk_piece.new.seen.blocks.items) c.answer.result walked level (numbers_same c.walk_piece.new.seen.blocks.items) c.answer.ensures.good c.answer.ensures.piece c.answer.ensures.fault
 
 pub returns-clause-size : goal.returns-clause-size
-returns-clause-size g c = sized (layout c.args.geo.now) c.args.fork c.in-Ok.level c.args.from (trail_of c.walk_piece.new.seen) (map (λ b. b.block) c.walk_piece.new.seen.blocks.items) c.walk_piece.new.tasks.items c.in_ok-stop.stop c.answer.result c.answer.ensures.good c.in_ok-stop.ensures.leaves c.answer.ensures.piece
+returns-clause-size g c = sized (layout c.args.geo.now) c.args.fork c.in_ok-level.level c.args.from (trail_of c.walk_piece.new.seen) (map (λ b. b.block) c.walk_piece.new.seen.blocks.items) c.walk_piece.new.tasks.items c.in_ok-stop.stop c.answer.result c.answer.ensures.good c.in_ok-stop.ensures.leaves c.answer.ensures.piece
 
 pub returns-clause-range : goal.returns-clause-range
 returns-clause-range g c =
-    tree_ranged (layout c.args.geo.now) c.args.fork c.in-Ok.level c.args.from c.in_ok-stop.stop (trail_of c.walk_piece.new.seen) (map (λ b. b.block) c.walk_piece.new.seen.blocks.items) (next_of c.in_ok-stop.stop) c.answer.result c.answer.ensures.good c.answer.ensures.piece
+    tree_ranged (layout c.args.geo.now) c.args.fork c.in_ok-level.level c.args.from c.in_ok-stop.stop (trail_of c.walk_piece.new.seen) (map (λ b. b.block) c.walk_piece.new.seen.blocks.items) (next_of c.in_ok-stop.stop) c.answer.result c.answer.ensures.good c.answer.ensures.piece
 
-pub returns-in-Err-clause-spent : goal.returns-in-Err-clause-spent
-returns-in-Err-clause-spent g c = λ m e. nothing_spent (layout c.args.geo.now) (m Image) c.args.core.now c.args.fork c.args.from c.args.steps.now.reads c.args.steps.now.reads refl
+pub returns-in_err-level-clause-spent : goal.returns-in_err-level-clause-spent
+returns-in_err-level-clause-spent g c = λ m e. nothing_spent (layout c.args.geo.now) (m Image) c.args.core.now c.args.fork c.args.from c.args.steps.now.reads c.args.steps.now.reads refl
 
 pub returns-in_err-stop-clause-spent : goal.returns-in_err-stop-clause-spent
 returns-in_err-stop-clause-spent g c = λ m e.
-    let first = first_pushed c.args.core.now c.args.fork c.args.from c.fork_area-area.result.now c.root_room-room.result c.push_root.new.tasks.items c.new-tasks.result.items c.fork_area-area.ensures.bytes c.root_room-room.ensures c.new-tasks.ensures.items c.in-Ok.ensures.pushed in
+    let first = first_pushed c.args.core.now c.args.fork c.args.from c.fork_area-area.result.now c.root_room-room.result c.push_root.new.tasks.items c.new-tasks.result.items c.fork_area-area.ensures.bytes c.root_room-room.ensures c.new-tasks.ensures.items c.in_ok-level.ensures.pushed in
     tree_spent (layout c.args.geo.now) (m Image) c.args.core.now c.args.fork c.args.from c.push_root.new.tasks.items (trail_of c.fresh_seen-seen.result) c.args.steps.now.reads c.walk_piece.new.steps.reads first c.fresh_seen-seen.ensures c.requires.tree (c.walk_piece.ensures.spent m e)
 
 pub returns-clause-spent : goal.returns-clause-spent
 returns-clause-spent g c = λ m e.
-    let first = first_pushed c.args.core.now c.args.fork c.args.from c.fork_area-area.result.now c.root_room-room.result c.push_root.new.tasks.items c.new-tasks.result.items c.fork_area-area.ensures.bytes c.root_room-room.ensures c.new-tasks.ensures.items c.in-Ok.ensures.pushed in
+    let first = first_pushed c.args.core.now c.args.fork c.args.from c.fork_area-area.result.now c.root_room-room.result c.push_root.new.tasks.items c.new-tasks.result.items c.fork_area-area.ensures.bytes c.root_room-room.ensures c.new-tasks.ensures.items c.in_ok-level.ensures.pushed in
     tree_spent (layout c.args.geo.now) (m Image) c.args.core.now c.args.fork c.args.from c.push_root.new.tasks.items (trail_of c.fresh_seen-seen.result) c.args.steps.now.reads c.walk_piece.new.steps.reads first c.fresh_seen-seen.ensures c.requires.tree (c.walk_piece.ensures.spent m e)
 
 pub returns-clause-paid : goal.returns-clause-paid
 returns-clause-paid g c =
-    let good = both_ok (λ _. judged (layout c.args.geo.now) c.args.fork c.in-Ok.level c.in_ok-stop.stop (trail_of c.walk_piece.new.seen) ≡ None) (λ piece. IsPiece c.args.from c.walk_piece.new.seen.mappings.items (map (λ b. b.block) c.walk_piece.new.seen.blocks.items) (next_of c.in_ok-stop.stop) piece) c.answer.result c.answer.ensures.good c.answer.ensures.piece in
-    let first = first_pushed c.args.core.now c.args.fork c.args.from c.fork_area-area.result.now c.root_room-room.result c.push_root.new.tasks.items c.new-tasks.result.items c.fork_area-area.ensures.bytes c.root_room-room.ensures c.new-tasks.ensures.items c.in-Ok.ensures.pushed in
+    let good = both_ok (λ _. judged (layout c.args.geo.now) c.args.fork c.in_ok-level.level c.in_ok-stop.stop (trail_of c.walk_piece.new.seen) ≡ None) (λ piece. IsPiece c.args.from c.walk_piece.new.seen.mappings.items (map (λ b. b.block) c.walk_piece.new.seen.blocks.items) (next_of c.in_ok-stop.stop) piece) c.answer.result c.answer.ensures.good c.answer.ensures.piece in
+    let first = first_pushed c.args.core.now c.args.fork c.args.from c.fork_area-area.result.now c.root_room-room.result c.push_root.new.tasks.items c.new-tasks.result.items c.fork_area-area.ensures.bytes c.root_room-room.ensures c.new-tasks.ensures.items c.in_ok-level.ensures.pushed in
     IfOk-weaker c.answer.result _ _ (λ piece h m e.
-    tree_paid (layout c.args.geo.now) (m Image) c.args.core.now c.args.fork c.args.from c.requires.form c.requires.tree c.push_root.new.tasks.items c.walk_piece.new.tasks.items (trail_of c.fresh_seen-seen.result) c.walk_piece.new.seen c.in_ok-stop.stop c.in-Ok.level c.args.steps.now.reads c.walk_piece.new.steps.reads piece first c.fresh_seen-seen.ensures h.0 h.1 (c.in_ok-stop.ensures.paid m e)) good
+    tree_paid (layout c.args.geo.now) (m Image) c.args.core.now c.args.fork c.args.from c.requires.form c.requires.tree c.push_root.new.tasks.items c.walk_piece.new.tasks.items (trail_of c.fresh_seen-seen.result) c.walk_piece.new.seen c.in_ok-stop.stop c.in_ok-level.level c.args.steps.now.reads c.walk_piece.new.steps.reads piece first c.fresh_seen-seen.ensures h.0 h.1 (c.in_ok-stop.ensures.paid m e)) good

@@ -11,7 +11,7 @@ loop-left-preserved c =
     let tail : c.split_at-in-loop-left.result.1.now ≡ drop 16 c.loop-left.rest.now = c.split_at-in-loop-left.ensures.back in
     let here : c.mapping_at.result ≡ unpacked c.loop-left.rest.now = c.mapping_at.ensures.exact in
     record {
-      goes_on = rw (c.in-Ok.ensures.items, tail, here) (one_more c.loop-left.seen.mappings.items (c.args.seen.now.mappings.items ++ leaf_mappings c.args.block.now.bytes) c.loop-left.left c.loop-left.rest.now c.loop-left-test.true c.loop-left.invariant.goes_on);
+      goes_on = rw (c.in_ok-push.ensures.items, tail, here) (one_more c.loop-left.seen.mappings.items (c.args.seen.now.mappings.items ++ leaf_mappings c.args.block.now.bytes) c.loop-left.left c.loop-left.rest.now c.loop-left-test.true c.loop-left.invariant.goes_on);
       room = omega (arith, c.split_at-in-loop-left.ensures.back_len, c.loop-left.invariant.room);
       blocks = c.loop-left.invariant.blocks;
       lasts = c.loop-left.invariant.lasts;

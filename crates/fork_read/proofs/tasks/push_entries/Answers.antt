@@ -11,7 +11,7 @@ loop-i-init c = record {
 
 pub loop-i-preserved : goal.loop-i-preserved
 loop-i-preserved c = record {
-  pushed = rw (c.in-Ok.ensures.items, c.get_u64.ensures, c.get_u64-in-loop-i.ensures) (pushed_one c.args.level c.args.table.now.count c.args.table.now.keys c.args.table.now.pointers c.loop-i.i c.args.bytes.now c.args.tasks.now.items c.loop-i.tasks.items (omega (arith, c.loop-i-test.true)) c.loop-i.invariant.below c.loop-i.invariant.pushed);
+  pushed = rw (c.in_ok-push_front.ensures.items, c.get_u64.ensures, c.get_u64-in-loop-i.ensures) (pushed_one c.args.level c.args.table.now.count c.args.table.now.keys c.args.table.now.pointers c.loop-i.i c.args.bytes.now c.args.tasks.now.items c.loop-i.tasks.items (omega (arith, c.loop-i-test.true)) c.loop-i.invariant.below c.loop-i.invariant.pushed);
   below = omega (arith, c.loop-i.invariant.below);
   behind = omega (arith, c.loop-i-test.true);
 }

@@ -14,36 +14,36 @@ returns-in_default-clause-read g c = λ m e.
     let found = c.in_ok-found.ensures.found m e in
     bad_block (layout c.args.geo.now) (m Image) c.args.core.now c.args.from c.args.task.now c.args.tasks.now.items (trail_of c.args.seen.now) (found ∙ ap bytes_of c.in_default.is)
 
-pub returns-in-Ok-take_leaf-clause-read : goal.returns-in-Ok-take_leaf-clause-read
-returns-in-Ok-take_leaf-clause-read g c = λ m e.
+pub returns-then-task-eq0-clause-read : goal.returns-then-task-eq0-clause-read
+returns-then-task-eq0-clause-read g c = λ m e.
     let found = c.in_ok-found.ensures.found m e in
-    leaf_block (layout c.args.geo.now) (m Image) c.args.core.now c.args.from c.args.task.now c.args.tasks.now.items (trail_of c.args.seen.now) (trail_of c.take_leaf.new.seen) c.in-Some.block.bytes c.if-task-eq0.true (found ∙ ap bytes_of c.in-Some.is) (with_leaf c.in-Some.block.bytes (trail_of c.note_block.new.seen) (trail_of c.take_leaf.new.seen) _ c.in-Ok.ensures.trail c.in-Ok-take_leaf.ensures.trail)
+    leaf_block (layout c.args.geo.now) (m Image) c.args.core.now c.args.from c.args.task.now c.args.tasks.now.items (trail_of c.args.seen.now) (trail_of c.take_leaf.new.seen) c.in-Some.block.bytes c.if-task-eq0.true (found ∙ ap bytes_of c.in-Some.is) (with_leaf c.in-Some.block.bytes (trail_of c.note_block.new.seen) (trail_of c.take_leaf.new.seen) _ c.in_ok-note_block.ensures.trail c.in_ok-take_leaf.ensures.trail)
 
-pub returns-in-Ok-push_entries-clause-read : goal.returns-in-Ok-push_entries-clause-read
-returns-in-Ok-push_entries-clause-read g c = λ m e.
-    let found = c.in_ok-found.ensures.found m e in
-    let high : 0 < c.args.task.now.level = omega (arith, c.if-task-eq0.false) in
-    node_block (layout c.args.geo.now) (m Image) c.args.core.now c.args.from c.args.task.now c.args.tasks.now.items c.push_entries.new.tasks.items (trail_of c.args.seen.now) (trail_of c.note_block.new.seen) c.in-Some.block.bytes high (found ∙ ap bytes_of c.in-Some.is) c.in-Ok.ensures.trail (pushed_node c.skipped_at-skipped.result (skipped_to c.args.from (last_in c.args.seen.now.lasts c.args.task.now.level) c.args.task.now.key) (c.args.task.now.level - 1) c.get_u16.result c.in-Some.block.bytes c.args.tasks.now.items c.push_entries.new.tasks.items c.skipped_at-skipped.ensures c.get_u16.ensures c.in-Ok-push_entries.ensures.pushed)
-
-pub returns-in-Ok-push_entries-clause-low : goal.returns-in-Ok-push_entries-clause-low
-returns-in-Ok-push_entries-clause-low g c =
-    pushed_low (skipped_to c.args.from (last_in c.args.seen.now.lasts c.args.task.now.level) c.args.task.now.key) (c.args.task.now.level - 1) c.in-Some.block.bytes c.args.tasks.now.items c.push_entries.new.tasks.items (omega (arith, c.requires.low)) c.requires.all_low (pushed_node c.skipped_at-skipped.result (skipped_to c.args.from (last_in c.args.seen.now.lasts c.args.task.now.level) c.args.task.now.key) (c.args.task.now.level - 1) c.get_u16.result c.in-Some.block.bytes c.args.tasks.now.items c.push_entries.new.tasks.items c.skipped_at-skipped.ensures c.get_u16.ensures c.in-Ok-push_entries.ensures.pushed)
-
-pub returns-in-Ok-take_leaf-clause-step : goal.returns-in-Ok-take_leaf-clause-step
-returns-in-Ok-take_leaf-clause-step g c = λ m e.
-    let found = c.in_ok-found.ensures.found m e in
-    leaf_read (layout c.args.geo.now) (m Image) c.args.core.now c.args.from c.args.task.now c.args.tasks.now.items (trail_of c.args.seen.now) (trail_of c.take_leaf.new.seen) c.in-Some.block.bytes c.if-task-eq0.true (found ∙ ap bytes_of c.in-Some.is) (with_leaf c.in-Some.block.bytes (trail_of c.note_block.new.seen) (trail_of c.take_leaf.new.seen) _ c.in-Ok.ensures.trail c.in-Ok-take_leaf.ensures.trail)
-
-pub returns-in-Ok-push_entries-clause-step : goal.returns-in-Ok-push_entries-clause-step
-returns-in-Ok-push_entries-clause-step g c = λ m e.
+pub returns-clause-read : goal.returns-clause-read
+returns-clause-read g c = λ m e.
     let found = c.in_ok-found.ensures.found m e in
     let high : 0 < c.args.task.now.level = omega (arith, c.if-task-eq0.false) in
-    node_read (layout c.args.geo.now) (m Image) c.args.core.now c.args.from c.args.task.now c.args.tasks.now.items c.push_entries.new.tasks.items (trail_of c.args.seen.now) (trail_of c.note_block.new.seen) c.in-Some.block.bytes high (found ∙ ap bytes_of c.in-Some.is) c.in-Ok.ensures.trail (pushed_node c.skipped_at-skipped.result (skipped_to c.args.from (last_in c.args.seen.now.lasts c.args.task.now.level) c.args.task.now.key) (c.args.task.now.level - 1) c.get_u16.result c.in-Some.block.bytes c.args.tasks.now.items c.push_entries.new.tasks.items c.skipped_at-skipped.ensures c.get_u16.ensures c.in-Ok-push_entries.ensures.pushed)
+    node_block (layout c.args.geo.now) (m Image) c.args.core.now c.args.from c.args.task.now c.args.tasks.now.items c.push_entries.new.tasks.items (trail_of c.args.seen.now) (trail_of c.note_block.new.seen) c.in-Some.block.bytes high (found ∙ ap bytes_of c.in-Some.is) c.in_ok-note_block.ensures.trail (pushed_node c.skipped_at-skipped.result (skipped_to c.args.from (last_in c.args.seen.now.lasts c.args.task.now.level) c.args.task.now.key) (c.args.task.now.level - 1) c.get_u16.result c.in-Some.block.bytes c.args.tasks.now.items c.push_entries.new.tasks.items c.skipped_at-skipped.ensures c.get_u16.ensures c.in_ok-push_entries.ensures.pushed)
 
-pub returns-in-Ok-push_entries-clause-falls : goal.returns-in-Ok-push_entries-clause-falls
-returns-in-Ok-push_entries-clause-falls g c = λ high.
+pub returns-clause-low : goal.returns-clause-low
+returns-clause-low g c =
+    pushed_low (skipped_to c.args.from (last_in c.args.seen.now.lasts c.args.task.now.level) c.args.task.now.key) (c.args.task.now.level - 1) c.in-Some.block.bytes c.args.tasks.now.items c.push_entries.new.tasks.items (omega (arith, c.requires.low)) c.requires.all_low (pushed_node c.skipped_at-skipped.result (skipped_to c.args.from (last_in c.args.seen.now.lasts c.args.task.now.level) c.args.task.now.key) (c.args.task.now.level - 1) c.get_u16.result c.in-Some.block.bytes c.args.tasks.now.items c.push_entries.new.tasks.items c.skipped_at-skipped.ensures c.get_u16.ensures c.in_ok-push_entries.ensures.pushed)
+
+pub returns-then-task-eq0-clause-step : goal.returns-then-task-eq0-clause-step
+returns-then-task-eq0-clause-step g c = λ m e.
+    let found = c.in_ok-found.ensures.found m e in
+    leaf_read (layout c.args.geo.now) (m Image) c.args.core.now c.args.from c.args.task.now c.args.tasks.now.items (trail_of c.args.seen.now) (trail_of c.take_leaf.new.seen) c.in-Some.block.bytes c.if-task-eq0.true (found ∙ ap bytes_of c.in-Some.is) (with_leaf c.in-Some.block.bytes (trail_of c.note_block.new.seen) (trail_of c.take_leaf.new.seen) _ c.in_ok-note_block.ensures.trail c.in_ok-take_leaf.ensures.trail)
+
+pub returns-clause-step : goal.returns-clause-step
+returns-clause-step g c = λ m e.
+    let found = c.in_ok-found.ensures.found m e in
+    let high : 0 < c.args.task.now.level = omega (arith, c.if-task-eq0.false) in
+    node_read (layout c.args.geo.now) (m Image) c.args.core.now c.args.from c.args.task.now c.args.tasks.now.items c.push_entries.new.tasks.items (trail_of c.args.seen.now) (trail_of c.note_block.new.seen) c.in-Some.block.bytes high (found ∙ ap bytes_of c.in-Some.is) c.in_ok-note_block.ensures.trail (pushed_node c.skipped_at-skipped.result (skipped_to c.args.from (last_in c.args.seen.now.lasts c.args.task.now.level) c.args.task.now.key) (c.args.task.now.level - 1) c.get_u16.result c.in-Some.block.bytes c.args.tasks.now.items c.push_entries.new.tasks.items c.skipped_at-skipped.ensures c.get_u16.ensures c.in_ok-push_entries.ensures.pushed)
+
+pub returns-clause-falls : goal.returns-clause-falls
+returns-clause-falls g c = λ high.
     let some : 1 ≤ numrecs c.in-Some.block.bytes = subst (λ o. IfSome o (λ (block : Block). 1 ≤ numrecs block.bytes)) c.in-Some.is c.in_ok-found.ensures.some in
-    let same = pushed_falls (skipped_to c.args.from (last_in c.args.seen.now.lasts c.args.task.now.level) c.args.task.now.key) (c.args.task.now.level - 1) c.in-Some.block.bytes c.args.tasks.now.items c.push_entries.new.tasks.items some (pushed_node c.skipped_at-skipped.result (skipped_to c.args.from (last_in c.args.seen.now.lasts c.args.task.now.level) c.args.task.now.key) (c.args.task.now.level - 1) c.get_u16.result c.in-Some.block.bytes c.args.tasks.now.items c.push_entries.new.tasks.items c.skipped_at-skipped.ensures c.get_u16.ensures c.in-Ok-push_entries.ensures.pushed) in
+    let same = pushed_falls (skipped_to c.args.from (last_in c.args.seen.now.lasts c.args.task.now.level) c.args.task.now.key) (c.args.task.now.level - 1) c.in-Some.block.bytes c.args.tasks.now.items c.push_entries.new.tasks.items some (pushed_node c.skipped_at-skipped.result (skipped_to c.args.from (last_in c.args.seen.now.lasts c.args.task.now.level) c.args.task.now.key) (c.args.task.now.level - 1) c.get_u16.result c.in-Some.block.bytes c.args.tasks.now.items c.push_entries.new.tasks.items c.skipped_at-skipped.ensures c.get_u16.ensures c.in_ok-push_entries.ensures.pushed) in
     omega (arith, same, high)
 
 pub returns-in_default-clause-step : goal.returns-in_default-clause-step

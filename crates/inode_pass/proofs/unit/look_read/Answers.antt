@@ -7,7 +7,7 @@ use Rattle.inode_pass.proofs.unit.look_read.Goals as goal
 
 pub returns-clause-exact : goal.returns-clause-exact
 returns-clause-exact g c = λ m e.
-    c.in_ok-look_block.ensures ∙ ap (λ bytes. c.args.looks.now.items ++ block_looks (layout c.args.geo.now) bytes c.args.g c.args.b) (c.in_ok-block.ensures.told m e ∙ ap (m Image) c.device_block-at.ensures)
+    c.in_ok-look_block.ensures ∙ ap (λ bytes. c.args.looks.now.items ++ block_looks (layout c.args.geo.now) bytes c.args.g c.args.b) (c.in_ok-read_block.ensures.told m e ∙ ap (m Image) c.device_block-at.ensures)
 
 pub returns-clause-eight : goal.returns-clause-eight
-returns-clause-eight g c = eight_more (layout c.args.geo.now) c.in_ok-block.block.bytes c.args.g c.args.b c.args.looks.now.items c.look_block.new.looks.items c.in_ok-look_block.ensures
+returns-clause-eight g c = eight_more (layout c.args.geo.now) c.read_block.new.into.bytes c.args.g c.args.b c.args.looks.now.items c.look_block.new.looks.items c.in_ok-look_block.ensures

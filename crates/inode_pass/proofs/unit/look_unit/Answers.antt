@@ -8,8 +8,8 @@ use Rattle.inode_pass.proofs.unit.look_unit.Goals as goal
 
 pub loop-j-init : goal.loop-j-init
 loop-j-init g c = record {
-  told = λ m e. c.new-looks.ensures.items ∙ no_block (layout c.args.geo.now) (m Image) c.args.g (8 * c.args.unit);
-  counted = ap (λ xs. length xs) c.new-looks.ensures.items;
+  told = λ m e. c.in_ok-looks.ensures.items ∙ no_block (layout c.args.geo.now) (m Image) c.args.g (8 * c.args.unit);
+  counted = ap (λ xs. length xs) c.in_ok-looks.ensures.items;
   reading = nothing_read g.D.Device g.met.D.Device.only_now g.met.D.Device.counts_now c.args.dev.now c.args.steps.now;
   calm = refl;
   few = omega arith;
