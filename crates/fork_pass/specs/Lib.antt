@@ -1,6 +1,5 @@
 pub mod Counted
 pub mod Passed
-pub mod Parts
 pub mod Pieces
 pub mod Read
 pub mod Sets

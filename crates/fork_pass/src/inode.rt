@@ -4,6 +4,7 @@ ghost use Rattle.blk_device.specs.Contents.{Contents};
 ghost use Rattle.blk_device.specs.Reading.{OnlyRead};
 ghost use Rattle.blk_device.specs.declared.device.Region.TheVariants.{Image};
 ghost use Rattle.byte_fields.specs.Fields.{field};
+ghost use Rattle.dinode_core.specs.Core.{core_of};
 ghost use Rattle.fork_pass.specs.Counted.{fork_most, inode_most, slot_most};
 ghost use Rattle.fork_pass.specs.Read.{IsInodeRead, IsRestRead};
 ghost use Rattle.fork_pass.specs.Told.{CountsMost, SeesAllocated, SeesSlot};
@@ -11,12 +12,11 @@ ghost use Rattle.fs_state.specs.Inodes.{slot_in};
 ghost use Rattle.geom.specs.Places.{layout};
 ghost use Rattle.inode_pass.specs.Stops.{is_failed};
 
-use crate::decode::core_at;
 use crate::fork::{ForkRead, see_fork};
 use crate::pieces::put_blocks;
 use blk_device::Device;
 use byte_fields::{Block, Steps, get_u16};
-use dinode_core::{Core3, Fork, ForkFault};
+use dinode_core::{Core3, Fork, ForkFault, read_core};
 use fs_model::Evidence;
 use geom::Geometry;
 use inode_pass::PassStop;
@@ -32,6 +32,16 @@ fn mode_in(block: &Block, slot: u32) -> u16
     let (_, rest) = block.bytes.split_at(512 * slot as usize);
     let (own, _) = rest.split_at(512);
     get_u16(own, 2)
+}
+
+// What the fields of the inode in a slot of its block say.
+fn core_at(block: &Block, slot: u32) -> Core3
+    requires { slot < 8 }
+    ensures { result ≡ core_of (slot_in block.now.bytes slot) }
+{
+    let (_, rest) = block.bytes.split_at(512 * slot as usize);
+    let (own, _) = rest.split_at(512);
+    read_core(own)
 }
 
 // Reads the attribute fork of a core, and puts what it claims and these blocks of the data fork's

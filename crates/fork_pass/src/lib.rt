@@ -2,7 +2,6 @@
 //! that can't be read.
 #![tactic(auto)]
 
-mod decode;
 mod fork;
 mod inode;
 mod pass;
