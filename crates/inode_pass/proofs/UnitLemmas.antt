@@ -1,20 +1,19 @@
 -- What the cores of a unit say of the state that an image stands for right after it was opened.
-use Rattle.std.proofs.Common.{◌≡◌, ℕ, zero, suc, ◌+◌, ◌*◌, ◌/◌, ◌%◌, ◌<◌, ◌≤◌, List, [], ◌∷◌, ◌++◌, length, get_or, drop, map, refl, ap, sym, ◌∙◌, arith, append_assoc, Option, Some, None, Result, Ok, Err}
-use Rattle.std.specs.Prelude.{flat_map, slice_index_or}
+use Rattle.std.proofs.Common.{◌≡◌, ℕ, zero, suc, ◌+◌, ◌*◌, ◌/◌, ◌%◌, ◌<◌, ◌≤◌, List, [], ◌∷◌, ◌++◌, length, get_or, drop, map, refl, ap, sym, ◌∙◌, arith, append_assoc, Option, Some, Result}
+use Rattle.std.specs.Prelude.{slice_index_or}
 use Rattle.std.proofs.lemmas.List.{append-nil}
 use Rattle.std.proofs.Math.Seq.{drop-cons}
 use Rattle.dinode_core.specs.declared.inode.CoreFault.{CoreFault}
 use Rattle.fs_derive.specs.Chunks.{inode_in}
 use Rattle.fs_derive.specs.Contradiction.{bad_core, bad_in_unit}
 use Rattle.fs_derive.specs.Lists.{numbers, first_of_all}
-use Rattle.fs_model.specs.declared.claim.Evidence.{Evidence}
 use Rattle.fs_state.specs.Inodes.{core_in, slot_in}
 use Rattle.fs_state.specs.Kinds.{Image}
-use Rattle.fs_state.specs.Read.{core_of_ino, opened, reserved}
-use Rattle.fs_state.specs.State.{CoreState, Broken, Whole}
+use Rattle.fs_state.specs.Read.{core_of_ino, opened}
+use Rattle.fs_state.specs.State.{CoreState}
 use Rattle.geom.specs.Apart.{Splits}
-use Rattle.geom.specs.Layout.{Layout, device_block_of, fs_block_of, group_len_of, inode_at, split_of}
-use Rattle.index_derive.specs.Inodes.{AreModes, mask_in, mode_of}
+use Rattle.geom.specs.Layout.{Layout, device_block_of, fs_block_of, group_len_of, inode_at}
+use Rattle.index_derive.specs.Inodes.{AreModes, mode_of}
 use Rattle.run_sets.specs.Runs.{EndWithin}
 use Rattle.run_sets.specs.declared.run.Run.{Run}
 use Rattle.inode_pass.specs.Cores.{block_looks, blocks_looks, broken_from, look_in, mode_seen}

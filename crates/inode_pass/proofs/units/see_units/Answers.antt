@@ -1,4 +1,4 @@
-use Rattle.std.proofs.Common.{◌≡◌, ◌+◌, ◌∙◌, ◌/◌, arith}
+use Rattle.std.proofs.Common.{◌∙◌, ◌/◌, arith}
 use Rattle.blk_device.specs.ReadingLaws.{read_on}
 use Rattle.geom.specs.Layout.{group_len_of}
 use Rattle.geom.specs.Places.{layout}
