@@ -17,7 +17,7 @@ use Rattle.space_check.specs.declared.halt.Halt.{Halt}
 use Rattle.space_check.specs.declared.journal.Journal.{Journal}
 use Rattle.space_check.proofs.EventLemmas.{cut_off, first_stops, none_done, not_begun, one_event, then_does}
 use Rattle.check_phases.specs.Checks.{reached}
-use Rattle.check_phases.specs.Parts.{AddsGroups, AddsPart, AddsParts, AreJudged, AreParts, AreSkipped, IsJudgedEvent, IsJudgedPart, IsSpacePart}
+use Rattle.check_phases.specs.Parts.{AddsGroups, AddsPart, AddsParts, AreParts, AreSkipped, IsJudgedEvent, IsJudgedPart, IsSpacePart}
 use Rattle.check_phases.specs.declared.part.Part.{Part}
 use Rattle.check_phases.specs.declared.tally.Tally.{Tally}
 

@@ -1,5 +1,5 @@
 -- The heads of all groups, group by group, and the first of them that is refused.
-use Rattle.std.proofs.Common.{◌≡◌, ℕ, ◌+◌, List, [], ◌∷◌, ◌++◌, length, Some, None, Err, refl, sym, subst, arith}
+use Rattle.std.proofs.Common.{◌≡◌, ℕ, ◌+◌, List, [], ◌∷◌, ◌++◌, length, Some, None, Result, Ok, Err, IfErr, IfOk, IsErrAnd, MatchResult, refl, sym, subst, arith}
 use Rattle.ag_headers.specs.Agfl.{agfl_fault}
 use Rattle.ag_headers.specs.Agi.{agi_fault}
 use Rattle.ag_headers.specs.declared.fault.HeadFault.{HeadFault}
@@ -34,6 +34,14 @@ module _ (at : Layout) (image : Image) (g : ℕ) where
   stop_meets T (stops.Refused head fault) halt is said = subst (λ (h : Halt). MeetsHead {T = T} g (bad_head at g (heads_at at image g)) (Err h)) (sym said) (refl, bad_is head fault is)
   stop_meets T stops.Failed halt is said = outside_heads T g (bad_head at g (heads_at at image g)) halt said
   stop_meets T stops.Memory halt is said = outside_heads T g (bad_head at g (heads_at at image g)) halt said
+
+  -- the heads of a group end it as this, where each refusal is told as the check's
+  pub heads_met : (P : HeadsStop → Halt → Type 0) → ((stop : HeadsStop) (halt : Halt) → P stop halt → StopsAtHead g stop halt)
+      → (r : Result GroupHeads HeadsStop) (result : Result GroupHeads Halt) → MatchResult r (λ heads. result ≡ Ok heads) (λ stop. IsErrAnd result (P stop))
+      → IfOk r (λ heads. PassIn at image g) → IfErr r (IsRefusedIn at image g) → MeetsHead g (bad_head at g (heads_at at image g)) result
+  heads_met P says (Ok heads) result is passed refused = subst (MeetsHead g (bad_head at g (heads_at at image g))) (sym is) (none_bad passed)
+  heads_met P says (Err stop) (Ok heads) is passed refused = absurd is
+  heads_met P says (Err stop) (Err halt) is passed refused = stop_meets GroupHeads stop halt refused (says stop halt is)
 
   pub heads_behind : (k : ℕ) (hs : List GroupHeads) (h : GroupHeads) → k + length hs ≡ g → AreHeads at image k hs → IsHeadsOf at image g h → AreHeads at image k (hs ++ h ∷ [])
   heads_behind k [] h here are is = let e : g ≡ k = omega (arith, here) in (subst (λ x. IsHeadsOf at image x h) e is, tt)

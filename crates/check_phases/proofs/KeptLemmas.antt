@@ -7,9 +7,8 @@ use Rattle.fs_derive.specs.Session.{Place}
 use Rattle.fs_model.specs.declared.entry.Entry.{Entry}
 use Rattle.fs_model.specs.declared.unit.Unit.{Unit as ScrubUnit}
 use Rattle.fs_state.specs.State.{State}
-use Rattle.space_check.specs.Events.{Event, Moment, entries_of, moment, most_entries, reads_of}
-use Rattle.space_check.specs.Groups.{event}
-use Rattle.space_check.specs.Progress.{Adds, Begins}
+use Rattle.space_check.specs.Events.{Event, Moment, entries_of, most_entries, reads_of}
+use Rattle.space_check.specs.Progress.{Adds}
 use Rattle.space_check.specs.declared.halt.Halt.{Halt}
 use Rattle.space_check.specs.declared.halt.Halt.TheVariants.{Memory}
 use Rattle.check_phases.specs.Kept.{AreKept, KeepsEvents, StopsKept, begun_of, group_kept, phase_kept}

@@ -1,5 +1,5 @@
 -- Blocks that the parts of a check read, where the device tells its content.
-use Rattle.std.proofs.Common.{◌≡◌, ℕ, ◌+◌, ◌-◌, ◌<◌, ◌≤◌, Bool, List, [], ◌∷◌, ◌++◌, length, map, Option, Some, None, Result, Ok, Err, refl, sym, ◌∙◌, ap, subst, append_assoc, arith}
+use Rattle.std.proofs.Common.{◌≡◌, ℕ, ◌+◌, ◌-◌, ◌<◌, ◌≤◌, Bool, List, [], ◌∷◌, ◌++◌, length, map, Option, Some, None, Result, Ok, Err, refl, sym, ◌∙◌, ap, subst, arith}
 use Rattle.std.specs.Prelude.{flat_map}
 use Rattle.ag_headers.specs.declared.agf.Agf.{Agf}
 use Rattle.blk_device.specs.Contents.{Contents}
@@ -20,17 +20,17 @@ use Rattle.quiet_check.specs.Judged.{IsJudged}
 use Rattle.quiet_check.specs.Space.{IsMapped}
 use Rattle.quiet_check.specs.declared.judge.Judged.{Judged}
 use Rattle.rmap_recs.specs.declared.records.RmapRec.{RmapRec}
-use Rattle.space_check.specs.Events.{AreDone, Event, Moment, StopsIn, entries_of, most_entries}
+use Rattle.space_check.specs.Events.{Event, Moment, StopsIn, entries_of, most_entries}
 use Rattle.space_check.specs.Groups.{event, free_reads}
-use Rattle.space_check.specs.Progress.{Adds, HasRead}
+use Rattle.space_check.specs.Progress.{Adds}
 use Rattle.space_check.specs.declared.halt.Halt.{Halt}
 use Rattle.space_check.specs.declared.halt.Halt.TheVariants as halts
 use Rattle.tree_blocks.specs.declared.tree.TreeRead.{TreeRead}
 use Rattle.check_phases.specs.Checks.{Checks}
-use Rattle.check_phases.specs.Kept.{AreKept, KeepsEvents, KeepsBoth, KeepsCounts, KeepsFree, KeepsGroup, KeepsTold, StopsKept, begun_of, come, group_kept, kept_event, mapped_reads, most_in, phase_kept, unit_kept}
+use Rattle.check_phases.specs.Kept.{KeepsEvents, KeepsBoth, KeepsCounts, KeepsFree, KeepsGroup, KeepsTold, StopsKept, come, group_kept, kept_event, mapped_reads, most_in, phase_kept, unit_kept}
 use Rattle.check_phases.specs.Phases.{Inodes, Phase, Space, group_events, lacks_nothing, phase_events, unit_event, units_in}
 use Rattle.check_phases.specs.declared.tally.Tally.{Tally}
-use Rattle.check_phases.proofs.KeptLemmas.{as_kept, cut_kept, groups_begun, groups_ended, groups_go_on, groups_stop, none_begun, one_kept, stops_early, then_keeps}
+use Rattle.check_phases.proofs.KeptLemmas.{cut_kept, groups_begun, groups_ended, groups_go_on, groups_stop, none_begun, one_kept, stops_early, then_keeps}
 
 -- ---- events that read nothing
 

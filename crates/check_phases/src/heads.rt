@@ -51,10 +51,7 @@ fn read_group<D: Device, L: Ledger>(
     ensures reading { OnlyRead D.Device dev.old dev.new steps.old steps.new }
     ensures cause { HasCause is_failed (D.faults dev.old) (D.faults dev.new) result }
 {
-    match read_heads(alloc, dev, geo, g, steps) {
-        Ok(heads) => Ok(heads),
-        Err(stop) => Err(halt_of(g, stop)),
-    }
+    read_heads(alloc, dev, geo, g, steps).map_err(|stop| halt_of(g, stop))
 }
 
 // Reads the heads of one group, and puts them behind those of the groups before.

@@ -10,7 +10,6 @@ ghost use Rattle.check_phases.specs.Phases.{Inodes, lacks_nothing};
 ghost use Rattle.fs_model.specs.declared.unit.Unit.TheVariants as units;
 ghost use Rattle.geom.specs.Layout.{group_len_of};
 ghost use Rattle.geom.specs.Places.{layout};
-ghost use Rattle.inode_pass.specs.Stops.{is_failed as is_failed_pass};
 ghost use Rattle.inode_pass.specs.Units.{opened_state};
 ghost use Rattle.quiet_check.specs.Counted.{inodes_most};
 ghost use Rattle.quiet_check.specs.Judged.{IsJudged};
@@ -24,23 +23,10 @@ use byte_fields::Steps;
 use fs_model::Unit;
 use geom::Geometry;
 use group_trees::GroupHeads;
-use inode_pass::PassStop;
 use quiet_check::{Judged, judge_inodes};
 use space_check::Halt;
 use std::alloc::Global;
 use std::sync::ledger::Ledger;
-
-/// What a pass over inodes that stopped is to a check: the device failed, or there was no memory
-/// (XFS Online Fsck Design, "Inode Scans").
-pub fn halt_of(stop: PassStop) -> Halt
-    ensures failed { is_failed result ≡ is_failed_pass stop }
-    ensures outside { IsOutside result }
-{
-    match stop {
-        PassStop::Failed => Halt::Failed,
-        PassStop::Memory => Halt::Memory,
-    }
-}
 
 // Judges the inodes of a group, without a cache: each block is read once.
 fn judge_unit<D: Device, L: Ledger>(
@@ -62,10 +48,8 @@ fn judge_unit<D: Device, L: Ledger>(
     ensures cause { HasCause is_failed (D.faults dev.old) (D.faults dev.new) result }
 {
     let mut cache = BlkCache::new(alloc, 0)?;
-    match judge_inodes(alloc, dev, &mut cache, geo, g, heads, steps) {
-        Ok(judged) => Ok(judged),
-        Err(stop) => Err(halt_of(stop)),
-    }
+    let judged = judge_inodes(alloc, dev, &mut cache, geo, g, heads, steps)?;
+    Ok(judged)
 }
 
 /// Checks the inodes of group `g`, whose heads were accepted: a journal that is full, a device that

@@ -10,7 +10,7 @@ mod space;
 mod tally;
 
 pub use heads::read_all_heads;
-pub use inodes::{check_inodes, halt_of};
+pub use inodes::check_inodes;
 pub use lacks::{inodes_lacked, mappings_lacked};
 pub use laws::{
     check_is_session, cut_is_session, passed_can_be_read, phases_are_session, phases_in_order,

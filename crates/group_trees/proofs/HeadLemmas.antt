@@ -1,6 +1,7 @@
 -- The heads of a group, as they were decoded.
-use Rattle.std.proofs.Common.{◌≡◌, ℕ, false, ◌<◌, ◌≤◌, List, [], ◌∷◌, Result, Ok, Err, IfErr, ap, sym, subst, ◌∙◌}
+use Rattle.std.proofs.Common.{◌≡◌, ℕ, ◌<◌, ◌≤◌, List, [], ◌∷◌, Result, Ok, Err, MatchResult, ap, sym, subst, ◌∙◌}
 use Rattle.std.proofs.lemmas.Bool.{lt-ltb}
+use Rattle.std.proofs.lemmas.Result.{IfOk-at_ok}
 use Rattle.std.specs.List.{AllByRecursion}
 use Rattle.std.proofs.lemmas.List.Elements.{recursion_from_All}
 use Rattle.ag_headers.specs.Agf.{agf_of}
@@ -12,9 +13,6 @@ use Rattle.ag_headers.specs.declared.agi.Agi.{Agi}
 use Rattle.fs_state.specs.Kinds.{Heads, heads_in}
 use Rattle.geom.specs.Layout.{Layout, group_len_of}
 use Rattle.tree_walk.specs.Trails.{LieInside}
-use Rattle.group_trees.specs.Heads.{IsRefusal, is_failed}
-use Rattle.group_trees.specs.declared.accept.HeadsStop.{HeadsStop}
-use Rattle.group_trees.specs.declared.accept.HeadsStop.TheVariants as stops
 
 pub heads_same : (bytes : List ℕ) (h : Heads) (agf : Agf) (agi : Agi) (ring : FreeRing) → h ≡ record { agf = agf; agi = agi; list = entries ring } → agf ≡ agf_of bytes → agi ≡ agi_of bytes → ring ≡ agfl_of bytes → h ≡ heads_in bytes
 unfolding heads_in
@@ -29,10 +27,7 @@ inside_list at g h agf agi ring is of =
     subst (LieInside (group_len_of at g)) (sym (ap (λ x. x.list) is))
     (inside_each (group_len_of at g) (entries ring) (recursion_from_All (λ b. (1 ≤ b) × (b < group_len_of at g)) (entries ring) of.blocks.inside))
 
-pub refused_memory : {T : Type 0} (at : Layout) (g : ℕ) (bytes : List ℕ) (result : Result T HeadsStop) → IfErr result (λ stop. stop ≡ stops.Memory) → IfErr result (IsRefusal at g bytes)
-refused_memory at g bytes (Ok heads) h = tt
-refused_memory at g bytes (Err stop) h = subst (IsRefusal at g bytes) (sym h) tt
-
-pub own_memory : {T : Type 0} (result : Result T HeadsStop) → IfErr result (λ stop. stop ≡ stops.Memory) → IfErr result (λ stop. is_failed stop ≡ false)
-own_memory (Ok heads) h = tt
-own_memory (Err stop) h = ap is_failed h
+-- an answer that `map_err` leaves is the call's, so it has what the call ensures
+pub answered : {T E : Type 0} (D : Type 0) (S : Result T E → Type 0) (r : Result T E) (x : T) → MatchResult r (λ y. ◌≡◌ {A = Result T D} (Ok x) (Ok y)) (λ e. ⊥) → S r → S (Ok x)
+answered D S (Ok y) x is s = IfOk-at_ok (λ v. S (Ok v)) (sym is) s
+answered D S (Err e) x is s = absurd is

@@ -12,12 +12,13 @@ ghost use Rattle.tree_walk.specs.Trails.{LieInside};
 
 use crate::heads::{GroupHeads, free_list};
 use ag_headers::{Agf, Agfl, Agi, HeadFault, decode_agf, decode_agfl, decode_agi};
+use blk_cache::Memory;
 use blk_device::Device;
 use byte_fields::{Block, Steps};
 use fs_model::Head;
 use geom::Geometry;
-use inode_pass::load_block;
-use std::alloc::Global;
+use inode_pass::{PassStop, load_block};
+use std::alloc::{AllocError, Global};
 use std::sync::ledger::Ledger;
 
 /// Why the heads of a group aren't answered: one of them is refused, the device failed, or there was
@@ -27,6 +28,41 @@ pub enum HeadsStop {
     Refused { head: Head, fault: HeadFault },
     Failed,
     Memory,
+}
+
+impl From<AllocError> for HeadsStop {
+    ghost use Rattle.group_trees.specs.declared.accept.HeadsStop.TheVariants.{Memory};
+
+    ghost from_gives = { λ _ e. e ≡ Memory };
+
+    fn from(_: AllocError) -> Self {
+        HeadsStop::Memory
+    }
+}
+
+impl From<Memory> for HeadsStop {
+    ghost use Rattle.group_trees.specs.declared.accept.HeadsStop.TheVariants.{Memory};
+
+    ghost from_gives = { λ _ e. e ≡ Memory };
+
+    fn from(_: Memory) -> Self {
+        HeadsStop::Memory
+    }
+}
+
+// A pass over inodes refuses no head.
+impl From<PassStop> for HeadsStop {
+    ghost use Rattle.group_trees.specs.Heads.{IsOutside, is_failed};
+    ghost use Rattle.inode_pass.specs.Stops.{is_failed as is_failed_pass};
+
+    ghost from_gives = { λ stop e. (is_failed e ≡ is_failed_pass stop) × IsOutside e };
+
+    fn from(stop: PassStop) -> Self {
+        match stop {
+            PassStop::Failed => HeadsStop::Failed,
+            PassStop::Memory => HeadsStop::Memory,
+        }
+    }
 }
 
 fn refused(head: Head, fault: HeadFault) -> HeadsStop
@@ -39,10 +75,8 @@ fn with_list(alloc: Global, agf: Agf, agi: Agi, list: &Agfl) -> Result<GroupHead
     ensures exact { IfOk result (λ heads. heads_seen heads ≡ record { agf = agf; agi = agi; list = entries list.now }) }
     ensures memory { IfErr result (λ stop. stop ≡ HeadsStop.Memory) }
 {
-    match free_list(alloc, list) {
-        Ok(list) => Ok(GroupHeads { agf, agi, list }),
-        Err(_) => Err(HeadsStop::Memory),
-    }
+    let list = free_list(alloc, list)?;
+    Ok(GroupHeads { agf, agi, list })
 }
 
 // The heads in block 0 of a group, where all three pass.
@@ -54,18 +88,10 @@ fn heads_in(alloc: Global, block: &Block, geo: &Geometry, g: u32) -> Result<Grou
     ensures refused { IfErr result (IsRefusal (layout geo.now) g block.now.bytes) }
     ensures own { IfErr result (λ stop. is_failed stop ≡ false) }
 {
-    let agf = match decode_agf(block, geo, g) {
-        Ok(agf) => agf,
-        Err(fault) => return Err(refused(Head::Agf, fault)),
-    };
-    let agi = match decode_agi(block, geo, g) {
-        Ok(agi) => agi,
-        Err(fault) => return Err(refused(Head::Agi, fault)),
-    };
-    match decode_agfl(block, geo, g) {
-        Ok(list) => with_list(alloc, agf, agi, &list),
-        Err(fault) => Err(refused(Head::Agfl, fault)),
-    }
+    let agf = decode_agf(block, geo, g).map_err(|fault| refused(Head::Agf, fault))?;
+    let agi = decode_agi(block, geo, g).map_err(|fault| refused(Head::Agi, fault))?;
+    let list = decode_agfl(block, geo, g).map_err(|fault| refused(Head::Agfl, fault))?;
+    with_list(alloc, agf, agi, &list)
 }
 
 /// Reads block 0 of group `g` and answers its three heads, where all of them pass their tests; else
@@ -89,9 +115,6 @@ pub fn read_heads<D: Device, L: Ledger>(
     ensures one { steps.new.reads ≡ steps.old.reads + 1 }
 {
     let at = geo.device_block(g, 0);
-    let block = match load_block(dev, at, steps) {
-        Ok(block) => block,
-        Err(_) => return Err(HeadsStop::Failed),
-    };
+    let block = load_block(dev, at, steps)?;
     heads_in(alloc, &block, geo, g)
 }

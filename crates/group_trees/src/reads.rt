@@ -122,10 +122,7 @@ fn read_claims<K: RecKind, D: Device, L: Ledger>(
     ensures agrees { AgreesTold cache.new (D.content dev.new) }
     ensures few { steps.new.reads ≤ steps.old.reads + 9 * group_len_of (layout geo.now) tree.now.group }
 {
-    let set = match claimed::<K, D, L>(alloc, dev, cache, geo, tree, steps) {
-        Ok(set) => set,
-        Err(fault) => return Err(outside(fault)),
-    };
+    let set = claimed::<K, D, L>(alloc, dev, cache, geo, tree, steps).map_err(outside)?;
     let blocks = blocks_in(alloc, set.runs())?;
     Ok(blocks)
 }

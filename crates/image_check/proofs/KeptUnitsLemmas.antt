@@ -31,7 +31,7 @@ use Rattle.space_check.specs.declared.halt.Halt.{Halt}
 use Rattle.space_check.specs.declared.halt.Halt.TheVariants as halts
 use Rattle.space_check.specs.declared.journal.Journal.{Journal}
 use Rattle.image_check.proofs.DecidedLemmas.{empty_room, events_judged}
-use Rattle.image_check.specs.Image.{IsKept, bounded, image_events, units_events}
+use Rattle.image_check.specs.Image.{ReadsForEvents, bounded, image_events, units_events}
 use Rattle.image_check.specs.Kept.{KeepsMappings, all_kept, mappings_kept, units_kept}
 use Rattle.image_check.specs.Reads.{most_read}
 
@@ -194,7 +194,7 @@ module _ (at : Layout) (image : Image) where
   no_units bad is = rw (is, units_events) refl
 
   -- a look was cut off
-  look_kept : (i before after : ℕ) → i < looked_at at image → after ≡ before + (i + 1) → IsKept (image_events at image) before after []
+  look_kept : (i before after : ℕ) → i < looked_at at image → after ≡ before + (i + 1) → ReadsForEvents (image_events at image) before after []
   unfolding image_events
   look_kept i before after lt read =
       let k = looked_at at image - suc i in
@@ -208,7 +208,7 @@ module _ (at : Layout) (image : Image) where
         read = omega (arith, read, begun, reads_looks i);
       }
 
-  by_halt : (halt : Halt) (before after : ℕ) → HaltsInHeads at image before after halt → IsKept (image_events at image) before after []
+  by_halt : (halt : Halt) (before after : ℕ) → HaltsInHeads at image before after halt → ReadsForEvents (image_events at image) before after []
   unfolding image_events
   by_halt (halts.Head g head fault) before after h =
       let looked = looked_some (g, (head, fault)) h.0 in
@@ -223,14 +223,14 @@ module _ (at : Layout) (image : Image) where
   by_halt halts.Failed before after h = look_kept h.0 before after h.1 h.2
   by_halt halts.Memory before after h = look_kept h.0 before after h.1 h.2
 
-  pub heads_end : (halt : Halt) (before after : ℕ) (journal : List Entry) → journal ≡ [] → HaltsInHeads at image before after halt → IsKept (image_events at image) before after journal
-  heads_end halt before after journal empty h = subst (λ (j : List Entry). IsKept (image_events at image) before after j) (sym empty) (by_halt halt before after h)
+  pub heads_end : (halt : Halt) (before after : ℕ) (journal : List Entry) → journal ≡ [] → HaltsInHeads at image before after halt → ReadsForEvents (image_events at image) before after journal
+  heads_end halt before after journal empty h = subst (λ (j : List Entry). ReadsForEvents (image_events at image) before after j) (sym empty) (by_halt halt before after h)
 
-  is_kept : {T : Type 0} (before after : ℕ) (journal : List Entry) (result : Result T Halt) → KeepsEvents (image_events at image) (moment [] before) (moment journal after) result → IsKept (image_events at image) before after journal
+  is_kept : {T : Type 0} (before after : ℕ) (journal : List Entry) (result : Result T Halt) → KeepsEvents (image_events at image) (moment [] before) (moment journal after) result → ReadsForEvents (image_events at image) before after journal
   is_kept before after journal (Ok done) h = record { done = image_events at image; rest = []; whole = sym (append-nil (image_events at image)); entries = h.entries; read = omega (arith, h.read) }
   is_kept before after journal (Err halt) h = record { done = h.done; rest = h.rest; whole = h.whole; entries = h.entries; read = h.read }
 
-  pub units_end : {T : Type 0} (before mid after : ℕ) (empty journal : List Entry) (result : Result T Halt) → bad_head_from at image 0 at.agcount ≡ None → mid ≡ before + at.agcount → empty ≡ [] → KeepsEvents (units_kept at image) (moment empty mid) (moment journal after) result → IsKept (image_events at image) before after journal
+  pub units_end : {T : Type 0} (before mid after : ℕ) (empty journal : List Entry) (result : Result T Halt) → bad_head_from at image 0 at.agcount ≡ None → mid ≡ before + at.agcount → empty ≡ [] → KeepsEvents (units_kept at image) (moment empty mid) (moment journal after) result → ReadsForEvents (image_events at image) before after journal
   unfolding image_events
   units_end before mid after empty journal result none read is h =
       let here = subst (λ (j : List Entry). KeepsEvents (units_kept at image) (moment j mid) (moment journal after) result) is h in

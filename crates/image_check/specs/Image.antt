@@ -55,7 +55,7 @@ journal_in (Err stop) = stop.journal.items
 
 -- Of these events the first were done, with these entries, and no more blocks were read than for them and for the next
 -- one, which begins only where the journal has room.
-pub record IsKept (events : List Event) (before now : ℕ) (journal : List Entry) : Type 0 where
+pub record ReadsForEvents (events : List Event) (before now : ℕ) (journal : List Entry) : Type 0 where
   pub done : List Event
   pub rest : List Event
   pub whole : events ≡ done ++ rest

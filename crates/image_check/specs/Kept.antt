@@ -22,7 +22,7 @@ use Rattle.space_check.specs.Events.{Event}
 use Rattle.space_check.specs.declared.halt.Halt.{Halt}
 use Rattle.unit_plan.specs.Sets.{pieces_of}
 use Rattle.unit_plan.specs.declared.claims.ClaimSet.{ClaimSet}
-use Rattle.image_check.specs.Image.{IsKept, bounded, image_events}
+use Rattle.image_check.specs.Image.{ReadsForEvents, bounded, image_events}
 use Rattle.image_check.specs.Mappings.{IsReady}
 use Rattle.image_check.specs.Reads.{chunks_most, most_read}
 
@@ -77,4 +77,4 @@ KeepsUnits at told before reads after reads' result = KeepsTold told (units_kept
 -- ---- a whole image
 
 abbrev pub KeepsImage : Layout → Option Contents → (before now : ℕ) → (journal : List Entry) → Type 0
-KeepsImage at told before now journal = (c : Contents) → told ≡ Some c → IsKept (image_events at (c regions.Image)) before now journal
+KeepsImage at told before now journal = (c : Contents) → told ≡ Some c → ReadsForEvents (image_events at (c regions.Image)) before now journal

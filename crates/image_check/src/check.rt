@@ -4,7 +4,7 @@ ghost use Rattle.blk_device.specs.Contents.{Contents};
 ghost use Rattle.blk_device.specs.Reading.{OnlyRead};
 ghost use Rattle.blk_device.specs.declared.device.Region.TheVariants.{Image};
 ghost use Rattle.geom.specs.Places.{layout};
-ghost use Rattle.image_check.specs.Image.{IsKept, MeetsEnd, image_checked, image_events, journal_in};
+ghost use Rattle.image_check.specs.Image.{MeetsEnd, ReadsForEvents, image_checked, image_events, journal_in};
 ghost use Rattle.image_check.specs.Kept.{KeepsImage};
 ghost use Rattle.image_check.specs.Units.{EndsInSession, IsSession};
 ghost use Rattle.space_check.specs.Checked.{CheckCause, MeetsCheck};
@@ -58,7 +58,7 @@ pub fn check_image<D: Device, L: Ledger, W: Watch>(
     requires room { geo.now.dblocks ≤ D.blocks dev.old Image }
     ensures exact { IfSome (D.content dev.old) (λ c. MeetsCheck (image_checked (layout geo.now) (c Image)) result) }
     ensures session { IsSession geo.now.agcount result }
-    ensures kept { IfSome (D.content dev.old) (λ c. IsKept (image_events (layout geo.now) (c Image)) steps.old.reads steps.new.reads (journal_in result)) }
+    ensures kept { IfSome (D.content dev.old) (λ c. ReadsForEvents (image_events (layout geo.now) (c Image)) steps.old.reads steps.new.reads (journal_in result)) }
     ensures reading { OnlyRead D.Device dev.old dev.new steps.old steps.new }
     ensures cause { CheckCause (D.faults dev.old) (D.faults dev.new) result }
 {

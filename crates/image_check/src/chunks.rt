@@ -53,13 +53,8 @@ pub fn read_chunks<D: Device, L: Ledger>(
     ensures reading { OnlyRead D.Device dev.old dev.new steps.old steps.new }
     ensures cause { HasCause is_failed (D.faults dev.old) (D.faults dev.new) result }
 {
-    let mut cache = match BlkCache::new(alloc, 0) {
-        Ok(cache) => cache,
-        Err(_) => return Err(PassStop::Memory),
-    };
+    let mut cache = BlkCache::new(alloc, 0).map_err(|_| PassStop::Memory)?;
     let ino = read_kind::<InoKind, D, L>(alloc, dev, &mut cache, geo, g, heads, steps)?;
-    match units_of(alloc, recs_of(&ino)) {
-        Ok(units) => Ok(units),
-        Err(_) => Err(PassStop::Memory),
-    }
+    let units = units_of(alloc, recs_of(&ino))?;
+    Ok(units)
 }

@@ -24,8 +24,7 @@ use crate::parts::{give_up_part, skip_part};
 use blk_device::Device;
 use byte_fields::Steps;
 use check_phases::{
-    Part, Tally, check_inode_part, check_space_part, halt_of, passed_can_be_read,
-    phases_are_session,
+    Part, Tally, check_inode_part, check_space_part, passed_can_be_read, phases_are_session,
 };
 use check_watch::Watch;
 use fork_pass::{ForksSeen, read_forks};
@@ -78,10 +77,8 @@ fn forks_of<D: Device, L: Ledger, W: Watch>(
     ensures reading { OnlyRead D.Device dev.old dev.new steps.old steps.new }
     ensures cause { HasCause is_failed (D.faults dev.old) (D.faults dev.new) result }
 {
-    match read_forks(alloc, dev, geo, lists, steps, watch) {
-        Ok(seen) => Ok(seen),
-        Err(stop) => Err(halt_of(stop)),
-    }
+    let seen = read_forks(alloc, dev, geo, lists, steps, watch)?;
+    Ok(seen)
 }
 
 // Whether a unit didn't pass.

@@ -18,7 +18,6 @@ ghost use Rattle.space_check.specs.Progress.{is_failed, IsOutside};
 use crate::chunks::read_chunks;
 use blk_device::Device;
 use byte_fields::Steps;
-use check_phases::halt_of;
 use geom::Geometry;
 use group_trees::GroupHeads;
 use space_check::Halt;
@@ -45,10 +44,8 @@ fn chunks_in<D: Device, L: Ledger>(
     ensures reading { OnlyRead D.Device dev.old dev.new steps.old steps.new }
     ensures cause { HasCause is_failed (D.faults dev.old) (D.faults dev.new) result }
 {
-    match read_chunks(alloc, dev, geo, g, &heads[g as usize], steps) {
-        Ok(units) => Ok(units),
-        Err(stop) => Err(halt_of(stop)),
-    }
+    let units = read_chunks(alloc, dev, geo, g, &heads[g as usize], steps)?;
+    Ok(units)
 }
 
 // Reads the chunks of one group, and puts them behind those of the groups before.

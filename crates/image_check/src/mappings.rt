@@ -20,7 +20,7 @@ ghost use Rattle.tree_walk.specs.Trails.{LieInside};
 use crate::sets::take_set;
 use blk_device::Device;
 use byte_fields::Steps;
-use check_phases::{Part, Tally, groups_in, halt_of};
+use check_phases::{Part, Tally, groups_in};
 use check_watch::{Phase, Watch};
 use fs_model::Unit;
 use geom::Geometry;
@@ -54,10 +54,8 @@ fn judge_unit<D: Device, L: Ledger>(
     ensures reading { OnlyRead D.Device dev.old dev.new steps.old steps.new }
     ensures cause { HasCause is_failed (D.faults dev.old) (D.faults dev.new) result }
 {
-    match judge_mappings(alloc, dev, geo, g, heads, chunks, set, steps) {
-        Ok(judged) => Ok(judged),
-        Err(stop) => Err(halt_of(stop)),
-    }
+    let judged = judge_mappings(alloc, dev, geo, g, heads, chunks, set, steps)?;
+    Ok(judged)
 }
 
 /// Checks the reverse mappings of group `g`, whose heads were accepted, by the claims of all forks. A

@@ -68,10 +68,7 @@ fn judge_records(
 {
     mappings_of_group();
     good_forks();
-    let recs = match set.into_mappings(alloc) {
-        Ok(recs) => recs,
-        Err(_) => return Err(PassStop::Memory),
-    };
+    let recs = set.into_mappings(alloc).map_err(|_| PassStop::Memory)?;
     let faults = mapping_faults(alloc, agf, recs.as_slice(), &trees.rmap)?;
     Ok(Judged::Faults(faults))
 }
@@ -117,10 +114,8 @@ fn judge_all_claims(
     ensures own { IfErr result (λ stop. stop ≡ PassStop.Memory) }
 {
     let list = heads.list.as_slice();
-    match put_metadata(&mut set, geo.log, g, list, trees, chunks) {
-        Ok(()) => judge_claims(alloc, geo, g, &heads.agf, trees, set),
-        Err(_) => Err(PassStop::Memory),
-    }
+    put_metadata(&mut set, geo.log, g, list, trees, chunks).map_err(|_| PassStop::Memory)?;
+    judge_claims(alloc, geo, g, &heads.agf, trees, set)
 }
 
 // Judges by the trees and the claims of the forks.
@@ -173,10 +168,7 @@ pub fn judge_mappings<D: Device, L: Ledger>(
     ensures cause { HasCause is_failed (D.faults dev.old) (D.faults dev.new) result }
     ensures counted { (c : Contents) → D.content dev.old ≡ Some c → steps.new.reads ≤ steps.old.reads + trees_most (layout geo.now) (c Image) g }
 {
-    let mut cache = match BlkCache::new(alloc, 0) {
-        Ok(cache) => cache,
-        Err(_) => return Err(PassStop::Memory),
-    };
+    let mut cache = BlkCache::new(alloc, 0).map_err(|_| PassStop::Memory)?;
     let trees = read_trees(alloc, dev, &mut cache, geo, g, heads, steps)?;
     judge_trees(alloc, geo, g, heads, &trees, chunks, set)
 }

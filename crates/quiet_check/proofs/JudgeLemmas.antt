@@ -1,5 +1,5 @@
 -- The faults of a group's inode btrees are those of the state, and what decides a unit.
-use Rattle.std.proofs.Common.{◌≡◌, ℕ, zero, suc, ◌+◌, ◌*◌, ◌/◌, ◌^◌, ◌<◌, ◌≤◌, Bool, true, false, List, [], ◌∷◌, ◌++◌, All, length, map, refl, ap, sym, subst, ◌∙◌, arith, append_assoc, Option, Some, None, Result, Ok, Err, IfErr}
+use Rattle.std.proofs.Common.{◌≡◌, ℕ, zero, suc, ◌+◌, ◌*◌, ◌/◌, ◌^◌, ◌<◌, ◌≤◌, Bool, true, false, List, [], ◌∷◌, ◌++◌, All, length, map, refl, ap, sym, subst, ◌∙◌, arith, append_assoc, Option, Some, None, Result, Ok, Err, IfOk, IfErr, IsErrAnd, MatchResult}
 use Rattle.std.specs.Prelude.{nat_lt, sum_by, if◌then◌else◌}
 use Rattle.std.specs.List.{filter}
 use Rattle.std.proofs.lemmas.Bool.{lt-ltb}
@@ -381,3 +381,9 @@ faults_decide at g heads trees seen found j is exact left image so =
 pub own_cause : {T : Type 0} (before now : ℕ) (result : Result T PassStop) → now ≡ before → IfErr result (λ stop. stop ≡ stops.Memory) → HasCause is_failed before now result
 own_cause before now (Ok answer) same own = same
 own_cause before now (Err stop) same own = subst (λ (s : PassStop). MovesOnly (is_failed s) before now) (sym own) same
+
+-- what `map_err` answers is an answer of the call, and has what follows from what the call ensures
+pub kept_answers : {T E D : Type 0} (S S' : T → Type 0) (P : E → D → Type 0) (r : Result T E) (result : Result T D) → MatchResult r (λ x. result ≡ Ok x) (λ e. IsErrAnd result (P e)) → ((x : T) → S x → S' x) → IfOk r S → IfOk result S'
+kept_answers S S' P (Ok x) result is follows s = subst (λ (y : Result _ _). IfOk y S') (sym is) (follows x s)
+kept_answers S S' P (Err e) (Ok x) is follows s = absurd is
+kept_answers S S' P (Err e) (Err d) is follows s = tt

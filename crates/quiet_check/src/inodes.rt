@@ -7,7 +7,6 @@ ghost use Rattle.fs_model.specs.declared.unit.Unit.TheVariants as units;
 ghost use Rattle.fs_state.specs.Kinds.{heads_of};
 ghost use Rattle.geom.specs.Layout.{group_len_of};
 ghost use Rattle.geom.specs.Places.{layout};
-ghost use Rattle.inode_pass.specs.Stops.{is_failed as is_failed_pass};
 ghost use Rattle.inode_pass.specs.Units.{opened_state};
 ghost use Rattle.quiet_check.specs.Counted.{inodes_most};
 ghost use Rattle.quiet_check.specs.Entries.{AreInodeEntries};
@@ -23,21 +22,9 @@ use byte_fields::Steps;
 use fs_model::{Entry, Unit};
 use geom::Geometry;
 use group_trees::{GroupHeads, HeadsStop, read_heads};
-use inode_pass::PassStop;
 use space_check::Journal;
 use std::alloc::Global;
 use std::sync::ledger::Ledger;
-
-// Why a unit isn't judged, where no head is refused.
-fn stopped(stop: PassStop) -> HeadsStop
-    ensures failed { is_failed result ≡ is_failed_pass stop }
-    ensures outside { IsOutside result }
-{
-    match stop {
-        PassStop::Failed => HeadsStop::Failed,
-        PassStop::Memory => HeadsStop::Memory,
-    }
-}
 
 // Judges the inodes of a group by its heads, without a cache: each block is read once.
 fn judge_by<D: Device, L: Ledger>(
@@ -58,14 +45,9 @@ fn judge_by<D: Device, L: Ledger>(
     ensures cause { HasCause is_failed (D.faults dev.old) (D.faults dev.new) result }
     ensures counted { (c : Contents) → D.content dev.old ≡ Some c → steps.new.reads ≤ steps.old.reads + inodes_most (layout geo.now) (c Image) g }
 {
-    let mut cache = match BlkCache::new(alloc, 0) {
-        Ok(cache) => cache,
-        Err(_) => return Err(HeadsStop::Memory),
-    };
-    match judge_inodes(alloc, dev, &mut cache, geo, g, heads, steps) {
-        Ok(judged) => Ok(judged),
-        Err(stop) => Err(stopped(stop)),
-    }
+    let mut cache = BlkCache::new(alloc, 0)?;
+    let judged = judge_inodes(alloc, dev, &mut cache, geo, g, heads, steps)?;
+    Ok(judged)
 }
 
 /// Checks the inodes of group `g`: what the check adds to the journal, whatever that has so far,
@@ -91,8 +73,6 @@ pub fn check_inodes<D: Device, L: Ledger>(
     let heads = read_heads(alloc, dev, geo, g, steps)?;
     let judged = judge_by(alloc, dev, geo, g, &heads, steps)?;
     let mut journal = Journal::new(alloc);
-    match add_judged(&mut journal, alloc, g, Unit::Inode, &judged) {
-        Ok(()) => Ok(journal.entries),
-        Err(_) => Err(HeadsStop::Memory),
-    }
+    add_judged(&mut journal, alloc, g, Unit::Inode, &judged).map_err(|_| HeadsStop::Memory)?;
+    Ok(journal.entries)
 }

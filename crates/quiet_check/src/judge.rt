@@ -90,10 +90,7 @@ fn overlap_in(
 {
     let chunks = chunks_of(alloc, seen)?;
     let list = heads.list.as_slice();
-    match metadata_overlap(alloc, geo, g, list, trees, chunks.as_slice()) {
-        Ok(found) => Ok(found),
-        Err(_) => Err(PassStop::Memory),
-    }
+    metadata_overlap(alloc, geo, g, list, trees, chunks.as_slice()).map_err(|_| PassStop::Memory)
 }
 
 // What decides once the cores of all chunks verify: an overlap of the group's own metadata, or the

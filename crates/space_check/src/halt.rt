@@ -2,6 +2,7 @@ ghost use Rattle.std.specs.Prelude.{◌≡◌};
 
 use ag_headers::HeadFault;
 use fs_model::Head;
+use inode_pass::PassStop;
 use std::alloc::{AllocError, AllocFailed};
 
 /// Why a check ends before its last unit: a head of a group is refused, the journal is full, the
@@ -46,5 +47,20 @@ impl From<blk_cache::Memory> for Halt {
 
     fn from(_: blk_cache::Memory) -> Self {
         Halt::Memory
+    }
+}
+
+// What a pass over inodes that stopped is to a check.
+impl From<PassStop> for Halt {
+    ghost use Rattle.inode_pass.specs.Stops.{is_failed as is_failed_pass};
+    ghost use Rattle.space_check.specs.Progress.{IsOutside, is_failed};
+
+    ghost from_gives = { λ stop e. (is_failed e ≡ is_failed_pass stop) × IsOutside e };
+
+    fn from(stop: PassStop) -> Self {
+        match stop {
+            PassStop::Failed => Halt::Failed,
+            PassStop::Memory => Halt::Memory,
+        }
     }
 }

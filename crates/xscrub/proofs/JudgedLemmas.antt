@@ -9,11 +9,11 @@ use Rattle.geom.specs.declared.fault.ImageFault.{ImageFault}
 use Rattle.geom.specs.declared.fault.ImageFault.TheVariants.{DeviceShort}
 use Rattle.blk_device.specs.Taken.{IsFront}
 use Rattle.fs_model.specs.declared.entry.Entry.{Entry}
-use Rattle.image_check.specs.Image.{IsKept, image_checked, image_events as groups_events}
+use Rattle.image_check.specs.Image.{ReadsForEvents, image_checked, image_events as groups_events}
 use Rattle.space_check.specs.Checked.{look}
 use Rattle.space_check.specs.Events.{Event}
 use Rattle.xscrub.specs.Image.{device_outcome, image_events, image_outcome, superblock_events, superblock_outcome, checked_outcome, refused}
-use Rattle.xscrub.specs.Judged.{HasDeviceFront, HasFrontOf, IsDeviceJudged, IsJudged, Kept, journal_at, journal_in, judgement_outcome}
+use Rattle.xscrub.specs.Judged.{HasDeviceFront, HasFrontOf, IsDeviceJudged, IsJudged, ReadsForImage, journal_at, journal_in, judgement_outcome}
 use Rattle.xscrub.specs.Outcome.{Outcome}
 use Rattle.blk_device.specs.declared.device.Region.{Region}
 use Rattle.xscrub.specs.Ending.{stored_outcome}
@@ -92,23 +92,23 @@ front_none None size fault none = tt
 front_none (Some m) size fault none =
     subst (λ (js : List Entry). IsFront js (image_outcome size (m Image)).journal) (sym none) ((image_outcome size (m Image)).journal, refl)
 
-pub kept_first : (told : Option Contents) (size : ℕ) (fault : JudgeFault) (before now : ℕ) → journal_at fault ≡ [] → now ≤ before + 1 → Kept told size before now (Err fault)
+pub kept_first : (told : Option Contents) (size : ℕ) (fault : JudgeFault) (before now : ℕ) → journal_at fault ≡ [] → now ≤ before + 1 → ReadsForImage told size before now (Err fault)
 unfolding image_events
 kept_first None size fault before now none one = tt
 kept_first (Some m) size fault before now none one =
-    subst (λ (js : List Entry). IsKept (image_events size (m Image)) before now js) (sym none) (at_block_0 (m Image))
+    subst (λ (js : List Entry). ReadsForEvents (image_events size (m Image)) before now js) (sym none) (at_block_0 (m Image))
   where
-    at_block_0 : (image : ℕ → List ℕ) → IsKept (image_events size image) before now []
+    at_block_0 : (image : ℕ → List ℕ) → ReadsForEvents (image_events size image) before now []
     at_block_0 image = kept_none (superblock_events (layout_of (image 0)) image (first_fault (image 0) size)) before now one
 
 -- its superblock was refused
-pub kept_bad : (told : Option Contents) (size : ℕ) (line : LastLine) (before now : ℕ) → now ≤ before + 1 → Kept told size before now (Ok (Refused line))
+pub kept_bad : (told : Option Contents) (size : ℕ) (line : LastLine) (before now : ℕ) → now ≤ before + 1 → ReadsForImage told size before now (Ok (Refused line))
 unfolding image_events
 kept_bad None size line before now one = tt
 kept_bad (Some m) size line before now one = kept_first_block (superblock_events (layout_of (m Image 0)) (m Image) (first_fault (m Image 0) size)) before now one
 
 -- it has no block
-pub kept_short : (told : Option Contents) (size : ℕ) (line : LastLine) (n : ℕ) → Kept told size n n (Ok (Refused line))
+pub kept_short : (told : Option Contents) (size : ℕ) (line : LastLine) (n : ℕ) → ReadsForImage told size n n (Ok (Refused line))
 kept_short None size line n = tt
 kept_short (Some m) size line n = kept_unread (image_events size (m Image)) n
 
@@ -121,11 +121,11 @@ front_groups (Some m) size n bytes at fault same holds good is front =
     subst (λ (o : Outcome). IsFront (journal_at fault) o.journal) whole front
 
 pub kept_groups : (told : Option Contents) (size n : ℕ) (bytes : List ℕ) (at : Layout) (result : Result Judgement JudgeFault) (before mid now : ℕ) → n ≡ size → Holds Image 0 bytes told → first_fault bytes n ≡ None → at ≡ layout_of bytes → mid ≤ before + 1
-    → IfSome told (λ m. IsKept (groups_events at (m Image)) mid now (journal_in result)) → Kept told size before now result
+    → IfSome told (λ m. ReadsForEvents (groups_events at (m Image)) mid now (journal_in result)) → ReadsForImage told size before now result
 kept_groups None size n bytes at result before mid now same holds good is one kept = tt
 kept_groups (Some m) size n bytes at result before mid now same holds good is one kept =
     let whole = sym (good_events n (m Image) bytes holds at good is) ∙ ap (λ (k : ℕ). image_events k (m Image)) same in
-    subst (λ (es : List Event). IsKept es before now (journal_in result)) whole (kept_behind (groups_events at (m Image)) before mid now (journal_in result) one kept)
+    subst (λ (es : List Event). ReadsForEvents es before now (journal_in result)) whole (kept_behind (groups_events at (m Image)) before mid now (journal_in result) one kept)
 
 pub units_none : (fault : JudgeFault) → journal_at fault ≡ [] → HasFirstUnits (journal_at fault)
 units_none fault none = subst HasFirstUnits (sym none) no_units

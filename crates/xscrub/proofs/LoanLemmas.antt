@@ -15,12 +15,12 @@ use Rattle.blk_device.specs.declared.device.Device.{Ghosts}
 use Rattle.blk_device.specs.declared.device.Region.TheVariants.{Image, Redo}
 use Rattle.fs_model.specs.declared.entry.Entry.{Entry}
 use Rattle.fresh_image.specs.Written.{AllButFresh, BecomesFresh, OthersStay}
-use Rattle.image_check.specs.Image.{IsKept}
+use Rattle.image_check.specs.Image.{ReadsForEvents}
 use Rattle.xscrub.specs.Command.{Job, check_of, make_of, unbuilt, usage}
 use Rattle.xscrub.specs.Ending.{CameBack, EndsUnopened, IsFreshFile, IsWorded, FindsBy, IsOfMake, IsSettled, IsToldOf, IsUnopened, LeavesStored, MakesImage, TellsBy, WasMade}
 use Rattle.xscrub.proofs.EndingLemmas.{told_none}
 use Rattle.xscrub.specs.Image.{device_events}
-use Rattle.xscrub.specs.Judged.{KeptOfDevice, journal_in}
+use Rattle.xscrub.specs.Judged.{ReadsForDevice, journal_in}
 use Rattle.xscrub.specs.Outcome.{Outcome, outcome_of}
 use Rattle.xscrub.specs.Stored.{Stored, Loan, Out, Back, Lends, HasRoomFor, IsLent, IsNew, IsOpened, redo_named, stored_image, stored_with}
 use Rattle.xscrub.specs.declared.ending.Finding.{Finding}
@@ -44,7 +44,7 @@ lent_both {D = D} dev back (Some a) (Some b) (Some c) h k =
 -- a device that was judged and put back
 pub came_back : {D : Type 0} (g : Ghosts D) (given : Bool) (file redo : Option Stored) (a b c : Option (List (Loan D))) (dev back : D) (result : Result Judgement JudgeFault) (journal : List Entry)
     → Lends (Out dev ∷ []) a b → Lends (Back back ∷ []) b c → IsOpened file redo (g.content dev) (g.blocks dev) → g.content back ≡ g.content dev → Keeps g EachBlock dev back
-    → KeptOfDevice given (g.content dev) (g.blocks dev) (g.reads dev) (g.reads back) result → journal_in result ≡ journal → CameBack g given file redo a c journal
+    → ReadsForDevice given (g.content dev) (g.blocks dev) (g.reads dev) (g.reads back) result → journal_in result ≡ journal → CameBack g given file redo a c journal
 came_back g given file redo a b c dev back result journal out home opened same crash kept is = record {
   dev = dev;
   back = back;
@@ -52,7 +52,7 @@ came_back g given file redo a b c dev back result journal out home opened same c
   opened_so = opened;
   same = same;
   crash = crash;
-  kept = subst (λ (js : List Entry). IfSome (g.content dev) (λ m. IsKept (device_events given (g.blocks dev Redo) (g.blocks dev Image) m) (g.reads dev) (g.reads back) js)) is kept;
+  kept = subst (λ (js : List Entry). IfSome (g.content dev) (λ m. ReadsForEvents (device_events given (g.blocks dev Redo) (g.blocks dev Image) m) (g.reads dev) (g.reads back) js)) is kept;
 }
 
 -- there was no memory before a device was asked for

@@ -11,13 +11,13 @@ use Rattle.blk_device.specs.Taken.{IsFront}
 use Rattle.blk_device.specs.declared.device.Region.{Region}
 use Rattle.blk_device.specs.declared.device.Region.TheVariants.{Image, Redo}
 use Rattle.fs_model.specs.declared.entry.Entry.{Entry}
-use Rattle.image_check.specs.Image.{IsKept}
+use Rattle.image_check.specs.Image.{ReadsForEvents}
 use Rattle.redo_area.specs.Area.{is_open}
 use Rattle.redo_area.specs.Counts.{raised}
 use Rattle.redo_area.specs.declared.TheConstants.{REDO_BLOCKS}
 use Rattle.space_check.specs.Events.{Event}
 use Rattle.xscrub.specs.Image.{behind_gate, behind_redo, device_outcome, image_events, image_outcome, redo_refusal}
-use Rattle.xscrub.specs.Judged.{HasDeviceFront, HasFrontOf, IsDeviceJudged, IsJudged, Kept, KeptOfDevice, TellsOfDevice, TellsOfImage, journal_at, journal_in}
+use Rattle.xscrub.specs.Judged.{HasDeviceFront, HasFrontOf, IsDeviceJudged, IsJudged, ReadsForImage, ReadsForDevice, TellsOfDevice, TellsOfImage, journal_at, journal_in}
 use Rattle.xscrub.specs.MemFiles.{redo_of, with_redo}
 use Rattle.xscrub.specs.Outcome.{is_image_line, is_refusal}
 use Rattle.xscrub.specs.Stored.{opened}
@@ -91,31 +91,31 @@ told_device given (Refused line) is = image_refuses given line is
 -- ---- and what was read for it
 
 pub passed_kept : (content : Option Contents) (blocks : Region → ℕ) (result : Result Judgement JudgeFault) (before mid now : ℕ) → mid ≤ before + 1 → IfSome content (λ m. None ≡ redo_refusal (blocks Redo) m)
-    → Kept content (blocks Image) mid now result → KeptOfDevice true content blocks before now result
+    → ReadsForImage content (blocks Image) mid now result → ReadsForDevice true content blocks before now result
 passed_kept None blocks result before mid now one seen kept = tt
 passed_kept (Some m) blocks result before mid now one seen kept =
-    subst (λ (r : Option RedoRefusal). IsKept (behind_gate r (image_events (blocks Image) (m Image))) before now (journal_in result)) seen
+    subst (λ (r : Option RedoRefusal). ReadsForEvents (behind_gate r (image_events (blocks Image) (m Image))) before now (journal_in result)) seen
     (kept_behind (image_events (blocks Image) (m Image)) before mid now (journal_in result) one kept)
 
-unread_kept : (before now : ℕ) → now ≡ before → IsKept [] before now []
-unread_kept before now same = subst (λ (n : ℕ). IsKept [] before n []) (sym same) (kept_unread [] before)
+unread_kept : (before now : ℕ) → now ≡ before → ReadsForEvents [] before now []
+unread_kept before now same = subst (λ (n : ℕ). ReadsForEvents [] before n []) (sym same) (kept_unread [] before)
 
 pub refused_kept : (content : Option Contents) (blocks : Region → ℕ) (refusal : RedoRefusal) (before now : ℕ) → now ≤ before + 1 → (Some refusal ≡ Some Short → now ≡ before)
-    → IfSome content (λ m. Some refusal ≡ redo_refusal (blocks Redo) m) → KeptOfDevice true content blocks before now (Ok (Refused (lines.Redo refusal)))
+    → IfSome content (λ m. Some refusal ≡ redo_refusal (blocks Redo) m) → ReadsForDevice true content blocks before now (Ok (Refused (lines.Redo refusal)))
 refused_kept None blocks refusal before now one unread seen = tt
 refused_kept (Some m) blocks Short before now one unread seen =
-    subst (λ (r : Option RedoRefusal). IsKept (behind_gate r (image_events (blocks Image) (m Image))) before now []) seen (unread_kept before now (unread refl))
+    subst (λ (r : Option RedoRefusal). ReadsForEvents (behind_gate r (image_events (blocks Image) (m Image))) before now []) seen (unread_kept before now (unread refl))
 refused_kept (Some m) blocks Waiting before now one unread seen =
-    subst (λ (r : Option RedoRefusal). IsKept (behind_gate r (image_events (blocks Image) (m Image))) before now []) seen (kept_first_block [] before now one)
+    subst (λ (r : Option RedoRefusal). ReadsForEvents (behind_gate r (image_events (blocks Image) (m Image))) before now []) seen (kept_first_block [] before now one)
 
 pub failed_kept : (content : Option Contents) (blocks : Region → ℕ) (fault : JudgeFault) (before now : ℕ) → journal_at fault ≡ [] → now ≤ before + 1 → (blocks Redo < REDO_BLOCKS → now ≡ before)
-    → KeptOfDevice true content blocks before now (Err fault)
+    → ReadsForDevice true content blocks before now (Err fault)
 failed_kept None blocks fault before now none one unread = tt
 failed_kept (Some m) blocks fault before now none one unread =
-    subst (λ (js : List Entry). IsKept (behind_gate (redo_refusal (blocks Redo) m) (image_events (blocks Image) (m Image))) before now js) (sym none)
+    subst (λ (js : List Entry). ReadsForEvents (behind_gate (redo_refusal (blocks Redo) m) (image_events (blocks Image) (m Image))) before now js) (sym none)
     (by_tests (image_events (blocks Image) (m Image)) (nat_lt (blocks Redo) REDO_BLOCKS) (is_open m) (λ short. unread (is_below (blocks Redo) REDO_BLOCKS short)))
   where
-    by_tests : (events : List Event) (short waits : Bool) → (short ≡ true → now ≡ before) → IsKept (behind_gate (refusal_by short waits) events) before now []
+    by_tests : (events : List Event) (short waits : Bool) → (short ≡ true → now ≡ before) → ReadsForEvents (behind_gate (refusal_by short waits) events) before now []
     by_tests events true waits still = unread_kept before now (still refl)
     by_tests events false true still = kept_none [] before now one
     by_tests events false false still = kept_none events before now one

@@ -8,7 +8,7 @@ use Rattle.blk_device.specs.Taken.{IsFront}
 use Rattle.blk_device.specs.declared.device.Region.TheVariants.{Image}
 use Rattle.fs_model.specs.declared.entry.Entry.{Entry}
 use Rattle.geom.specs.Layout.{Layout}
-use Rattle.image_check.specs.Image.{IsKept, begun_of, image_checked, image_events as groups_events, journal_in as checked_journal}
+use Rattle.image_check.specs.Image.{ReadsForEvents, begun_of, image_checked, image_events as groups_events, journal_in as checked_journal}
 use Rattle.image_check.specs.Units.{HaltsInSession, IsSession}
 use Rattle.space_check.specs.Checked.{Checked, RefusedHead, Judged as JudgedBy, Filled, look, MeetsHalt, MeetsCheck, CheckCause, journal_of}
 use Rattle.space_check.proofs.EndLemmas.{empty_room}
@@ -119,9 +119,9 @@ says_journal n (Ok journal) (Err fault) says session = absurd says
 says_journal n (Err stop) result says session = halt_journal n stop result says session
 
 -- what was counted is what was read
-kept_as_counted : (events : List Event) (from after before now : ℕ) (journal journal' : List Entry) → now + from ≤ before + after → journal' ≡ journal → IsKept events from after journal → IsKept events before now journal'
+kept_as_counted : (events : List Event) (from after before now : ℕ) (journal journal' : List Entry) → now + from ≤ before + after → journal' ≡ journal → ReadsForEvents events from after journal → ReadsForEvents events before now journal'
 kept_as_counted events from after before now journal journal' counted same kept =
-    subst (λ (js : List Entry). IsKept events before now js) (sym same)
+    subst (λ (js : List Entry). ReadsForEvents events before now js) (sym same)
     (record { done = kept.done; rest = kept.rest; whole = kept.whole; entries = kept.entries; read = omega (arith, counted, kept.read) })
 
 -- ---- the same of the answer
@@ -143,7 +143,7 @@ front_if_err None at checked (Err fault) says meets = tt
 front_if_err (Some m) at checked (Err fault) says meets = says_front (image_checked at (m Image)) checked fault says meets
 
 pub kept_if_told : (content : Option Contents) (at : Layout) (n from after before now : ℕ) (checked : Result (Vec Entry) CheckStop) (result : Result Judgement JudgeFault) → now + from ≤ before + after → Says checked result → IsSession n checked
-    → IfSome content (λ m. IsKept (groups_events at (m Image)) from after (checked_journal checked)) → IfSome content (λ m. IsKept (groups_events at (m Image)) before now (journal_in result))
+    → IfSome content (λ m. ReadsForEvents (groups_events at (m Image)) from after (checked_journal checked)) → IfSome content (λ m. ReadsForEvents (groups_events at (m Image)) before now (journal_in result))
 kept_if_told None at n from after before now checked result counted says session kept = tt
 kept_if_told (Some m) at n from after before now checked result counted says session kept =
     kept_as_counted (groups_events at (m Image)) from after before now (checked_journal checked) (journal_in result) counted (says_journal n checked result says session) kept
@@ -161,7 +161,7 @@ begun_next : (journal : List Entry) (next : Event) (rest : List Event) → lengt
 begun_next journal next rest room = ap (λ (b : Bool). cond b next.reads 0) (has_room (length journal) most_entries room)
 
 -- block 0 was read before
-pub kept_behind : (events : List Event) (before mid now : ℕ) (journal : List Entry) → mid ≤ before + 1 → IsKept events mid now journal → IsKept (look ∷ events) before now journal
+pub kept_behind : (events : List Event) (before mid now : ℕ) (journal : List Entry) → mid ≤ before + 1 → ReadsForEvents events mid now journal → ReadsForEvents (look ∷ events) before now journal
 kept_behind events before mid now journal one k = record {
   done = look ∷ k.done;
   rest = k.rest;
@@ -171,7 +171,7 @@ kept_behind events before mid now journal one k = record {
 }
 
 -- it was block 0 that couldn't be read
-pub kept_none : (events : List Event) (before now : ℕ) → now ≤ before + 1 → IsKept (look ∷ events) before now []
+pub kept_none : (events : List Event) (before now : ℕ) → now ≤ before + 1 → ReadsForEvents (look ∷ events) before now []
 kept_none events before now one = record {
   done = [];
   rest = look ∷ events;
@@ -181,9 +181,9 @@ kept_none events before now one = record {
 }
 
 -- no more than block 0 was read
-pub kept_first_block : (events : List Event) (before now : ℕ) → now ≤ before + 1 → IsKept (look ∷ events) before now []
+pub kept_first_block : (events : List Event) (before now : ℕ) → now ≤ before + 1 → ReadsForEvents (look ∷ events) before now []
 kept_first_block events before now one = record { done = look ∷ []; rest = events; whole = refl; entries = refl; read = omega (arith, one) }
 
 -- nothing was read
-pub kept_unread : (events : List Event) (n : ℕ) → IsKept events n n []
+pub kept_unread : (events : List Event) (n : ℕ) → ReadsForEvents events n n []
 kept_unread events n = record { done = []; rest = events; whole = refl; entries = refl; read = omega arith }

@@ -26,7 +26,7 @@ use Rattle.xscrub.specs.declared.ending.Status.{Status}
 use Rattle.xscrub.specs.declared.ending.Status.TheVariants as statuses
 use Rattle.xscrub.specs.declared.ending.Told.{Told}
 use Rattle.fs_model.specs.declared.entry.Entry.{Entry}
-use Rattle.image_check.specs.Image.{IsKept}
+use Rattle.image_check.specs.Image.{ReadsForEvents}
 use Rattle.xscrub.specs.declared.host.Host.{Ghosts as HostGhosts}
 use Rattle.xscrub.specs.declared.host.Purpose.TheVariants.{Check as ForCheck, Make as ForMake}
 use Rattle.xscrub.specs.declared.last_lines.LastLine.{LastLine}
@@ -121,7 +121,7 @@ pub record CameBack {D : Type 0} (g : Ghosts D) (given : Bool) (file redo : Opti
   pub opened_so : IsOpened file redo (g.content dev) (g.blocks dev)
   pub same : g.content back ≡ g.content dev
   pub crash : Keeps g EachBlock dev back
-  pub kept : IfSome (g.content dev) (λ m. IsKept (device_events given (g.blocks dev Redo) (g.blocks dev Image) m) (g.reads dev) (g.reads back) journal)
+  pub kept : IfSome (g.content dev) (λ m. ReadsForEvents (device_events given (g.blocks dev Redo) (g.blocks dev Image) m) (g.reads dev) (g.reads back) journal)
 
 -- A device with room for a new image was handed out, and came back. Once it is done, the new image is on
 -- it and durable; until then blocks of that image alone may have changed.

@@ -9,7 +9,7 @@ use Rattle.blk_device.specs.declared.device.Region.TheVariants.{Image, Redo}
 use Rattle.blk_device.specs.Taken.{IsFront}
 use Rattle.fs_model.specs.declared.entry.Entry.{Entry}
 use Rattle.fs_model.specs.declared.unit.Head.{Head}
-use Rattle.image_check.specs.Image.{IsKept}
+use Rattle.image_check.specs.Image.{ReadsForEvents}
 use Rattle.space_check.specs.declared.halt.Halt.TheVariants as halts
 use Rattle.space_check.specs.declared.stop.CheckStop.{CheckStop}
 use Rattle.xscrub.specs.Image.{device_events, device_outcome, image_events, image_outcome}
@@ -57,8 +57,8 @@ abbrev pub JudgeCause : {T : Type 0} → ℕ → ℕ → Result T JudgeFault →
 JudgeCause before now result = HasCause is_device before now result
 
 -- an answer has what was judged by all that was read, where the device tells its content
-abbrev pub Kept : Option Contents → ℕ → (before now : ℕ) → Result Judgement JudgeFault → Type 0
-Kept content size before now result = IfSome content (λ m. IsKept (image_events size (m Image)) before now (journal_in result))
+abbrev pub ReadsForImage : Option Contents → ℕ → (before now : ℕ) → Result Judgement JudgeFault → Type 0
+ReadsForImage content size before now result = IfSome content (λ m. ReadsForEvents (image_events size (m Image)) before now (journal_in result))
 
 -- and that journal is a front of the one that the image decides
 abbrev pub HasFrontOf : Option Contents → ℕ → JudgeFault → Type 0
@@ -93,5 +93,5 @@ IsDeviceJudged given content blocks found = IfSome content (λ m. judgement_outc
 abbrev pub HasDeviceFront : Bool → Option Contents → (Region → ℕ) → JudgeFault → Type 0
 HasDeviceFront given content blocks fault = IfSome content (λ m. IsFront (journal_at fault) (device_outcome given (blocks Redo) (blocks Image) m).journal)
 
-abbrev pub KeptOfDevice : Bool → Option Contents → (Region → ℕ) → (before now : ℕ) → Result Judgement JudgeFault → Type 0
-KeptOfDevice given content blocks before now result = IfSome content (λ m. IsKept (device_events given (blocks Redo) (blocks Image) m) before now (journal_in result))
+abbrev pub ReadsForDevice : Bool → Option Contents → (Region → ℕ) → (before now : ℕ) → Result Judgement JudgeFault → Type 0
+ReadsForDevice given content blocks before now result = IfSome content (λ m. ReadsForEvents (device_events given (blocks Redo) (blocks Image) m) before now (journal_in result))

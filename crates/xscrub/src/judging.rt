@@ -3,9 +3,9 @@ ghost use Rattle.blk_device.specs.Contents.{Holds};
 ghost use Rattle.blk_device.specs.Reading.{EachBlock, Keeps};
 ghost use Rattle.blk_device.specs.Taken.{IsFront};
 ghost use Rattle.geom.specs.Places.{layout};
-ghost use Rattle.image_check.specs.Image.{IsKept, image_checked, image_events as groups_events};
+ghost use Rattle.image_check.specs.Image.{ReadsForEvents, image_checked, image_events as groups_events};
 ghost use Rattle.xscrub.specs.Image.{checked_outcome};
-ghost use Rattle.xscrub.specs.Judged.{HasFrontOf, IsJudged, JudgeCause, Kept, Says, SaysStop, TellsOfImage, journal_at, journal_in, judgement_outcome};
+ghost use Rattle.xscrub.specs.Judged.{HasFrontOf, IsJudged, JudgeCause, ReadsForImage, Says, SaysStop, TellsOfImage, journal_at, journal_in, judgement_outcome};
 ghost use Rattle.xscrub.specs.Units.{HasFirstUnits};
 
 use crate::last_lines::LastLine;
@@ -84,7 +84,7 @@ fn judge_counted<D: Device, L: Ledger, W: Watch>(
     ensures front { IfErr result (λ fault. IfSome (D.content dev.old)
         (λ m. IsFront (journal_at fault) (checked_outcome (image_checked (layout geo.now) (m Region.Image))).journal)) }
     ensures kept { IfSome (D.content dev.old)
-        (λ m. IsKept (groups_events (layout geo.now) (m Region.Image)) (D.reads dev.old) (D.reads dev.new) (journal_in result)) }
+        (λ m. ReadsForEvents (groups_events (layout geo.now) (m Region.Image)) (D.reads dev.old) (D.reads dev.new) (journal_in result)) }
     ensures units { IfErr result (λ fault. HasFirstUnits (journal_at fault)) }
     ensures same { D.content dev.new ≡ D.content dev.old }
     ensures sizes { D.blocks dev.new ≡ D.blocks dev.old }
@@ -110,7 +110,7 @@ fn judge_groups<D: Device, W: Watch>(
     ensures front { IfErr result (λ fault. IfSome (D.content dev.old)
         (λ m. IsFront (journal_at fault) (checked_outcome (image_checked (layout geo.now) (m Region.Image))).journal)) }
     ensures kept { IfSome (D.content dev.old)
-        (λ m. IsKept (groups_events (layout geo.now) (m Region.Image)) (D.reads dev.old) (D.reads dev.new) (journal_in result)) }
+        (λ m. ReadsForEvents (groups_events (layout geo.now) (m Region.Image)) (D.reads dev.old) (D.reads dev.new) (journal_in result)) }
     ensures units { IfErr result (λ fault. HasFirstUnits (journal_at fault)) }
     ensures same { D.content dev.new ≡ D.content dev.old }
     ensures sizes { D.blocks dev.new ≡ D.blocks dev.old }
@@ -151,7 +151,7 @@ pub fn judge<D: Device, W: Watch>(
     ensures told { IfOk result (λ found. IsJudged (D.content dev.old) (D.blocks dev.old Region.Image) found) }
     ensures line { IfOk result TellsOfImage }
     ensures front { IfErr result (HasFrontOf (D.content dev.old) (D.blocks dev.old Region.Image)) }
-    ensures kept { Kept (D.content dev.old) (D.blocks dev.old Region.Image) (D.reads dev.old) (D.reads dev.new) result }
+    ensures kept { ReadsForImage (D.content dev.old) (D.blocks dev.old Region.Image) (D.reads dev.old) (D.reads dev.new) result }
     ensures units { IfErr result (λ fault. HasFirstUnits (journal_at fault)) }
     ensures same { D.content dev.new ≡ D.content dev.old }
     ensures sizes { D.blocks dev.new ≡ D.blocks dev.old }

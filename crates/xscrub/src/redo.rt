@@ -3,7 +3,7 @@ ghost use Rattle.std.specs.Prelude.{◌≡◌, ◌<◌, ◌≤◌, ◌+◌, Some
 ghost use Rattle.blk_device.specs.Causes.{HasCause, any_error};
 ghost use Rattle.blk_device.specs.Reading.{EachBlock, Keeps};
 ghost use Rattle.xscrub.specs.Image.{redo_refusal as redo_refusal_of};
-ghost use Rattle.xscrub.specs.Judged.{HasDeviceFront, IsDeviceJudged, JudgeCause, KeptOfDevice, TellsOfDevice, journal_at};
+ghost use Rattle.xscrub.specs.Judged.{HasDeviceFront, IsDeviceJudged, JudgeCause, ReadsForDevice, TellsOfDevice, journal_at};
 ghost use Rattle.xscrub.specs.Units.{HasFirstUnits};
 
 use crate::judging::{JudgeFault, Judgement, judge};
@@ -52,7 +52,7 @@ fn judge_behind<D: Device, W: Watch>(
     ensures told { IfOk result (IsDeviceJudged true (D.content dev.old) (D.blocks dev.old)) }
     ensures line { IfOk result (TellsOfDevice true) }
     ensures front { IfErr result (HasDeviceFront true (D.content dev.old) (D.blocks dev.old)) }
-    ensures kept { KeptOfDevice true (D.content dev.old) (D.blocks dev.old) (D.reads dev.old) (D.reads dev.new) result }
+    ensures kept { ReadsForDevice true (D.content dev.old) (D.blocks dev.old) (D.reads dev.old) (D.reads dev.new) result }
     ensures units { IfErr result (λ fault. HasFirstUnits (journal_at fault)) }
     ensures same { D.content dev.new ≡ D.content dev.old }
     ensures sizes { D.blocks dev.new ≡ D.blocks dev.old }
@@ -80,7 +80,7 @@ pub fn judge_device<D: Device, W: Watch + Drop>(
     ensures told { IfOk result (IsDeviceJudged given (D.content dev.old) (D.blocks dev.old)) }
     ensures line { IfOk result (TellsOfDevice given) }
     ensures front { IfErr result (HasDeviceFront given (D.content dev.old) (D.blocks dev.old)) }
-    ensures kept { KeptOfDevice given (D.content dev.old) (D.blocks dev.old) (D.reads dev.old) (D.reads dev.new) result }
+    ensures kept { ReadsForDevice given (D.content dev.old) (D.blocks dev.old) (D.reads dev.old) (D.reads dev.new) result }
     ensures units { IfErr result (λ fault. HasFirstUnits (journal_at fault)) }
     ensures same { D.content dev.new ≡ D.content dev.old }
     ensures sizes { D.blocks dev.new ≡ D.blocks dev.old }

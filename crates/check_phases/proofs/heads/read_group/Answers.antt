@@ -1,11 +1,13 @@
+use Rattle.std.proofs.Common.{rules}
+use Rattle.std.proofs.lemmas.Result.{IfErr-weaker, IfOk-weaker}
 use Rattle.blk_device.specs.declared.device.Region.TheVariants.{Image}
 use Rattle.geom.specs.Places.{layout}
-use Rattle.group_trees.specs.declared.heads.GroupHeads.{GroupHeads}
-use Rattle.check_phases.proofs.HeadLemmas.{none_bad, stop_meets}
+use Rattle.group_trees.specs.Heads.{IsRefusedIn, PassIn}
+use Rattle.check_phases.proofs.HeadLemmas.{heads_met}
 use Rattle.check_phases.proofs.heads.read_group.Goals as goal
 
-pub returns-in-Ok-clause-exact : goal.returns-in-Ok-clause-exact
-returns-in-Ok-clause-exact g c = λ m e. none_bad (layout c.args.geo.now) (m Image) c.args.g (c.in-Ok.ensures.passed m e)
-
-pub returns-in-Err-clause-exact : goal.returns-in-Err-clause-exact
-returns-in-Err-clause-exact g c = λ m e. stop_meets (layout c.args.geo.now) (m Image) c.args.g GroupHeads c.in-Err.stop c.halt_of.result (c.in-Err.ensures.refused m e) c.halt_of.ensures.head
+pub returns-clause-exact : goal.returns-clause-exact
+returns-clause-exact g c = λ m e.
+    heads_met (layout c.args.geo.now) (m Image) c.args.g _ (λ stop halt said. search rules) c.read_heads.result c.map_err.result c.map_err.ensures.cases
+    (IfOk-weaker c.read_heads.result _ (λ heads. PassIn (layout c.args.geo.now) (m Image) c.args.g) (λ heads passed. passed m e) c.read_heads.ensures.passed)
+    (IfErr-weaker c.read_heads.result _ (IsRefusedIn (layout c.args.geo.now) (m Image) c.args.g) (λ stop refused. refused m e) c.read_heads.ensures.refused)

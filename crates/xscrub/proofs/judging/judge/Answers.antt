@@ -5,7 +5,7 @@ use Rattle.blk_device.specs.declared.device.Region.TheVariants.{Image}
 use Rattle.geom.specs.Places.{layout}
 use Rattle.geom.specs.declared.fault.ImageFault.TheVariants.{DeviceShort}
 use Rattle.xscrub.specs.declared.last_lines.LastLine.TheVariants as lines
-use Rattle.xscrub.specs.Judged.{HasFrontOf, JudgeCause, Kept, is_device, journal_at}
+use Rattle.xscrub.specs.Judged.{HasFrontOf, JudgeCause, ReadsForImage, is_device, journal_at}
 use Rattle.xscrub.specs.Units.{HasFirstUnits}
 use Rattle.xscrub.specs.declared.judging.Judgement.{Judgement}
 use Rattle.xscrub.proofs.JudgedLemmas.{if_ok, if_err, err_with, judged_short, judged_bad, judged_groups, front_none, front_groups, kept_bad, kept_first, kept_groups, kept_short, units_none}
@@ -28,7 +28,7 @@ returns-in_err-first-clause-front g c =
 
 pub returns-in_err-first-clause-kept : goal.returns-in_err-first-clause-kept
 returns-in_err-first-clause-kept g c =
-    err_with {T = Judgement} (λ r. Kept (g.D.Device.content c.args.dev.now) (g.D.Device.blocks c.args.dev.now Image) (g.D.Device.reads c.args.dev.now) (g.D.Device.reads c.first_block.new.dev) r) c.in_err-first.field-0.0 c.from_residual.result c.from_residual.ensures
+    err_with {T = Judgement} (λ r. ReadsForImage (g.D.Device.content c.args.dev.now) (g.D.Device.blocks c.args.dev.now Image) (g.D.Device.reads c.args.dev.now) (g.D.Device.reads c.first_block.new.dev) r) c.in_err-first.field-0.0 c.from_residual.result c.from_residual.ensures
     (kept_first (g.D.Device.content c.args.dev.now) (g.D.Device.blocks c.args.dev.now Image) c.in_err-first.field-0.0 (g.D.Device.reads c.args.dev.now) (g.D.Device.reads c.first_block.new.dev) c.in_err-first.ensures.none c.in_err-first.ensures.one)
 
 pub returns-in_err-first-clause-units : goal.returns-in_err-first-clause-units

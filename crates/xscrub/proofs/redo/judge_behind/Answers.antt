@@ -5,7 +5,7 @@ use Rattle.blk_device.specs.ReadingLaws.{keeps_on}
 use Rattle.blk_device.specs.declared.device.Region.{Region}
 use Rattle.blk_device.specs.declared.device.Region.TheVariants.{Image, Redo}
 use Rattle.xscrub.specs.Image.{redo_refusal}
-use Rattle.xscrub.specs.Judged.{Kept}
+use Rattle.xscrub.specs.Judged.{ReadsForImage}
 use Rattle.xscrub.specs.declared.judging.JudgeFault.TheVariants.{Device}
 use Rattle.xscrub.specs.declared.last_lines.RedoRefusal.{RedoRefusal}
 use Rattle.xscrub.proofs.JudgedLemmas.{units_none}
@@ -34,8 +34,8 @@ returns-in-None-clause-kept g c =
     passed_kept (g.D.Device.content c.args.dev.now) (g.D.Device.blocks c.args.dev.now) c.judge.result (g.D.Device.reads c.args.dev.now) (g.D.Device.reads c.redo_refusal.new.dev) (g.D.Device.reads c.judge.new.dev)
     c.redo_refusal.ensures.one
     (subst (λ (r : Option RedoRefusal). IfSome (g.D.Device.content c.args.dev.now) (λ m. r ≡ redo_refusal (g.D.Device.blocks c.args.dev.now Redo) m)) c.in-None.is c.in-Ok.ensures.exact)
-    (subst (λ (f : Region → ℕ). Kept (g.D.Device.content c.args.dev.now) (f Image) (g.D.Device.reads c.redo_refusal.new.dev) (g.D.Device.reads c.judge.new.dev) c.judge.result) c.redo_refusal.ensures.sizes
-    (subst (λ (t : Option Contents). Kept t (g.D.Device.blocks c.redo_refusal.new.dev Image) (g.D.Device.reads c.redo_refusal.new.dev) (g.D.Device.reads c.judge.new.dev) c.judge.result) c.redo_refusal.ensures.same c.judge.ensures.kept))
+    (subst (λ (f : Region → ℕ). ReadsForImage (g.D.Device.content c.args.dev.now) (f Image) (g.D.Device.reads c.redo_refusal.new.dev) (g.D.Device.reads c.judge.new.dev) c.judge.result) c.redo_refusal.ensures.sizes
+    (subst (λ (t : Option Contents). ReadsForImage t (g.D.Device.blocks c.redo_refusal.new.dev Image) (g.D.Device.reads c.redo_refusal.new.dev) (g.D.Device.reads c.judge.new.dev) c.judge.result) c.redo_refusal.ensures.same c.judge.ensures.kept))
 
 pub returns-in-None-clause-crash : goal.returns-in-None-clause-crash
 returns-in-None-clause-crash g c =

@@ -2,7 +2,7 @@ use Rattle.std.proofs.Common.{rules, ◌≡◌, ◌∙◌, List, ℕ, Bool, is_s
 use Rattle.std.specs.Borrow.{Bor}
 use Rattle.std.specs.Option.{option_map}
 use Rattle.xscrub.specs.Ending.{stored_outcome}
-use Rattle.xscrub.specs.Judged.{KeptOfDevice, journal_in}
+use Rattle.xscrub.specs.Judged.{ReadsForDevice, journal_in}
 use Rattle.xscrub.specs.Stored.{redo_named}
 use Rattle.xscrub.specs.Units.{HasFirstUnits}
 use Rattle.xscrub.proofs.UnitLemmas.{no_units}
@@ -26,7 +26,7 @@ returns-in-Ok-Judged-clause-device g c =
     let journal : journal_in c.judge_device-found.result ≡ c.in-Ok-Judged.journal.items = search rules in
     inr (came_back g.H.Dev.Device (is_some (option_map (λ (s : Bor (List ℕ)). s.now) c.args.redo)) _ _ _ _ _ c.in-Ok.dev c.judge_device-found.new.dev c.judge_device-found.result _
     c.in-Ok.ensures.lent c.put_back.ensures.lent c.in-Ok.ensures.told c.judge_device-found.ensures.same c.judge_device-found.ensures.crash
-    (subst (λ (b : Bool). KeptOfDevice b (g.H.Dev.Device.content c.in-Ok.dev) (g.H.Dev.Device.blocks c.in-Ok.dev) (g.H.Dev.Device.reads c.in-Ok.dev) (g.H.Dev.Device.reads c.judge_device-found.new.dev) c.judge_device-found.result)
+    (subst (λ (b : Bool). ReadsForDevice b (g.H.Dev.Device.content c.in-Ok.dev) (g.H.Dev.Device.blocks c.in-Ok.dev) (g.H.Dev.Device.reads c.in-Ok.dev) (g.H.Dev.Device.reads c.judge_device-found.new.dev) c.judge_device-found.result)
     (c.is_some.ensures ∙ sym (given_same c.args.redo)) c.judge_device-found.ensures.kept) journal)
 
 pub returns-in-Ok-Judged-clause-stored : goal.returns-in-Ok-Judged-clause-stored
@@ -44,7 +44,7 @@ returns-in-Ok-Full-clause-device g c =
     let journal : journal_in c.judge_device-found.result ≡ c.in-Ok-Full.journal.items = search rules in
     inr (came_back g.H.Dev.Device (is_some (option_map (λ (s : Bor (List ℕ)). s.now) c.args.redo)) _ _ _ _ _ c.in-Ok.dev c.judge_device-found.new.dev c.judge_device-found.result _
     c.in-Ok.ensures.lent c.put_back.ensures.lent c.in-Ok.ensures.told c.judge_device-found.ensures.same c.judge_device-found.ensures.crash
-    (subst (λ (b : Bool). KeptOfDevice b (g.H.Dev.Device.content c.in-Ok.dev) (g.H.Dev.Device.blocks c.in-Ok.dev) (g.H.Dev.Device.reads c.in-Ok.dev) (g.H.Dev.Device.reads c.judge_device-found.new.dev) c.judge_device-found.result)
+    (subst (λ (b : Bool). ReadsForDevice b (g.H.Dev.Device.content c.in-Ok.dev) (g.H.Dev.Device.blocks c.in-Ok.dev) (g.H.Dev.Device.reads c.in-Ok.dev) (g.H.Dev.Device.reads c.judge_device-found.new.dev) c.judge_device-found.result)
     (c.is_some.ensures ∙ sym (given_same c.args.redo)) c.judge_device-found.ensures.kept) journal)
 
 pub returns-in-Ok-Refused-clause-stored : goal.returns-in-Ok-Refused-clause-stored
@@ -62,7 +62,7 @@ returns-in-Err-Device-clause-device g c =
     let journal : journal_in c.judge_device-found.result ≡ c.in-Err-Device.journal.items = search rules in
     inr (came_back g.H.Dev.Device (is_some (option_map (λ (s : Bor (List ℕ)). s.now) c.args.redo)) _ _ _ _ _ c.in-Ok.dev c.judge_device-found.new.dev c.judge_device-found.result _
     c.in-Ok.ensures.lent c.put_back.ensures.lent c.in-Ok.ensures.told c.judge_device-found.ensures.same c.judge_device-found.ensures.crash
-    (subst (λ (b : Bool). KeptOfDevice b (g.H.Dev.Device.content c.in-Ok.dev) (g.H.Dev.Device.blocks c.in-Ok.dev) (g.H.Dev.Device.reads c.in-Ok.dev) (g.H.Dev.Device.reads c.judge_device-found.new.dev) c.judge_device-found.result)
+    (subst (λ (b : Bool). ReadsForDevice b (g.H.Dev.Device.content c.in-Ok.dev) (g.H.Dev.Device.blocks c.in-Ok.dev) (g.H.Dev.Device.reads c.in-Ok.dev) (g.H.Dev.Device.reads c.judge_device-found.new.dev) c.judge_device-found.result)
     (c.is_some.ensures ∙ sym (given_same c.args.redo)) c.judge_device-found.ensures.kept) journal)
 
 pub returns-in-Err-Memory-found-clause-stored : goal.returns-in-Err-Memory-found-clause-stored
@@ -75,5 +75,5 @@ returns-in-Err-Memory-found-clause-device g c =
     let journal : journal_in c.judge_device-found.result ≡ c.in-Err-Memory-found.journal.items = search rules in
     inr (came_back g.H.Dev.Device (is_some (option_map (λ (s : Bor (List ℕ)). s.now) c.args.redo)) _ _ _ _ _ c.in-Ok.dev c.judge_device-found.new.dev c.judge_device-found.result _
     c.in-Ok.ensures.lent c.put_back.ensures.lent c.in-Ok.ensures.told c.judge_device-found.ensures.same c.judge_device-found.ensures.crash
-    (subst (λ (b : Bool). KeptOfDevice b (g.H.Dev.Device.content c.in-Ok.dev) (g.H.Dev.Device.blocks c.in-Ok.dev) (g.H.Dev.Device.reads c.in-Ok.dev) (g.H.Dev.Device.reads c.judge_device-found.new.dev) c.judge_device-found.result)
+    (subst (λ (b : Bool). ReadsForDevice b (g.H.Dev.Device.content c.in-Ok.dev) (g.H.Dev.Device.blocks c.in-Ok.dev) (g.H.Dev.Device.reads c.in-Ok.dev) (g.H.Dev.Device.reads c.judge_device-found.new.dev) c.judge_device-found.result)
     (c.is_some.ensures ∙ sym (given_same c.args.redo)) c.judge_device-found.ensures.kept) journal)
