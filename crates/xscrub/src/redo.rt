@@ -37,10 +37,8 @@ fn redo_refusal<D: Device>(dev: &mut D) -> Result<Option<RedoRefusal>, DeviceFai
     if dev.size(Region::Redo) < REDO_BLOCKS {
         return Ok(Some(RedoRefusal::Short));
     }
-    match waiting(dev) {
-        Ok(waits) => Ok(refusal_where(waits)),
-        Err(_) => Err(DeviceFailed),
-    }
+    let waits = waiting(dev).map_err(|_| DeviceFailed)?;
+    Ok(refusal_where(waits))
 }
 
 // Judges the image of a device whose redo file is looked at first.
