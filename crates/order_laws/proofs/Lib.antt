@@ -1,0 +1,9 @@
+pub mod Blocks
+pub mod Claims
+pub mod Heads
+pub mod Lists
+pub mod Offsets
+pub mod Opened
+pub mod Trees
+pub mod Tuples
+pub mod Whole

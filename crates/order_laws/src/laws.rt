@@ -1,0 +1,40 @@
+ghost use Rattle.order_laws.specs.Ordered.{BadIsSick, BlocksAreOnce, ClaimsLieInside, CountersAreWords, GroupIsInOrder, LimboIsPlain, OpenedIsInOrder, OpenedIsKept, OrderHasOwners, OwnersAreInOrder, OwnersAreTuples, OwnersHaveNext};
+
+use claim_laws::good_forks;
+use fs_state::opening_law;
+
+/// A law: a group of the state that an image stands for is in order at every moment, where no block of metadata has a
+/// second claim, the free list is accepted, heads are bytes, and what is kept in memory is in order; each part from what
+/// it needs (XFS Algorithms and Data Structures, "Allocation Groups").
+pub fn group_in_order()
+    ensures words { CountersAreWords }
+    ensures bad { BadIsSick }
+    ensures plain { LimboIsPlain }
+    ensures blocks { BlocksAreOnce }
+    ensures inside { ClaimsLieInside }
+    ensures next { OwnersHaveNext }
+    ensures tuples { OwnersAreTuples }
+    ensures all { GroupIsInOrder }
+{
+    good_forks();
+}
+
+/// A law: right after an image was opened what is kept in memory is in order by itself, and so is each group
+/// (XFS Algorithms and Data Structures, "Allocation Groups").
+pub fn opened_in_order()
+    ensures kept { OpenedIsKept }
+    ensures all { OpenedIsInOrder }
+{
+    good_forks();
+    opening_law();
+}
+
+/// A law: a group in order has what a switch of free space or of reference counts asks of its owners: they lie in it, the
+/// unit's is no inode, and what should be in the reverse mappings are their maximal runs
+/// (XFS Algorithms and Data Structures, "Reverse-Mapping B+tree").
+pub fn owners_in_order()
+    ensures order { OrderHasOwners }
+    ensures image { OwnersAreInOrder }
+{
+    good_forks();
+}
