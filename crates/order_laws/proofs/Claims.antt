@@ -1,6 +1,6 @@
 -- What holds of each claim of a group: it lies in the group, and what stands in its offset word.
 use Rattle.std.proofs.Common.{◌≡◌, ℕ, zero, suc, ◌+◌, ◌*◌, ◌<◌, ◌≤◌, ◌==◌, Bool, true, false, not, List, [], ◌∷◌, ◌++◌, map, flat_map, Option, Some, None, refl, subst, inl, inr, arith}
-use Rattle.std.specs.Prelude.{◌/◌, if◌then◌else◌}
+use Rattle.std.specs.Prelude.{◌⊎◌, ◌/◌, if◌then◌else◌}
 use Rattle.std.specs.Option.{ForSome}
 use Rattle.std.proofs.lemmas.Bool.{eqb-true, leb-true, not-true}
 use Rattle.change_laws.proofs.Members.{split_parts}
@@ -32,12 +32,12 @@ use Rattle.tree_defs.specs.Lists.{In}
 use Rattle.unit_plan.specs.Group.{AreGoodForks}
 use Rattle.order_laws.specs.Kept.{AreNoInodes, LieBelow, LogLiesInside}
 use Rattle.order_laws.proofs.Lists.{Every, every_both, every_flat, every_in, every_map, every_of, every_weaker, test_every}
-use Rattle.order_laws.proofs.Offsets.{Among, Good, IsTold, flag_of, fork_good}
+use Rattle.order_laws.proofs.Offsets.{Among, Good, IsMapped, IsOfTree, IsTold, flag_of, fork_good}
 
 -- ---- of all claims, part by part
 
 module _ (a : State) (g : ℕ) (P : Claimed → Type 0) where
-  metadata_every : P (claimed_by Heads (number_of Fs) 0) → Every P (log_claims a.geometry.log g) → Every (λ (b : ℕ). P (claimed_by FreeList (number_of Ag) b)) (a.group g).free_list
+  pub metadata_every : P (claimed_by Heads (number_of Fs) 0) → Every P (log_claims a.geometry.log g) → Every (λ (b : ℕ). P (claimed_by FreeList (number_of Ag) b)) (a.group g).free_list
       → ((k : Kind) → Every (λ (b : ℕ). P (claimed_by (Tree k) (tree_owner k) b)) (blocks_of ((a.group g).tree k).reading)) → Every (λ (o : Owned). P (claimed_by Reserve o.owner o.block)) (a.group g).reserve
       → Every (λ (o : Owned). P (claimed_by Limbo o.owner o.block)) (a.group g).limbo → Every (λ (u : ℕ). Every (λ (b : ℕ). P (claimed_by Chunk (number_of Inodes) b)) (numbers (8 * u) 8)) (chunks a g) → Every P (metadata_claims a g)
   unfolding metadata_claims
@@ -59,7 +59,7 @@ module _ (a : State) (g : ℕ) (P : Claimed → Type 0) where
       (every_map P (λ (o : Owned). claimed_by Limbo o.owner o.block) p.limbo limbo))
       (every_flat P unit (chunks a g) (every_weaker (λ (u : ℕ). Every (λ (b : ℕ). P (claimed_by Chunk (number_of Inodes) b)) (numbers (8 * u) 8)) (λ (u : ℕ). Every P (unit u)) (λ u h. every_map P (claimed_by Chunk (number_of Inodes)) (numbers (8 * u) 8) h) (chunks a g) units))
 
-  forks_every : ((ino : ℕ) → In ino (inodes a) → Every P (data_claims a g ino)) → ((ino : ℕ) → In ino (inodes a) → Every P (attribute_claims a g ino)) → ((ino : ℕ) → In ino (inodes a) → Every P (tree_claims a g ino)) → Every P (fork_claims a g)
+  pub forks_every : ((ino : ℕ) → In ino (inodes a) → Every P (data_claims a g ino)) → ((ino : ℕ) → In ino (inodes a) → Every P (attribute_claims a g ino)) → ((ino : ℕ) → In ino (inodes a) → Every P (tree_claims a g ino)) → Every P (fork_claims a g)
   unfolding fork_claims
   forks_every mapped attr tree =
       every_both P (flat_map (data_claims a g) (inodes a) ++ flat_map (attribute_claims a g) (inodes a)) (flat_map (tree_claims a g) (inodes a))
@@ -68,7 +68,7 @@ module _ (a : State) (g : ℕ) (P : Claimed → Type 0) where
       (every_flat P (attribute_claims a g) (inodes a) (every_in (λ (ino : ℕ). Every P (attribute_claims a g ino)) (inodes a) attr)))
       (every_flat P (tree_claims a g) (inodes a) (every_in (λ (ino : ℕ). Every P (tree_claims a g ino)) (inodes a) tree))
 
-  claims_every : Every P (metadata_claims a g) → Every P (fork_claims a g) → Every P (claims a g)
+  pub claims_every : Every P (metadata_claims a g) → Every P (fork_claims a g) → Every P (claims a g)
   unfolding claims
   claims_every own forks = every_both P (metadata_claims a g) (fork_claims a g) own forks
 
@@ -78,15 +78,15 @@ every_if P false xs h = tt
 
 -- ---- forks
 
--- a block inside the group, and its word
-abbrev IsRight : State → ℕ → Claimed → Type 0
-IsRight a g c = (c.block < group_len_of a.geometry g) × IsTold a c.owner c.word
+-- a block inside the group, of an inode's fork
+abbrev pub IsRight : State → ℕ → Claimed → Type 0
+IsRight a g c = (c.block < group_len_of a.geometry g) × (IsMapped a c.owner c.word ⊎ IsOfTree c.owner c.word)
 
 module _ (a : State) (g ino : ℕ) (file : is_inode ino ≡ true) (f : Fork) where
   mapped_right : (c : Claim) (m : Mapping) → Among m (fork_of a ino f).mappings → (n i b w : ℕ) → b + n ≤ group_len_of a.geometry g → i + n ≤ m.count → w ≡ word_of (flag_of f) m + i → Every (IsRight a g) (mapped_blocks c ino b w n)
   mapped_right c m there zero i b w low few e = tt
   mapped_right c m there (suc n) i b w low few e = (
-    (omega (arith, low), inr (inl (record { file = file; fork = f; mapping = m; there = there; nth = i; one_of = omega (arith, few); word_is = e }))),
+    (omega (arith, low), inl (record { file = file; fork = f; mapping = m; there = there; nth = i; one_of = omega (arith, few); word_is = e })),
     mapped_right c m there n (i + 1) (b + 1) (w + 1) (omega (arith, low)) (omega (arith, few)) (omega (arith, e)),
   )
 
@@ -106,13 +106,13 @@ module _ (a : State) (g ino : ℕ) (file : is_inode ino ≡ true) (f : Fork) whe
   tree_right n None e = tt
   tree_right n (Some p) e = one_if (p.0 == g) refl where
     one_if : (b : Bool) → (p.0 == g) ≡ b → Every (IsRight a g) (only_if b (record { block = p.1; claim = ForkTree ino; owner = ino; word = fork_tree + flag_of f }))
-    one_if true is = ((subst (λ (x : ℕ). p.1 < group_len_of a.geometry x) (eqb-true p.0 g is) (split_parts a.geometry n p.0 p.1 e).block, inr (inr (record { file = file; fork = f; word_is = refl }))), tt)
+    one_if true is = ((subst (λ (x : ℕ). p.1 < group_len_of a.geometry x) (eqb-true p.0 g is) (split_parts a.geometry n p.0 p.1 e).block, inr (record { file = file; fork = f; word_is = refl })), tt)
     one_if false is = tt
 
   trees_right : (bs : List TreeBlock) → Every (IsRight a g) (fork_tree_claims a.geometry g ino (flag_of f) bs)
   trees_right bs = every_flat (IsRight a g) (λ (b : TreeBlock). tree_block_at g ino (flag_of f) (split_of a.geometry b.block)) bs (every_of (λ (b : TreeBlock). Every (IsRight a g) (tree_block_at g ino (flag_of f) (split_of a.geometry b.block))) (λ b. tree_right b.block (split_of a.geometry b.block) refl) bs)
 
-forks_right : (a : State) (g : ℕ) → HasFitting a.geometry → AreGoodForks a → Every (IsRight a g) (fork_claims a g)
+pub forks_right : (a : State) (g : ℕ) → HasFitting a.geometry → AreGoodForks a → Every (IsRight a g) (fork_claims a g)
 forks_right a g fit good =
     forks_every a g (IsRight a g)
     (λ ino i. mappings_right a g ino (inode_number a fit ino i) forks.Data (Data ino) (fork_of a ino forks.Data).mappings (fork_good a good ino forks.Data) (λ m j. j))
@@ -122,7 +122,7 @@ forks_right a g fit good =
 
 -- ---- the group's own metadata lies in it
 
-owned_below : (len : ℕ) (os : List Owned) → LieBelow len (blocks_in os) → Every (λ (o : Owned). o.block < len) os
+pub owned_below : (len : ℕ) (os : List Owned) → LieBelow len (blocks_in os) → Every (λ (o : Owned). o.block < len) os
 owned_below len [] low = tt
 owned_below len (o ∷ os) low = (low o.block (inl refl), owned_below len os (λ p i. low p (inr i)))
 
@@ -140,14 +140,14 @@ units_below a g = every_in (λ (u : ℕ). Every (λ (b : ℕ). b < group_len_of 
     let unit = in_numbers 0 (group_len_of a.geometry g / 8) u (passes (is_chunk a g) (numbers 0 (group_len_of a.geometry g / 8)) u i).1 in
     every_in (λ (b : ℕ). b < group_len_of a.geometry g) (numbers (8 * u) 8) (λ b j. let lt = in_numbers (8 * u) 8 b j in omega (arith, unit, lt)))
 
--- what must be known of a state's own lists
-pub record AreInside (a : State) (g : ℕ) : Type 0 where
-  pub list : LieBelow (group_len_of a.geometry g) (a.group g).free_list
-  pub trees : (k : Kind) → LieBelow (group_len_of a.geometry g) (blocks_of ((a.group g).tree k).reading)
-  pub reserve : LieBelow (group_len_of a.geometry g) (blocks_in (a.group g).reserve)
-  pub limbo : LieBelow (group_len_of a.geometry g) (blocks_in (a.group g).limbo)
+-- what must be known of a group's own lists
+pub record AreInside (len : ℕ) (p : Group) : Type 0 where
+  pub list : LieBelow len p.free_list
+  pub trees : (k : Kind) → LieBelow len (blocks_of (p.tree k).reading)
+  pub reserve : LieBelow len (blocks_in p.reserve)
+  pub limbo : LieBelow len (blocks_in p.limbo)
 
-pub each_below : (a : State) (g : ℕ) → HasFitting a.geometry → LogLiesInside a.geometry → g < a.geometry.agcount → AreGoodForks a → AreInside a g → Every (λ (c : Claimed). c.block < group_len_of a.geometry g) (claims a g)
+pub each_below : (a : State) (g : ℕ) → HasFitting a.geometry → LogLiesInside a.geometry → g < a.geometry.agcount → AreGoodForks a → AreInside (group_len_of a.geometry g) (a.group g) → Every (λ (c : Claimed). c.block < group_len_of a.geometry g) (claims a g)
 each_below a g fit log lt good own =
     let len = group_len_of a.geometry g in
     claims_every a g (λ (c : Claimed). c.block < len)
@@ -171,10 +171,11 @@ tree_is_plain Refc = refl
 tree_is_plain Ino = refl
 tree_is_plain Fino = refl
 
-log_told : (a : State) (log : Option Run3) (g : ℕ) → Every (λ (c : Claimed). IsTold a c.owner c.word) (log_claims log g)
-log_told a None g = tt
-log_told a (Some run) g = every_if (λ (c : Claimed). IsTold a c.owner c.word) (run.group == g) (map (claimed_by Log (number_of OfLog)) (numbers run.start run.count)) (λ is.
-    every_map (λ (c : Claimed). IsTold a c.owner c.word) (claimed_by Log (number_of OfLog)) (numbers run.start run.count) (every_of (λ (b : ℕ). IsTold a (number_of OfLog) 0) (λ b. inl (refl, refl)) (numbers run.start run.count)))
+-- what holds of each block for the log's owner
+pub log_every : (P : Claimed → Type 0) → ((b : ℕ) → P (claimed_by Log (number_of OfLog) b)) → (log : Option Run3) (g : ℕ) → Every P (log_claims log g)
+log_every P h None g = tt
+log_every P h (Some run) g = every_if P (run.group == g) (map (claimed_by Log (number_of OfLog)) (numbers run.start run.count)) (λ is.
+    every_map P (claimed_by Log (number_of OfLog)) (numbers run.start run.count) (every_of (λ (b : ℕ). P (claimed_by Log (number_of OfLog) b)) h (numbers run.start run.count)))
 
 owned_told : (a : State) (os : List Owned) → AreNoInodes os → Every (λ (o : Owned). IsTold a o.owner 0) os
 owned_told a os plain = every_weaker (λ (o : Owned). not (is_inode o.owner) ≡ true) (λ (o : Owned). IsTold a o.owner 0) (λ o h. inl (not-true (is_inode o.owner) h, refl)) os (test_every (λ (o : Owned). not (is_inode o.owner)) os plain)
@@ -184,10 +185,10 @@ each_told a g fit good reserve limbo =
     claims_every a g (λ (c : Claimed). IsTold a c.owner c.word)
     (metadata_every a g (λ (c : Claimed). IsTold a c.owner c.word)
     (inl (refl, refl))
-    (log_told a a.geometry.log g)
+    (log_every (λ (c : Claimed). IsTold a c.owner c.word) (λ b. inl (refl, refl)) a.geometry.log g)
     (every_of (λ (b : ℕ). IsTold a (number_of Ag) 0) (λ b. inl (refl, refl)) (a.group g).free_list)
     (λ k. every_of (λ (b : ℕ). IsTold a (tree_owner k) 0) (λ b. inl (tree_is_plain k, refl)) (blocks_of ((a.group g).tree k).reading))
     (owned_told a (a.group g).reserve reserve)
     (owned_told a (a.group g).limbo limbo)
     (every_of (λ (u : ℕ). Every (λ (b : ℕ). IsTold a (number_of Inodes) 0) (numbers (8 * u) 8)) (λ u. every_of (λ (b : ℕ). IsTold a (number_of Inodes) 0) (λ b. inl (refl, refl)) (numbers (8 * u) 8)) (chunks a g)))
-    (every_weaker (IsRight a g) (λ (c : Claimed). IsTold a c.owner c.word) (λ c h. h.1) (fork_claims a g) (forks_right a g fit good))
+    (every_weaker (IsRight a g) (λ (c : Claimed). IsTold a c.owner c.word) (λ c h. inr h.1) (fork_claims a g) (forks_right a g fit good))

@@ -2,7 +2,7 @@
 use Rattle.std.proofs.Common.{◌≡◌, ℕ, zero, suc, ◌<◌, ◌≤◌, ◌≢◌, Bool, true, List, [], ◌∷◌, ◌++◌, ◌&&◌, All, length, get_or, map, flat_map, refl, sym, subst, ◌∙◌, ap₂, inl, inr, arith}
 use Rattle.std.specs.Prelude.{◌==◌, if◌then◌else◌}
 use Rattle.std.specs.List.{AllPairs, list_all}
-use Rattle.std.proofs.lemmas.Bool.{and_parts, cases_Bool, eqb-true}
+use Rattle.std.proofs.lemmas.Bool.{and_parts, cases_Bool, eq-eqb, eqb-true}
 use Rattle.std.proofs.lemmas.List.Elements.{All-cons, All-nil}
 use Rattle.tree_defs.specs.Lists.{AllDiffer, In, times}
 
@@ -74,6 +74,11 @@ times_in p (x ∷ xs) h = elim (cases_Bool (x == p)) [
   | inl same ↦ inl (eqb-true x p same)
   | inr other ↦ let z : ◌≡◌ {A = ℕ} (if x == p then 1 else 0) 0 = rw other refl in inr (times_in p xs (omega (arith, h, z)))
 ]
+
+pub times_of : (p : ℕ) (xs : List ℕ) → In p xs → 1 ≤ times p xs
+times_of p [] i = absurd i
+times_of p (x ∷ xs) (inl e) = let z : ◌≡◌ {A = ℕ} (if x == p then 1 else 0) 1 = rw (eq-eqb x p e) refl in omega (arith, z)
+times_of p (x ∷ xs) (inr i) = let more = times_of p xs i in omega (arith, more)
 
 -- numbers that differ two by two stand there once
 pub pairs_differ : (xs : List ℕ) → AllPairs (λ a b. a ≢ b) xs → AllDiffer xs

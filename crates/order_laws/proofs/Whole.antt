@@ -14,19 +14,21 @@ use Rattle.geom.specs.Layout.{Layout, group_len_of}
 use Rattle.letter_laws.proofs.Plain.{plain_words}
 use Rattle.reserve_laws.proofs.Owning.{runs_now}
 use Rattle.reserve_laws.proofs.Reserved.{plain_owner}
+use Rattle.rmap_recs.specs.Runs.{AreTuples, HaveNext}
 use Rattle.rmap_recs.specs.declared.tuples.Tuple.{Tuple}
 use Rattle.tree_defs.proofs.SiteLemmas.{is_short}
-use Rattle.order_laws.specs.Kept.{KeptInOrder, ListIsAccepted, LogLiesInside}
+use Rattle.unit_plan.specs.Group.{AreGoodForks}
+use Rattle.order_laws.specs.Kept.{AreNoInodes, KeptInOrder, ListIsAccepted, LogLiesInside}
 use Rattle.order_laws.specs.Ordered.{ClaimsLieInside, GroupIsInOrder, OrderHasOwners, OwnersAreInOrder, OwnersAreTuples, OwnersHaveNext}
 use Rattle.order_laws.proofs.Blocks.{blocks_are_once}
 use Rattle.order_laws.proofs.Claims.{AreInside, each_below, each_told}
 use Rattle.order_laws.proofs.Heads.{accepted, bad_is_sick, limbo_is_plain, words}
-use Rattle.order_laws.proofs.Lists.{Every, at_place, every_all, every_map, every_test, every_weaker}
+use Rattle.order_laws.proofs.Lists.{at_place, every_all, every_map, every_test, every_weaker}
 use Rattle.order_laws.proofs.Offsets.{IsTold, told_apart}
 use Rattle.order_laws.proofs.Trees.{known_below}
 use Rattle.order_laws.proofs.Tuples.{every_set, set_rises}
 
-own_inside : (at : Layout) (image : Image) (kept : Kept) (g : ℕ) → g < at.agcount → KeepsBad at image kept → KeptInOrder at kept g → ListIsAccepted at image g → AreInside (state_of at image kept) g
+pub own_inside : (at : Layout) (image : Image) (kept : Kept) (g : ℕ) → g < at.agcount → KeepsBad at image kept → KeptInOrder at kept g → ListIsAccepted at image g → AreInside (group_len_of at g) ((state_of at image kept).group g)
 unfolding group_of heads_in
 own_inside at image kept g lt keeps order list = record {
   list = λ p i. (at_place (λ (b : ℕ). (1 ≤ b) × (b < group_len_of at g)) ((state_of at image kept).group g).free_list (accepted at image g list).inside p i).1;
@@ -38,33 +40,38 @@ own_inside at image kept g lt keeps order list = record {
 few_blocks : (at : Layout) (g : ℕ) → HasFitting at → group_len_of at g ≤ 268435456
 few_blocks at g fit = is_short at.agblocks at.agcount at.dblocks g fit.short_groups fit.last_short
 
-module _ (good : ForksAreGood) where
-  claims_below : (at : Layout) (image : Image) (kept : Kept) (g : ℕ) → HasFitting at → LogLiesInside at → g < at.agcount → KeepsBad at image kept → KeptInOrder at kept g → ListIsAccepted at image g
-      → Every (λ (c : Claimed). c.block < group_len_of at g) (claims (state_of at image kept) g)
-  claims_below at image kept g fit log lt keeps order list = each_below (state_of at image kept) g fit log lt (good at image kept) (own_inside at image kept g lt keeps order list)
+-- ---- of any state with good forks
 
+pub next_of : (a : State) (g : ℕ) → HasFitting a.geometry → LogLiesInside a.geometry → g < a.geometry.agcount → AreGoodForks a → AreInside (group_len_of a.geometry g) (a.group g) → HaveNext (own a g)
+unfolding own
+next_of a g fit log lt good inside =
+    every_all (λ (t : Tuple). t.block < 2 ^ 32 - 1) (set_of (map tuple_of (claims a g)))
+    (every_set (λ (t : Tuple). t.block < 2 ^ 32 - 1) (map tuple_of (claims a g))
+    (every_map (λ (t : Tuple). t.block < 2 ^ 32 - 1) tuple_of (claims a g)
+    (every_weaker (λ (c : Claimed). c.block < group_len_of a.geometry g) (λ (c : Claimed). c.block < 2 ^ 32 - 1) (λ c h. let few = few_blocks a.geometry g fit in omega (arith, h, few)) (claims a g)
+    (each_below a g fit log lt good inside))))
+
+pub tuples_of : (a : State) (g : ℕ) → HasFitting a.geometry → AreGoodForks a → AreNoInodes (a.group g).reserve → AreNoInodes (a.group g).limbo → AreTuples (own a g)
+unfolding own
+tuples_of a g fit good reserve limbo =
+    set_rises (λ (t : Tuple). IsTold a t.owner t.word) (λ t u h k block owner keys. told_apart a good t.owner t.word u.owner u.word h k owner keys) (map tuple_of (claims a g))
+    (every_map (λ (t : Tuple). IsTold a t.owner t.word) tuple_of (claims a g) (each_told a g fit good reserve limbo))
+
+-- ---- of an image
+
+module _ (good : ForksAreGood) where
   pub inside : ClaimsLieInside
   inside at image kept g fit log lt keeps order list =
       every_test (λ (c : Claimed). nat_lt c.block (group_len_of at g)) (claims (state_of at image kept) g)
       (every_weaker (λ (c : Claimed). c.block < group_len_of at g) (λ (c : Claimed). nat_lt c.block (group_len_of at g) ≡ true) (λ c h. lt-ltb c.block (group_len_of at g) h) (claims (state_of at image kept) g)
-      (claims_below at image kept g fit log lt keeps order list))
+      (each_below (state_of at image kept) g fit log lt (good at image kept) (own_inside at image kept g lt keeps order list)))
 
   pub next : OwnersHaveNext
-  unfolding own
-  next at image kept g fit log lt keeps order list =
-      let a : State = state_of at image kept in
-      every_all (λ (t : Tuple). t.block < 2 ^ 32 - 1) (set_of (map tuple_of (claims a g)))
-      (every_set (λ (t : Tuple). t.block < 2 ^ 32 - 1) (map tuple_of (claims a g))
-      (every_map (λ (t : Tuple). t.block < 2 ^ 32 - 1) tuple_of (claims a g)
-      (every_weaker (λ (c : Claimed). c.block < group_len_of at g) (λ (c : Claimed). c.block < 2 ^ 32 - 1) (λ c h. let few = few_blocks at g fit in omega (arith, h, few)) (claims a g)
-      (claims_below at image kept g fit log lt keeps order list))))
+  next at image kept g fit log lt keeps order list = next_of (state_of at image kept) g fit log lt (good at image kept) (own_inside at image kept g lt keeps order list)
 
   pub tuples : OwnersAreTuples
-  unfolding own group_of
-  tuples at image kept g fit order =
-      let a : State = state_of at image kept in
-      set_rises (λ (t : Tuple). IsTold a t.owner t.word) (λ t u h k block owner keys. told_apart a (good at image kept) t.owner t.word u.owner u.word h k owner keys) (map tuple_of (claims a g))
-      (every_map (λ (t : Tuple). IsTold a t.owner t.word) tuple_of (claims a g) (each_told a g fit (good at image kept) order.reserve_plain order.limbo_plain))
+  unfolding group_of
+  tuples at image kept g fit order = tuples_of (state_of at image kept) g fit (good at image kept) order.reserve_plain order.limbo_plain
 
   pub group_is_in_order : GroupIsInOrder
   group_is_in_order at image kept g fit log lt firm order bytes list = record {

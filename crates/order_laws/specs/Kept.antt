@@ -1,5 +1,5 @@
 -- What is in order of an image, and of what a machine keeps in memory beside it.
-use Rattle.std.specs.Prelude.{◌≡◌, ℕ, ◌<◌, true, not, List, slice_index, None, Some}
+use Rattle.std.specs.Prelude.{◌≡◌, ℕ, ◌<◌, ◌==◌, true, not, List, slice_index, None, Some}
 use Rattle.std.specs.List.{list_all}
 use Rattle.std.specs.Option.{ForSome}
 use Rattle.ag_headers.specs.Agfl.{agfl_fault}
@@ -8,7 +8,8 @@ use Rattle.fs_state.specs.Kinds.{Image}
 use Rattle.fs_state.specs.State.{Bad, Kept, Owned, blocks_in, pairs_of}
 use Rattle.geom.specs.Layout.{Layout, device_block_of, group_len_of}
 use Rattle.geom.specs.Numbers.{HoldsLog}
-use Rattle.rmap_recs.specs.Owners.{is_inode}
+use Rattle.rmap_recs.specs.Owners.{is_inode, number_of}
+use Rattle.rmap_recs.specs.declared.owner.Owner.TheVariants.{Inodes}
 use Rattle.sblock.specs.declared.kind.Kind.{Kind}
 use Rattle.tree_defs.specs.Lists.{AllDiffer, In}
 
@@ -31,6 +32,10 @@ LieBelow len blocks = (p : ℕ) → In p blocks → p < len
 -- none of these owners is an inode
 abbrev pub AreNoInodes : List Owned → Type 0
 AreNoInodes os = list_all (λ o. not (is_inode o.owner)) os ≡ true
+
+-- none of these owners is that of chunks
+abbrev pub AreNoChunks : List Owned → Type 0
+AreNoChunks os = list_all (λ o. not (o.owner == number_of Inodes)) os ≡ true
 
 -- Is what is kept in memory of a group in order? A tree that is kept as bad is sick, and the blocks that it claims lie in the
 -- group, each once. So do those of limbo, and those of the reserve lie there; none of either has an inode for its owner.

@@ -1,21 +1,24 @@
 -- A group of the state that an image stands for is in order at every moment: each part of that from what it needs.
-use Rattle.std.specs.Prelude.{◌≡◌, ℕ, ◌<◌, true, false}
-use Rattle.fs_change.specs.Laws.{AreWords}
+use Rattle.std.specs.Prelude.{◌≡◌, ℕ, ◌<◌, true, false, List}
+use Rattle.fs_change.specs.Laws.{AreWords, OnlyChunks}
 use Rattle.fs_change.specs.Parts.{sick_in}
+use Rattle.fs_change.specs.Step.{Step}
 use Rattle.fs_derive.specs.Own.{own}
+use Rattle.fs_model.specs.declared.entry.Entry.TheVariants as entries
 use Rattle.fs_model.specs.declared.unit.Unit.{Unit as ScrubUnit}
 use Rattle.fs_state.specs.Apart.{Apart}
 use Rattle.fs_state.specs.Frame.{Firm}
 use Rattle.fs_state.specs.Kinds.{Image}
 use Rattle.fs_state.specs.Read.{KeepsBad, opened, state_of}
-use Rattle.fs_state.specs.State.{Kept, State, is_readable}
+use Rattle.fs_state.specs.State.{Kept, State, is_readable, pairs_of}
 use Rattle.geom.specs.Apart.{HasFitting}
 use Rattle.geom.specs.Layout.{Layout}
 use Rattle.move_laws.specs.Order.{AreBlocks, IsInOrder}
+use Rattle.repair_laws.specs.Made.{CanBeMade}
 use Rattle.repair_laws.specs.Owners.{AreOwners, LieInside}
 use Rattle.rmap_recs.specs.Runs.{AreTuples, HaveNext}
 use Rattle.sblock.specs.declared.kind.Kind.{Kind}
-use Rattle.order_laws.specs.Kept.{AreNoInodes, HeadsAreBytes, KeptInOrder, ListIsAccepted, LogLiesInside}
+use Rattle.order_laws.specs.Kept.{AreNoChunks, AreNoInodes, HeadsAreBytes, KeptInOrder, ListIsAccepted, LogLiesInside}
 
 -- counters are words where the heads are bytes
 abbrev pub CountersAreWords : Type 0
@@ -76,3 +79,13 @@ OrderHasOwners = (a : State) (g : ℕ) (unit : ScrubUnit) → HasFitting a.geome
 abbrev pub OwnersAreInOrder : Type 0
 OwnersAreInOrder = (at : Layout) (image : Image) (kept : Kept) (g : ℕ) (unit : ScrubUnit) → HasFitting at → LogLiesInside at → g < at.agcount → KeepsBad at image kept → KeptInOrder at kept g → ListIsAccepted at image g
     → AreOwners (state_of at image kept) g unit
+
+-- who has a block as inodes has it in a chunk, where no owner in reserve and limbo is that of chunks
+abbrev pub ChunksAreInodes : Type 0
+ChunksAreInodes = (at : Layout) (image : Image) (kept : Kept) (g : ℕ) → HasFitting at → AreNoChunks (kept.reserve g) → AreNoChunks (pairs_of (kept.limbo g)) → OnlyChunks (state_of at image kept) g
+
+-- So new reverse mappings can be made of what a switch leaves to claim blocks. That state is no image's, but it has the forks
+-- of one, its new tree lies in the reserve, and limbo gains blocks of the group with the owner of trees.
+abbrev pub SwitchCanBeMade : Type 0
+SwitchCanBeMade = (at : Layout) (image : Image) (kept : Kept) (b : State) (left : List Kind) (g : ℕ) (unit : ScrubUnit) (root second : ℕ) → HasFitting at → LogLiesInside at → g < at.agcount → KeepsBad at image kept → KeptInOrder at kept g → ListIsAccepted at image g
+    → AreNoChunks (pairs_of (kept.limbo g)) → (s : Step (state_of at image kept) left (entries.Switched g unit root second) b) → CanBeMade (state_of at image kept) g unit s.row.0

@@ -1,4 +1,4 @@
-ghost use Rattle.order_laws.specs.Ordered.{BadIsSick, BlocksAreOnce, ClaimsLieInside, CountersAreWords, GroupIsInOrder, LimboIsPlain, OpenedIsInOrder, OpenedIsKept, OrderHasOwners, OwnersAreInOrder, OwnersAreTuples, OwnersHaveNext};
+ghost use Rattle.order_laws.specs.Ordered.{BadIsSick, BlocksAreOnce, ChunksAreInodes, ClaimsLieInside, CountersAreWords, GroupIsInOrder, LimboIsPlain, OpenedIsInOrder, OpenedIsKept, OrderHasOwners, OwnersAreInOrder, OwnersAreTuples, OwnersHaveNext, SwitchCanBeMade};
 
 use claim_laws::good_forks;
 use fs_state::opening_law;
@@ -29,12 +29,14 @@ pub fn opened_in_order()
     opening_law();
 }
 
-/// A law: a group in order has what a switch of free space or of reference counts asks of its owners: they lie in it, the
-/// unit's is no inode, and what should be in the reverse mappings are their maximal runs
+/// A law: a group in order has what switches ask of owners: they lie in it, the unit's is no inode, what should be in the
+/// reverse mappings are their maximal runs; and new ones can be made of what a switch of these leaves to claim blocks
 /// (XFS Algorithms and Data Structures, "Reverse-Mapping B+tree").
 pub fn owners_in_order()
     ensures order { OrderHasOwners }
     ensures image { OwnersAreInOrder }
+    ensures chunks { ChunksAreInodes }
+    ensures mappings { SwitchCanBeMade }
 {
     good_forks();
 }
