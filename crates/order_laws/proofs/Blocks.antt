@@ -35,7 +35,7 @@ number_of_kind Ino = 4
 number_of_kind Fino = 5
 
 -- parts by numbers, those of other sorts by 0
-abbrev rank : Part → ℕ
+abbrev pub rank : Part → ℕ
 rank (ListOf g) = 1
 rank (TreeOf g k) = 2 + number_of_kind k
 rank (LimboOf g) = 8

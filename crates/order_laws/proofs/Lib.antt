@@ -4,6 +4,7 @@ pub mod Heads
 pub mod Lists
 pub mod Offsets
 pub mod Opened
+pub mod Repairs
 pub mod Switching
 pub mod Trees
 pub mod Tuples

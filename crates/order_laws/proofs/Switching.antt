@@ -38,7 +38,7 @@ use Rattle.order_laws.proofs.Whole.{next_of, own_inside, tuples_of}
 
 -- ---- inodes have blocks of chunks alone
 
-abbrev not_chunks : ℕ → Type 0
+abbrev pub not_chunks : ℕ → Type 0
 not_chunks owner = owner ≡ number_of Inodes → ⊥
 
 tree_is_other : (k : Kind) → not_chunks (tree_owner k)
@@ -92,7 +92,7 @@ module _ (a : State) (g : ℕ) where
       (every_weaker (IsRight a g) IsChunks of_file (fork_claims a g) (forks_right a g fit good))))))
       (of_has (set_of (map tuple_of (claims a g))) t there) owner
 
-no_chunks : (os : List Owned) → AreNoChunks os → Every (λ (o : Owned). not_chunks o.owner) os
+pub no_chunks : (os : List Owned) → AreNoChunks os → Every (λ (o : Owned). not_chunks o.owner) os
 no_chunks os h = every_weaker (λ (o : Owned). not (o.owner == number_of Inodes) ≡ true) (λ (o : Owned). not_chunks o.owner) (λ o k. eqb-false o.owner (number_of Inodes) (not-true (o.owner == number_of Inodes) k)) os (test_every (λ (o : Owned). not (o.owner == number_of Inodes)) os h)
 
 pub chunks_are_inodes : ForksAreGood → ChunksAreInodes
@@ -146,9 +146,6 @@ in_new_blocks bs (Unreadable block fault old) = refl
 
 module _ (a : State) (g : ℕ) (blocks : Kind → List ℕ) (laid : AreLaid (kind_need a g units.Rmap) (Rmap ∷ []) (blocks_in (a.group g).reserve) blocks)
     (mine : is_reserve_of units.Rmap (a.group g) ≡ true) (old : AreInside (group_len_of a.geometry g) (a.group g)) (plain : AreNoInodes (a.group g).limbo) (others : AreNoChunks (a.group g).limbo) where
-  abbrev len : ℕ
-  len = group_len_of a.geometry g
-
   lost : Every (IsTrees (group_len_of a.geometry g)) (lost_owned a g units.Rmap)
   unfolding lost_blocks
   lost = every_map (IsTrees (group_len_of a.geometry g)) (owned_by (number_of Ag)) (lost_blocks a g units.Rmap) (every_in (λ (b : ℕ). IsTrees (group_len_of a.geometry g) (owned_by (number_of Ag) b)) (lost_blocks a g units.Rmap) (λ b i.

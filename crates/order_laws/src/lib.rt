@@ -3,4 +3,4 @@
 
 mod laws;
 
-pub use laws::{group_in_order, opened_in_order, owners_in_order};
+pub use laws::{group_in_order, images_follow, opened_in_order, owners_in_order};
