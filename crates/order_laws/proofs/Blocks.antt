@@ -20,9 +20,8 @@ use Rattle.tree_defs.proofs.SiteLemmas.{has_first}
 use Rattle.tree_defs.specs.Lists.{AllDiffer, In, times}
 use Rattle.order_laws.specs.Kept.{LieBelow}
 use Rattle.order_laws.specs.Ordered.{BlocksAreOnce}
-use Rattle.order_laws.proofs.Heads.{accepted}
+use Rattle.order_laws.proofs.Readings.{accepted, known_below, known_once, known_root}
 use Rattle.order_laws.proofs.Lists.{at_place, pairs_differ, times_in}
-use Rattle.order_laws.proofs.Trees.{known_below, known_once, known_root}
 
 -- ---- the shares of a pool
 

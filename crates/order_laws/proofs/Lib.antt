@@ -1,11 +1,9 @@
 pub mod Blocks
 pub mod Claims
-pub mod Heads
 pub mod Lists
 pub mod Offsets
-pub mod Opened
+pub mod Readings
 pub mod Repairs
 pub mod Switching
-pub mod Trees
 pub mod Tuples
 pub mod Whole

@@ -37,16 +37,24 @@ Given a e = Unit {0}
 
 -- then a repair leaves all chunks
 abbrev pub RepairKeepsChunks : Type 0
-RepairKeepsChunks = (at : Layout) (image : Image) (kept : Kept) (b : State) (left : List Kind) (e : Entry) → HasFitting at → LogLiesInside at → IsKeptWell at image kept (group_of_entry (state_of at image kept) e)
-    → is_of_repair e ≡ true → Given (state_of at image kept) e → Step (state_of at image kept) left e b → SameChunks (state_of at image kept) b
+RepairKeepsChunks = (at : Layout) (image : Image) (kept : Kept) (b : State) (left : List Kind) (e : Entry)
+    → HasFitting at → LogLiesInside at → IsKeptWell at image kept (group_of_entry (state_of at image kept) e)
+    → is_of_repair e ≡ true → Given (state_of at image kept) e → Step (state_of at image kept) left e b
+    → SameChunks (state_of at image kept) b
 
 -- and an entry from one image to another has the facts that letters ask for
 abbrev pub ImagesHaveFacts : Type 0
-ImagesHaveFacts = (at : Layout) (image image' : Image) (kept kept' : Kept) (left : List Kind) (e : Entry) → HasFitting at → LogLiesInside at → IsKeptWell at image kept (group_of_entry (state_of at image kept) e)
-    → IsKeptWell at image' kept' (group_of_entry (state_of at image kept) e) → Given (state_of at image kept) e → (s : Step (state_of at image kept) left e (state_of at image' kept')) → Facts (state_of at image kept) (state_of at image' kept') left e s
+ImagesHaveFacts = (at : Layout) (image image' : Image) (kept kept' : Kept) (left : List Kind) (e : Entry)
+    → HasFitting at → LogLiesInside at → IsKeptWell at image kept (group_of_entry (state_of at image kept) e)
+    → IsKeptWell at image' kept' (group_of_entry (state_of at image kept) e) → Given (state_of at image kept) e
+    → (s : Step (state_of at image kept) left e (state_of at image' kept'))
+    → Facts (state_of at image kept) (state_of at image' kept') left e s
 
 -- so of each group what was known is known behind it, as the table has it
 abbrev pub ImagesFollow : Type 0
-ImagesFollow = (at : Layout) (image image' : Image) (kept kept' : Kept) (left : List Kind) (e : Entry) (h : ℕ) (letters : Letters) → HasFitting at → LogLiesInside at → IsKeptWell at image kept (group_of_entry (state_of at image kept) e)
-    → IsKeptWell at image' kept' (group_of_entry (state_of at image kept) e) → Given (state_of at image kept) e → Step (state_of at image kept) left e (state_of at image' kept')
-    → AreKnown (state_of at image kept) h letters → AreKnown (state_of at image' kept') h (letters_after (state_of at image kept) left e h letters)
+ImagesFollow = (at : Layout) (image image' : Image) (kept kept' : Kept) (left : List Kind) (e : Entry) (h : ℕ) (letters : Letters)
+    → HasFitting at → LogLiesInside at → IsKeptWell at image kept (group_of_entry (state_of at image kept) e)
+    → IsKeptWell at image' kept' (group_of_entry (state_of at image kept) e) → Given (state_of at image kept) e
+    → Step (state_of at image kept) left e (state_of at image' kept')
+    → AreKnown (state_of at image kept) h letters
+    → AreKnown (state_of at image' kept') h (letters_after (state_of at image kept) left e h letters)

@@ -1,5 +1,5 @@
 use Rattle.order_laws.proofs.Blocks.{blocks_are_once}
-use Rattle.order_laws.proofs.Heads.{bad_is_sick, limbo_is_plain, words}
+use Rattle.order_laws.proofs.Readings.{bad_is_sick, limbo_is_plain, words}
 use Rattle.order_laws.proofs.Whole.{group_is_in_order, inside, next, tuples}
 use Rattle.order_laws.proofs.laws.group_in_order.Goals as goal
 

@@ -1,4 +1,4 @@
-use Rattle.order_laws.proofs.Opened.{opened_is_in_order, opened_is_kept}
+use Rattle.order_laws.proofs.Whole.{opened_is_in_order, opened_is_kept}
 use Rattle.order_laws.proofs.laws.opened_in_order.Goals as goal
 
 pub returns-clause-kept : goal.returns-clause-kept
