@@ -22,8 +22,9 @@ use Rattle.fs_model.specs.declared.entry.Entry.TheVariants as entries
 use Rattle.fs_model.specs.declared.unit.Unit.{Unit as ScrubUnit}
 use Rattle.fs_model.specs.declared.unit.Unit.TheVariants as units
 use Rattle.fs_state.specs.Apart.{Apart, ChunkAt, Has, ListOf, has_unit, ino_lists, is_chunk, is_listed, rmap_lists, unit_verifies}
+use Rattle.fs_state.specs.Frame.{OpeningLaw}
 use Rattle.fs_state.specs.Kinds.{Image}
-use Rattle.fs_state.specs.Read.{group_of, state_of}
+use Rattle.fs_state.specs.Read.{group_of, opened, state_of}
 use Rattle.fs_state.specs.State.{Group, Kept, Owned, State, blocks_of}
 use Rattle.geom.specs.Apart.{HasFitting}
 use Rattle.geom.specs.Layout.{Layout, device_block_of, group_len_of}
@@ -36,11 +37,11 @@ use Rattle.rmap_recs.specs.declared.owner.Owner.TheVariants.{Ag, Fs, Inodes}
 use Rattle.sblock.specs.declared.kind.Kind.{Kind}
 use Rattle.tree_defs.specs.Lists.{In}
 use Rattle.order_laws.specs.Kept.{LogLiesInside}
-use Rattle.order_laws.specs.Repairs.{Given, ImagesFollow, ImagesHaveFacts, IsKeptWell, RepairKeepsChunks}
+use Rattle.order_laws.specs.Repairs.{Given, ImagesFollow, ImagesHaveFacts, IsKeptWell, OpenedIsKeptWell, RepairKeepsChunks}
 use Rattle.order_laws.proofs.Blocks.{rank}
 use Rattle.order_laws.proofs.Lists.{Every}
 use Rattle.order_laws.proofs.Switching.{mappings_can, no_chunks, not_chunks, switch_can_be_made}
-use Rattle.order_laws.proofs.Whole.{group_is_in_order, own_inside}
+use Rattle.order_laws.proofs.Whole.{group_is_in_order, opened_is_kept, own_inside}
 
 -- ---- a block of a chunk is claimed by it
 
@@ -175,3 +176,14 @@ images_have_facts good at image image' kept kept' left e fit log well behind giv
 pub images_follow : ForksAreGood → ImagesFollow
 images_follow good at image image' kept kept' left e h letters fit log well behind given s known =
     letters_follow (state_of at image kept) (state_of at image' kept') left e h letters fit s (images_have_facts good at image image' kept kept' left e fit log well behind given s) known
+
+pub opened_is_kept_well : OpeningLaw → OpenedIsKeptWell
+unfolding opened
+opened_is_kept_well opening at image g lt apart bytes list = record {
+  group = lt;
+  firm = opening at image apart;
+  order = opened_is_kept at image g;
+  chunks = refl;
+  bytes = bytes;
+  list = list;
+}

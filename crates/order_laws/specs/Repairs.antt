@@ -5,10 +5,10 @@ use Rattle.fs_change.specs.Step.{Step}
 use Rattle.fs_model.specs.declared.entry.Entry.{Entry}
 use Rattle.fs_model.specs.declared.entry.Entry.TheVariants as entries
 use Rattle.fs_model.specs.declared.unit.Unit.TheVariants as units
-use Rattle.fs_state.specs.Apart.{is_chunk}
+use Rattle.fs_state.specs.Apart.{Apart, is_chunk}
 use Rattle.fs_state.specs.Frame.{Firm}
 use Rattle.fs_state.specs.Kinds.{Image}
-use Rattle.fs_state.specs.Read.{state_of}
+use Rattle.fs_state.specs.Read.{opened, state_of}
 use Rattle.fs_state.specs.State.{Kept, State, pairs_of}
 use Rattle.geom.specs.Apart.{HasFitting}
 use Rattle.geom.specs.Layout.{Layout}
@@ -27,6 +27,11 @@ pub record IsKeptWell (at : Layout) (image : Image) (kept : Kept) (g : ℕ) : Ty
   pub chunks : AreNoChunks (pairs_of (kept.limbo g))
   pub bytes : HeadsAreBytes at image g
   pub list : ListIsAccepted at image g
+
+-- right after an image was opened each is, where no block of metadata has a second claim
+abbrev pub OpenedIsKeptWell : Type 0
+OpenedIsKeptWell = (at : Layout) (image : Image) (g : ℕ) → g < at.agcount → Apart (state_of at image (opened at image))
+    → HeadsAreBytes at image g → ListIsAccepted at image g → IsKeptWell at image (opened at image) g
 
 -- What else is asked of an entry? A verdict is true; and a spare block of a rebuild of free space, which is read off reverse
 -- mappings alone, is of no chunk.

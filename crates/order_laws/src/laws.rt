@@ -1,5 +1,5 @@
 ghost use Rattle.order_laws.specs.Ordered.{BadIsSick, BlocksAreOnce, ChunksAreInodes, ClaimsLieInside, CountersAreWords, GroupIsInOrder, LimboIsPlain, OpenedIsInOrder, OpenedIsKept, OrderHasOwners, OwnersAreInOrder, OwnersAreTuples, OwnersHaveNext, SwitchCanBeMade};
-ghost use Rattle.order_laws.specs.Repairs.{ImagesFollow, ImagesHaveFacts, RepairKeepsChunks};
+ghost use Rattle.order_laws.specs.Repairs.{ImagesFollow, ImagesHaveFacts, OpenedIsKeptWell, RepairKeepsChunks};
 
 use claim_laws::good_forks;
 use fs_state::opening_law;
@@ -25,6 +25,7 @@ pub fn group_in_order()
 pub fn opened_in_order()
     ensures kept { OpenedIsKept }
     ensures all { OpenedIsInOrder }
+    ensures well { OpenedIsKeptWell }
 {
     good_forks();
     opening_law();
