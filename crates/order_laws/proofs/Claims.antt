@@ -163,7 +163,7 @@ each_below a g fit log lt good own =
 
 -- ---- and has no offsets
 
-tree_is_plain : (k : Kind) → is_inode (tree_owner k) ≡ false
+pub tree_is_plain : (k : Kind) → is_inode (tree_owner k) ≡ false
 tree_is_plain Bno = refl
 tree_is_plain Cnt = refl
 tree_is_plain Rmap = refl

@@ -1,9 +1,9 @@
 -- What the entries of a repair need of an image: a reserved block is of no chunk, chunks stay, and groups are in order.
-use Rattle.std.proofs.Common.{◌≡◌, ℕ, ◌+◌, ◌*◌, ◌<◌, ◌==◌, ◌&&◌, ◌||◌, Bool, true, false, not, List, [], ◌∷◌, ◌++◌, flat_map, map, Option, Some, None, refl, ap, sym, ◌∙◌, inl, arith}
+use Rattle.std.proofs.Common.{◌≡◌, ℕ, ◌+◌, ◌*◌, ◌<◌, ◌==◌, ◌&&◌, ◌||◌, Bool, true, false, List, [], ◌∷◌, ◌++◌, flat_map, map, Option, Some, None, refl, ap, sym, ◌∙◌, inl, arith}
 use Rattle.std.specs.Prelude.{◌/◌, ◌%◌, find, nat_lt, slice_get, if◌then◌else◌}
 use Rattle.std.specs.List.{list_any}
 use Rattle.std.specs.Option.{option_map_or}
-use Rattle.std.proofs.lemmas.Bool.{and_from, and_parts, eq-eqb, false≢true, ltb-true, ne_eqb, not-true, or_right}
+use Rattle.std.proofs.lemmas.Bool.{and_from, and_parts, eq-eqb, false≢true, ltb-true, ne_eqb, or_right}
 use Rattle.change_laws.proofs.Members.{any_both, any_filter, any_flat, any_map, found, found_below}
 use Rattle.change_laws.proofs.Rows.{step_keeps_chunks}
 use Rattle.change_laws.specs.Chunks.{LeavesChunks}
@@ -40,6 +40,7 @@ use Rattle.order_laws.specs.Kept.{LogLiesInside}
 use Rattle.order_laws.specs.Repairs.{Given, ImagesFollow, ImagesHaveFacts, IsKeptWell, OpenedIsKeptWell, RepairKeepsChunks}
 use Rattle.order_laws.proofs.Blocks.{rank}
 use Rattle.order_laws.proofs.Lists.{Every}
+use Rattle.order_laws.proofs.Memory.{last_test, repair_keeps_memory}
 use Rattle.order_laws.proofs.Switching.{mappings_can, no_chunks, not_chunks, switch_can_be_made}
 use Rattle.order_laws.proofs.Whole.{group_is_in_order, opened_is_kept, own_inside}
 
@@ -84,9 +85,6 @@ module _ (a : State) (g b : ℕ) (chunk : is_chunk a g (b / 8) ≡ true) where
 
 -- ---- a reserved block is of no chunk
 
-last_test : (x y : Bool) → (x && not y) ≡ true → y ≡ false
-last_test x y h = not-true y (and_parts x (not y) h).1
-
 unless : (x : Bool) → (x ≡ true → ⊥) → x ≡ false
 unless true never = absurd (never refl)
 unless false never = refl
@@ -117,7 +115,7 @@ listed_of_none a g b apart lt i chunk =
 
 reserved_of_none : (a : State) (left : List Kind) (g : ℕ) (unit : ScrubUnit) (b : ℕ) (spare : Bool) → Apart a → g < a.geometry.agcount → Given a (entries.Reserved g unit b spare) → MayReserve a left g unit b spare → is_chunk a g (b / 8) ≡ false
 reserved_of_none a left g unit b false apart lt given may = unless (is_chunk a g (b / 8)) (listed_of_none a g b apart lt (first_in (a.group g).free_list b may.1))
-reserved_of_none a left g units.Free b true apart lt given may = given
+reserved_of_none a left g units.Free b true apart lt given may = unless (is_chunk a g (b / 8)) (λ chunk. false≢true (sym given ∙ of_metadata a g b chunk))
 reserved_of_none a left g units.Rmap b true apart lt given may = unless (is_chunk a g (b / 8)) (spare_of_none a g units.Rmap b (λ e. absurd cc) (is_found a g units.Rmap b may.2))
 reserved_of_none a left g units.Inode b true apart lt given may = unless (is_chunk a g (b / 8)) (spare_of_none a g units.Inode b (λ e. absurd cc) (is_found a g units.Inode b may.2))
 reserved_of_none a left g units.Refc b true apart lt given may = unless (is_chunk a g (b / 8)) (spare_of_none a g units.Refc b (λ e. absurd cc) (is_found a g units.Refc b may.2))
@@ -155,27 +153,27 @@ pub repair_keeps_chunks : ForksAreGood → RepairKeepsChunks
 repair_keeps_chunks good at image kept b left e fit log well repair given s = step_keeps_chunks (state_of at image kept) b left e fit s (leaves good at image kept fit log b left e well repair given s)
 
 pub images_have_facts : ForksAreGood → ImagesHaveFacts
-images_have_facts good at image image' kept kept' left (entries.Verdict g own verdict) fit log well behind given s = given
-images_have_facts good at image image' kept kept' left (entries.Reserved g unit block spare) fit log well behind given s = (
+images_have_facts good at image image' kept kept' left (entries.Verdict g own verdict) fit log well firm bytes list given s = given
+images_have_facts good at image image' kept kept' left (entries.Reserved g unit block spare) fit log well firm bytes list given s = (
   repair_keeps_chunks good at image kept (state_of at image' kept') left (entries.Reserved g unit block spare) fit log well refl given s,
   reserved_of_none (state_of at image kept) left g unit block spare well.firm.apart well.group given s.row.0,
   in_order good at image kept fit log g well,
-  in_order good at image' kept' fit log g behind,
+  in_order good at image' kept' fit log g (repair_keeps_memory at image image' kept kept' left (entries.Reserved g unit block spare) g fit well refl given s well firm bytes list),
 )
-images_have_facts good at image image' kept kept' left (entries.Switched g unit root second) fit log well behind given s = (
+images_have_facts good at image image' kept kept' left (entries.Switched g unit root second) fit log well firm bytes list given s = (
   switch_can_be_made good at image kept (state_of at image' kept') left g unit root second fit log well.group well.firm.keeps well.order well.list well.chunks s,
   in_order good at image kept fit log g well,
 )
-images_have_facts good at image image' kept kept' left (entries.Reaped e) fit log well behind given s = (
+images_have_facts good at image image' kept kept' left (entries.Reaped e) fit log well firm bytes list given s = (
   repair_keeps_chunks good at image kept (state_of at image' kept') left (entries.Reaped e) fit log well refl given s,
   in_order good at image kept fit log e.group well,
-  in_order good at image' kept' fit log e.group behind,
+  in_order good at image' kept' fit log e.group (repair_keeps_memory at image image' kept kept' left (entries.Reaped e) e.group fit well refl given s well firm bytes list),
 )
-images_have_facts good at image image' kept kept' left e fit log well behind given s = tt
+images_have_facts good at image image' kept kept' left e fit log well firm bytes list given s = tt
 
 pub images_follow : ForksAreGood → ImagesFollow
-images_follow good at image image' kept kept' left e h letters fit log well behind given s known =
-    letters_follow (state_of at image kept) (state_of at image' kept') left e h letters fit s (images_have_facts good at image image' kept kept' left e fit log well behind given s) known
+images_follow good at image image' kept kept' left e h letters fit log well firm bytes list given s known =
+    letters_follow (state_of at image kept) (state_of at image' kept') left e h letters fit s (images_have_facts good at image image' kept kept' left e fit log well firm bytes list given s) known
 
 pub opened_is_kept_well : OpeningLaw → OpenedIsKeptWell
 unfolding opened
@@ -183,6 +181,7 @@ opened_is_kept_well opening at image g lt apart bytes list = record {
   group = lt;
   firm = opening at image apart;
   order = opened_is_kept at image g;
+  reserve_once = λ b. omega arith;
   chunks = refl;
   bytes = bytes;
   list = list;

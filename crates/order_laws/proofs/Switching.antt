@@ -41,7 +41,7 @@ use Rattle.order_laws.proofs.Whole.{next_of, own_inside, tuples_of}
 abbrev pub not_chunks : ℕ → Type 0
 not_chunks owner = owner ≡ number_of Inodes → ⊥
 
-tree_is_other : (k : Kind) → not_chunks (tree_owner k)
+pub tree_is_other : (k : Kind) → not_chunks (tree_owner k)
 tree_is_other Bno e = omega (arith, e)
 tree_is_other Cnt e = omega (arith, e)
 tree_is_other Rmap e = omega (arith, e)
@@ -114,11 +114,11 @@ every_put_pair P o (p ∷ ps) c h = elim (comes_first o p) as (λ b. Every P (if
   | false ↦ elim (comes_first p o) as (λ b. Every P (if b then p ∷ put_pair o ps else p ∷ ps)) [ true ↦ (h.0, every_put_pair P o ps c h.1) | false ↦ h ]
 ]
 
-every_pairs : (P : Owned → Type 0) (os : List Owned) → Every P os → Every P (pairs_of os)
+pub every_pairs : (P : Owned → Type 0) (os : List Owned) → Every P os → Every P (pairs_of os)
 every_pairs P [] h = tt
 every_pairs P (o ∷ os) h = every_put_pair P o (pairs_of os) h.0 (every_pairs P os h.1)
 
-every_drop : (P : Owned → Type 0) (n : ℕ) (os : List Owned) → Every P os → Every P (drop n os)
+pub every_drop : (P : Owned → Type 0) (n : ℕ) (os : List Owned) → Every P os → Every P (drop n os)
 every_drop P zero os h = h
 every_drop P (suc n) [] h = tt
 every_drop P (suc n) (o ∷ os) h = every_drop P n os h.1
@@ -134,11 +134,11 @@ below_owned len [] h p i = absurd i
 below_owned len (o ∷ os) h p (inl e) = subst (λ (b : ℕ). b < len) e h.0.inside
 below_owned len (o ∷ os) h p (inr i) = below_owned len os h.1 p i
 
-if_in : (b : Bool) (p : ℕ) (xs : List ℕ) → In p (if b then xs else []) → In p xs
+pub if_in : (b : Bool) (p : ℕ) (xs : List ℕ) → In p (if b then xs else []) → In p xs
 if_in true p xs i = i
 if_in false p xs i = absurd i
 
-in_new_blocks : {R : Type 0} (bs : List ℕ) (r : Reading R) → blocks_of (in_blocks bs r) ≡ bs
+pub in_new_blocks : {R : Type 0} (bs : List ℕ) (r : Reading R) → blocks_of (in_blocks bs r) ≡ bs
 in_new_blocks bs (Readable recs old) = refl
 in_new_blocks bs (Unreadable block fault old) = refl
 

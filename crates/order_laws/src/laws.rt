@@ -1,5 +1,5 @@
 ghost use Rattle.order_laws.specs.Ordered.{BadIsSick, BlocksAreOnce, ChunksAreInodes, ClaimsLieInside, CountersAreWords, GroupIsInOrder, LimboIsPlain, OpenedIsInOrder, OpenedIsKept, OrderHasOwners, OwnersAreInOrder, OwnersAreTuples, OwnersHaveNext, SwitchCanBeMade};
-ghost use Rattle.order_laws.specs.Repairs.{ImagesFollow, ImagesHaveFacts, OpenedIsKeptWell, RepairKeepsChunks};
+ghost use Rattle.order_laws.specs.Repairs.{ImagesFollow, ImagesHaveFacts, OpenedIsKeptWell, RepairKeepsChunks, RepairKeepsMemory};
 
 use claim_laws::good_forks;
 use fs_state::opening_law;
@@ -43,10 +43,11 @@ pub fn owners_in_order()
     good_forks();
 }
 
-/// A law: an entry of a repair that leads from one image to another, where their groups are kept as they should be, leaves all
-/// chunks, has the facts that letters ask for, and so keeps what is known of units as their table has it
+/// A law: an entry of a repair that leads from one image to another keeps what is in memory in order, leaves all chunks, has
+/// the facts that letters ask for, and so keeps what is known of units as their table has it
 /// (XFS Online Fsck Design, "Eventual Consistency").
 pub fn images_follow()
+    ensures memory { RepairKeepsMemory }
     ensures chunks { RepairKeepsChunks }
     ensures facts { ImagesHaveFacts }
     ensures letters { ImagesFollow }

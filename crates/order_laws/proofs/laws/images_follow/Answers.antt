@@ -1,3 +1,4 @@
+use Rattle.order_laws.proofs.Memory.{repair_keeps_memory}
 use Rattle.order_laws.proofs.Repairs.{images_follow, images_have_facts, repair_keeps_chunks}
 use Rattle.order_laws.proofs.laws.images_follow.Goals as goal
 
@@ -9,3 +10,6 @@ returns-clause-facts c = images_have_facts c.good_forks.ensures
 
 pub returns-clause-letters : goal.returns-clause-letters
 returns-clause-letters c = images_follow c.good_forks.ensures
+
+pub returns-clause-memory : goal.returns-clause-memory
+returns-clause-memory c = repair_keeps_memory
