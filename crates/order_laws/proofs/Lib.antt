@@ -1,0 +1,13 @@
+pub mod Blocks
+pub mod Claims
+pub mod Entries
+pub mod Lists
+pub mod Memory
+pub mod Offsets
+pub mod Readings
+pub mod Repairs
+pub mod Switching
+pub mod Tidy
+pub mod Tuples
+pub mod Turned
+pub mod Whole
