@@ -1,4 +1,5 @@
-ghost use Rattle.std.specs.Prelude.{◌≡◌, if◌then◌else◌};
+ghost use Rattle.std.specs.Prelude.{◌≡◌, ℕ, None, IfSome, true, if◌then◌else◌};
+ghost use Rattle.blk_device.specs.Window.{block_in};
 
 use crate::counted::answer;
 use crate::device::{Device, DeviceFailed, Region};
@@ -142,7 +143,9 @@ fn read_image<F: Read + Seek + Drop>(
     at: u64,
     end: u64,
     into: &mut Block,
-) -> bool {
+) -> bool
+    ensures held { IfSome (block_in image.old.window at) (λ bytes. (result ≡ true) × (into.new.bytes ≡ bytes)) }
+{
     let is_next = image.next == Some(at);
     image.next = at.checked_add(1);
     if image.window.get(at, into) {
@@ -155,7 +158,9 @@ fn read_image<F: Read + Seek + Drop>(
 }
 
 // Writes a block of the image. Whatever the answer, the window may no longer be what the file holds.
-fn write_image<F: Write + Seek + Drop>(image: &mut ImageFile<F>, at: u64, from: &Block) -> bool {
+fn write_image<F: Write + Seek + Drop>(image: &mut ImageFile<F>, at: u64, from: &Block) -> bool
+    ensures { (b : ℕ) → block_in image.new.window b ≡ None }
+{
     image.window.empty();
     write_block(&mut image.placed, at, from)
 }
@@ -185,7 +190,7 @@ fn sync_redo<F: OpenFile + Drop>(redo: &RedoPlace<F>) -> bool {
 }
 
 impl<F: Read + Write + Seek + OpenFile + Drop> Device for FileDevice<F> {
-    ghost use Rattle.std.specs.Prelude.{None, ⊤};
+    ghost use Rattle.std.specs.Prelude.{⊤};
     ghost use Rattle.blk_device.specs.Contents.{same_region};
     ghost use Rattle.blk_device.specs.declared.device.Region.TheVariants.{Image};
 
