@@ -71,6 +71,7 @@ impl Window {
         ensures held { IfSome result (λ next. HoldsUpTo at next self.new) }
         ensures stands { IfSome result (λ next. IfSome (F.remaining file.old) (λ left. F.remaining file.new ≡ Some (drop ((next - at) * 4096) left))) }
         ensures most { IfSome result (λ next. (at ≤ next) × (next ≤ at + most)) }
+        ensures behind { (b : ℕ) → at + most ≤ b → block_in self.new b ≡ None }
         ensures room { room_of self.new ≡ room_of self.old }
     {
         self.held = 0;
