@@ -3,3 +3,4 @@ pub mod RecordLemmas
 pub mod ReplayLemmas
 pub mod TakenLemmas
 pub mod Told
+pub mod WindowLemmas

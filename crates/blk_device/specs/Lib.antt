@@ -13,3 +13,4 @@ pub mod Sources
 pub mod Stored
 pub mod Taken
 pub mod Tally
+pub mod Window

@@ -1,8 +1,10 @@
-ghost use Rattle.std.specs.Prelude.{◌≡◌, if◌then◌else◌};
+ghost use Rattle.std.specs.Prelude.{◌≡◌, ℕ, None, IfSome, true, if◌then◌else◌};
+ghost use Rattle.blk_device.specs.Window.{block_in};
 
 use crate::counted::answer;
 use crate::device::{Device, DeviceFailed, Region};
 use crate::tally::block_or_zeros;
+use crate::window::Window;
 use byte_fields::Block;
 use std::alloc::Global;
 use std::collections::BTreeMap;
@@ -14,6 +16,15 @@ use std::io::{Read, Seek, SeekFrom, Write};
 struct Placed<F: Drop> {
     file: F,
     place: Option<u64>,
+}
+
+// The image's file, with the blocks that were read of it at once, and the block behind the one that
+// was last asked for.
+#[derive(Drop)]
+struct ImageFile<F: Drop> {
+    placed: Placed<F>,
+    window: Window,
+    next: Option<u64>,
 }
 
 // Where the redo region lies: in a file, or in memory, where no file keeps it.
@@ -28,7 +39,7 @@ enum RedoPlace<F: Drop> {
 /// proof.
 #[derive(Drop)]
 pub struct FileDevice<F: Read + Write + Seek + OpenFile + Drop> {
-    image: Placed<F>,
+    image: ImageFile<F>,
     redo: RedoPlace<F>,
     image_blocks: u64,
     redo_blocks: u64,
@@ -59,8 +70,13 @@ impl<F: Read + Write + Seek + OpenFile + Drop> FileDevice<F> {
             Some(file) => RedoPlace::Kept(unplaced(file)),
             None => RedoPlace::Unkept(BTreeMap::new(alloc)),
         };
+        let image = ImageFile {
+            placed: unplaced(image),
+            window: Window::new(alloc),
+            next: None,
+        };
         FileDevice {
-            image: unplaced(image),
+            image,
             redo,
             image_blocks,
             redo_blocks,
@@ -110,6 +126,45 @@ fn write_block<F: Write + Seek + Drop>(file: &mut Placed<F>, at: u64, from: &Blo
     is_written
 }
 
+// Reads blocks of the image into its window, from this one on up to the end.
+fn read_ahead<F: Read + Seek + Drop>(image: &mut ImageFile<F>, at: u64, end: u64) {
+    if image.window.has_room() && seek_to(&mut image.placed, at) {
+        let most = end.saturating_sub(at);
+        let stands = image.window.fill(&mut image.placed.file, at, most);
+        image.placed.place = stands.and_then(place_of);
+    }
+}
+
+// Reads a block of the image, out of the window if it is there. Blocks that are asked for in their
+// order are read at once; where that fails, this one is read alone, since what ails a block behind
+// it is no fault of this one.
+fn read_image<F: Read + Seek + Drop>(
+    image: &mut ImageFile<F>,
+    at: u64,
+    end: u64,
+    into: &mut Block,
+) -> bool
+    ensures held { IfSome (block_in image.old.window at) (λ bytes. (result ≡ true) × (into.new.bytes ≡ bytes)) }
+{
+    let is_next = image.next == Some(at);
+    image.next = at.checked_add(1);
+    if image.window.get(at, into) {
+        return true;
+    }
+    if is_next {
+        read_ahead(image, at, end);
+    }
+    image.window.get(at, into) || read_block(&mut image.placed, at, into)
+}
+
+// Writes a block of the image. Whatever the answer, the window may no longer be what the file holds.
+fn write_image<F: Write + Seek + Drop>(image: &mut ImageFile<F>, at: u64, from: &Block) -> bool
+    ensures { (b : ℕ) → block_in image.new.window b ≡ None }
+{
+    image.window.empty();
+    write_block(&mut image.placed, at, from)
+}
+
 fn read_redo<F: Read + Seek + Drop>(redo: &mut RedoPlace<F>, at: u64, into: &mut Block) -> bool {
     match redo {
         RedoPlace::Kept(file) => read_block(file, at, into),
@@ -135,7 +190,7 @@ fn sync_redo<F: OpenFile + Drop>(redo: &RedoPlace<F>) -> bool {
 }
 
 impl<F: Read + Write + Seek + OpenFile + Drop> Device for FileDevice<F> {
-    ghost use Rattle.std.specs.Prelude.{None, ⊤};
+    ghost use Rattle.std.specs.Prelude.{⊤};
     ghost use Rattle.blk_device.specs.Contents.{same_region};
     ghost use Rattle.blk_device.specs.declared.device.Region.TheVariants.{Image};
 
@@ -175,7 +230,7 @@ impl<F: Read + Write + Seek + OpenFile + Drop> Device for FileDevice<F> {
     fn read(&mut self, region: Region, at: u64, into: &mut Block) -> Result<(), DeviceFailed> {
         self.reads = self.reads.saturating_add(1);
         let is_read = match region {
-            Region::Image => read_block(&mut self.image, at, into),
+            Region::Image => read_image(&mut self.image, at, self.image_blocks, into),
             Region::Redo => read_redo(&mut self.redo, at, into),
         };
         answer(is_read, &mut self.faults)
@@ -183,7 +238,7 @@ impl<F: Read + Write + Seek + OpenFile + Drop> Device for FileDevice<F> {
 
     fn write(&mut self, region: Region, at: u64, from: &Block) -> Result<(), DeviceFailed> {
         let is_written = match region {
-            Region::Image => write_block(&mut self.image, at, from),
+            Region::Image => write_image(&mut self.image, at, from),
             Region::Redo => write_redo(&mut self.redo, at, from),
         };
         answer(is_written, &mut self.faults)
@@ -191,7 +246,7 @@ impl<F: Read + Write + Seek + OpenFile + Drop> Device for FileDevice<F> {
 
     fn sync(&mut self, region: Region) -> Result<(), DeviceFailed> {
         let is_synced = match region {
-            Region::Image => self.image.file.sync_all().is_ok(),
+            Region::Image => self.image.placed.file.sync_all().is_ok(),
             Region::Redo => sync_redo(&self.redo),
         };
         answer(is_synced, &mut self.faults)

@@ -12,6 +12,7 @@ mod sink;
 mod source;
 mod tally;
 mod unsynced;
+mod window;
 
 pub use device::{Device, DeviceFailed, Region};
 pub use file::FileDevice;
