@@ -21,8 +21,8 @@ abbrev pub ToldUnclaimed : Type 0
 ToldUnclaimed = (a x : State) (left : List Kind) (g b : ℕ) → Row a left (entries.Reserved g units.Free b true) x
     → AreTold a g → has_claim (metadata_claims a g) b ≡ false
 
--- Were the reverse mappings of a group judged? Since opening a verdict or a switch made their tree good, or a fault of it was
--- met. No rebuild of free space begins before.
+-- Were the reverse mappings of a group judged since opening? A verdict or a switch made their tree good, or a fault of it was
+-- met. Free space, which is read off them, is judged only behind that.
 abbrev pub WereJudged : State → ℕ → Type 0
 WereJudged a g = ((a.group g).tree Rmap).trust ≡ Unknown → ⊥
 

@@ -5,8 +5,8 @@ use order_laws::images_follow;
 use spare_laws::spare_stays_told;
 
 /// A law: a spare block of a rebuild of free space, which no reverse mapping covers, is claimed by no metadata, where these
-/// tell settled owners, or where it is known that they hold what they should and they were judged, as they stay
-/// (XFS Online Fsck Design, "Reserving New B+Tree Blocks").
+/// tell settled owners, or where it is known that they hold what they should and they were judged; those that were judged
+/// stay so behind an entry of a repair (XFS Online Fsck Design, "Reserving New B+Tree Blocks").
 pub fn spare_unclaimed()
     ensures told { ToldUnclaimed }
     ensures known { KnownUnclaimed }
@@ -15,9 +15,9 @@ pub fn spare_unclaimed()
     spare_stays_told();
 }
 
-/// A law: an entry of a repair from one image to another does what order_laws says of it, where so much is said of the
-/// mappings of such a block; where they are known nothing is asked, and so what is known of units follows from that alone
-/// (XFS Online Fsck Design, "Eventual Consistency").
+/// A law: an entry of a repair from one image to another does what order_laws says of it, where the mappings of such a block's
+/// group tell settled owners or are known; what is known of units follows with nothing asked of the block where letters know
+/// the mappings (XFS Online Fsck Design, "Eventual Consistency").
 pub fn given_follow()
     ensures memory { GivenKeepsMemory }
     ensures chunks { GivenKeepsChunks }

@@ -1,4 +1,4 @@
-//! A spare block of a rebuild of free space is claimed by no metadata, and entries of a repair that need no more to be said.
+//! No metadata claims a spare block of a rebuild of free space; and what entries of a repair keep where no more is said of it.
 #![tactic(auto)]
 
 mod laws;
