@@ -1,0 +1,4 @@
+pub mod Covered
+pub mod Judged
+pub mod Repairs
+pub mod Unclaimed

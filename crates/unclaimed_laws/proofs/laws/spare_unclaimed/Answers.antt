@@ -1,0 +1,12 @@
+use Rattle.unclaimed_laws.proofs.Judged.{judged_stay}
+use Rattle.unclaimed_laws.proofs.Unclaimed.{known_unclaimed, told_unclaimed}
+use Rattle.unclaimed_laws.proofs.laws.spare_unclaimed.Goals as goal
+
+pub returns-clause-told : goal.returns-clause-told
+returns-clause-told c = told_unclaimed c.spare_stays_told.ensures.nobodys
+
+pub returns-clause-known : goal.returns-clause-known
+returns-clause-known c = known_unclaimed
+
+pub returns-clause-judged : goal.returns-clause-judged
+returns-clause-judged c = judged_stay
