@@ -150,8 +150,8 @@ module _ (a b : State) (left : List Kind) (e : Entry) (writer : is_of_repair e �
   abbrev behind : Group
   behind = b.group (group_of_entry a e)
 
-  same : IsListed before (with_list e before)
-  same = listed_same e before
+  but_list : IsListed before (with_list e before)
+  but_list = listed_same e before
 
   stays : Stays (with_list e before) decided
   stays = row_stays a s.decided left e writer s.row
@@ -160,7 +160,7 @@ module _ (a b : State) (left : List Kind) (e : Entry) (writer : is_of_repair e �
   follows = inside_follows a.geometry.inobtcount left (edited_in a left e) decided behind s.loosely.inside
 
   limbo_was : decided.limbo ≡ before.limbo
-  limbo_was = stays.parts.limbo ∙ same.limbo
+  limbo_was = stays.parts.limbo ∙ but_list.limbo
 
   -- where a pair of limbo comes from
   came : (o : Owned) → Among o behind.limbo → Among o before.limbo ⊎ OwnedBy (edited_in a left e) o
@@ -171,10 +171,10 @@ module _ (a b : State) (left : List Kind) (e : Entry) (writer : is_of_repair e �
 
   step_leaves : Leaves (run_of e) before behind
   step_leaves = record {
-    readable = λ k. follows.readable k ∙ stays.readable k ∙ ap (λ (i : Index (RecOf k)). is_readable i.reading) (same.tree k);
-    trust = λ k. follows.trust k ∙ stays.trust k ∙ ap (λ (i : Index (RecOf k)). i.trust) (same.tree k);
-    claims = λ k sick. follows.others k (not_edited (is_edited left before) (edited_kinds a e) k (sick_left left before k sick)) ∙ stays.parts.blocks k ∙ ap (λ (i : Index (RecOf k)). blocks_of i.reading) (same.tree k);
-    reserve = follows.reserve ∙ stays.parts.reserve ∙ same.reserve;
+    readable = λ k. follows.readable k ∙ stays.readable k ∙ ap (λ (i : Index (RecOf k)). is_readable i.reading) (but_list.tree k);
+    trust = λ k. follows.trust k ∙ stays.trust k ∙ ap (λ (i : Index (RecOf k)). i.trust) (but_list.tree k);
+    claims = λ k sick. follows.others k (not_edited (is_edited left before) (edited_kinds a e) k (sick_left left before k sick)) ∙ stays.parts.blocks k ∙ ap (λ (i : Index (RecOf k)). blocks_of i.reading) (but_list.tree k);
+    reserve = follows.reserve ∙ stays.parts.reserve ∙ but_list.reserve;
     limbo = λ o there. elim (came o there) [ inl old ↦ inl old | inr by ↦ inr (by_tree_owner (edited_in a left e) o by) ];
     pool = λ c. (let now = follows.pool c in let parts = pool_same (with_list e before) decided stays.parts c in let list = listed_pool e before c in omega (arith, now, parts, list));
     new = λ o there some. elim (came o there) [ inl old ↦ absurd (never_waits a e fresh o old some) | inr by ↦ gets_own a left e o by some ];

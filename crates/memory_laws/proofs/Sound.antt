@@ -1,27 +1,37 @@
--- A run of sound blocks that fills the list has none that waits in limbo.
-use Rattle.std.proofs.Common.{◌≡◌, ℕ, ◌+◌, ◌≤◌, ◌==◌, ◌||◌, Bool, true, false, not, List, [], ◌∷◌, ◌++◌, reverse, Option, Some, None, is_some, refl, ap, ◌∙◌, inl, inr, arith}
-use Rattle.std.specs.Prelude.{nat_le, if◌then◌else◌}
+-- A run that fills the list has no block that waits in limbo, where its blocks are sound, and where mappings cover metadata.
+use Rattle.std.proofs.Common.{◌≡◌, ℕ, ◌+◌, ◌<◌, ◌≤◌, ◌==◌, ◌&&◌, ◌||◌, Bool, true, false, not, List, [], ◌∷◌, ◌++◌, reverse, Option, Some, None, is_some, refl, ap, sym, ◌∙◌, inl, inr, arith}
+use Rattle.std.specs.Prelude.{nat_le, nat_lt, if◌then◌else◌}
 use Rattle.std.specs.List.{list_any}
-use Rattle.std.proofs.lemmas.Bool.{cases_lt, false≢true, not-true, true≢false}
+use Rattle.std.proofs.lemmas.Bool.{cases_lt, false≢true, not-true, or_cases, or_left, or_right, true≢false}
 use Rattle.std.proofs.lemmas.Bool.Decides.{nat_tests}
 use Rattle.std.proofs.lemmas.List.Sums.{sum_by-cons}
 use Rattle.account_laws.specs.Accounts.{in_span, owned_at, spans_at}
 use Rattle.fs_change.specs.Changes.{is_in_extent}
+use Rattle.fs_change.specs.Choice.{is_guarded}
 use Rattle.fs_change.specs.Loose.{owners_in, pool_of}
 use Rattle.fs_change.specs.Parts.{records_in, sick_in}
 use Rattle.fs_change.specs.Records.{end_of, holder_of, last_at, only_where, span}
+use Rattle.fs_change.specs.Step.{Step}
 use Rattle.fs_derive.specs.Claims.{Claimed, claims, fork_claims, metadata_claims}
-use Rattle.fs_state.specs.State.{Group, Owned, State, blocks_in}
+use Rattle.fs_model.specs.declared.entry.Entry.TheVariants as entries
+use Rattle.fs_model.specs.declared.entry.Extent.{Extent}
+use Rattle.fs_state.specs.Apart.{Has, InOwned, LimboOf, is_covered, is_free}
+use Rattle.fs_state.specs.Read.{group_of, state_of}
+use Rattle.fs_state.specs.State.{Owned, State, blocks_in}
+use Rattle.geom.specs.Layout.{device_block_of, group_len_of}
 use Rattle.move_laws.proofs.Claiming.{metadata_is, owned_plain, owned_times}
 use Rattle.move_laws.proofs.Edits.{well_edited}
 use Rattle.move_laws.proofs.Pairs.{Among, block_in, blocks_are}
+use Rattle.order_laws.proofs.Lists.{times_in}
 use Rattle.repair_laws.proofs.Totals.{owned_by, weigh, weigh_both}
+use Rattle.rmap_recs.specs.declared.records.RmapRec.{RmapRec}
 use Rattle.run_laws.specs.Found.{RefilledFound}
 use Rattle.sblock.specs.Lists.{Each}
+use Rattle.sblock.specs.declared.kind.Kind.{Kind}
 use Rattle.sblock.specs.declared.kind.Kind.TheVariants.{Bno, Cnt, Rmap}
 use Rattle.span_recs.specs.declared.span.SpanRec.{SpanRec}
 use Rattle.tree_defs.specs.Lists.{times}
-use Rattle.memory_laws.specs.Memory.{SoundRefillIsNew}
+use Rattle.memory_laws.specs.Memory.{CoveredRefillIsNew, SoundRefillIsNew}
 use Rattle.memory_laws.proofs.Memory.{pool_times}
 use Rattle.memory_laws.proofs.Runs.{each_reversed, found_each}
 
@@ -85,19 +95,58 @@ any_none test (o ∷ os) h = (elim (test o) as (λ t. test o ≡ t → (t || lis
   | false ↦ λ e. any_none test os (λ p there. h p (inr there))
 ]) refl
 
-pub sound_refill_is_new : RefilledFound → SoundRefillIsNew
-sound_refill_is_new found a b left e s sound =
-    let p : Group = a.group e.group in
-    let sick : sick_in p Bno ≡ false = first (sick_in p Bno) (list_any (sick_in p) (Cnt ∷ Rmap ∷ [])) (not-true (list_any (sick_in p) (Bno ∷ Cnt ∷ Rmap ∷ [])) s.row.0.sound) in
-    let holds = found a s.decided left e (record { row = s.row; leaves = s.leaves; met = s.met }) (well_edited [] p Bno sick refl) in
-    any_none (λ o. is_in_extent e o.block) p.limbo (λ o there within.
-    let l = sound o.block within in
-    let listed = holder_has o.block (records_in p Bno) (span e.block e.count) holds within in
-    let nobody = (l.loose (omega (arith, listed))).0 in
-    let claimed = limbo_claimed a e.group o.block in
-    let waits = block_in o p.limbo there in
-    omega (arith, nobody, claimed, waits))
+-- an index that isn't sick is edited, so free space lists the whole run
+listed : RefilledFound → (a b : State) (left : List Kind) (e : Extent) → Step a left (entries.Refilled e) b → (p : ℕ) → is_in_extent e p ≡ true → 1 ≤ spans_at (records_in (a.group e.group) Bno) p
+listed found a b left e s p within =
+    let sick : sick_in (a.group e.group) Bno ≡ false = first (sick_in (a.group e.group) Bno) (list_any (sick_in (a.group e.group)) (Cnt ∷ Rmap ∷ [])) (not-true (list_any (sick_in (a.group e.group)) (Bno ∷ Cnt ∷ Rmap ∷ [])) s.row.0.sound) in
+    holder_has p (records_in (a.group e.group) Bno) (span e.block e.count) (found a s.decided left e (record { row = s.row; leaves = s.leaves; met = s.met }) (well_edited [] (a.group e.group) Bno sick refl)) within
   where
     first : (x y : Bool) → (x || y) ≡ false → x ≡ false
     first true y i = absurd (true≢false i)
     first false y i = refl
+
+pub sound_refill_is_new : RefilledFound → SoundRefillIsNew
+sound_refill_is_new found a b left e s sound = any_none (λ o. is_in_extent e o.block) (a.group e.group).limbo (λ o there within.
+    let spans = listed found a b left e s o.block within in
+    let nobody = ((sound o.block within).loose (omega (arith, spans))).0 in
+    let claimed = limbo_claimed a e.group o.block in
+    let waits = block_in o (a.group e.group).limbo there in
+    omega (arith, nobody, claimed, waits))
+
+-- ---- nor where metadata that free space lists has reverse mappings
+
+free_by : (rs : List SpanRec) (b : ℕ) → 1 ≤ spans_at rs b → is_free rs b ≡ true
+unfolding is_free
+free_by [] b h = absurd (omega (arith, h))
+free_by (r ∷ rs) b h = (elim (in_span r.start r.count b) as (λ t. 1 ≤ (if t then 1 else 0) + spans_at rs b → (t || is_free rs b) ≡ true) [ true ↦ λ i. refl | false ↦ λ i. free_by rs b (omega (arith, i)) ]) h
+
+-- a mapping that covers a block of the run meets the run
+meets : (start count b n p : ℕ) → (nat_le b p && nat_lt p (b + n)) ≡ true → (nat_le start p && nat_lt p (start + count)) ≡ true → (nat_lt 0 count && (nat_lt start (b + n) && nat_lt b (start + count))) ≡ true
+meets start count b n p within covers = grind (arith, nat_tests)
+
+guarded_by : (recs : List RmapRec) (b n p : ℕ) → (nat_le b p && nat_lt p (b + n)) ≡ true → is_covered recs p ≡ true → is_guarded recs b n ≡ true
+unfolding is_covered is_guarded
+guarded_by recs b n p within covered = weaker recs covered
+  where
+    weaker : (rs : List RmapRec) → list_any (λ r. nat_le r.start p && nat_lt p (r.start + r.count)) rs ≡ true → list_any (λ r. nat_lt 0 r.count && (nat_lt r.start (b + n) && nat_lt b (r.start + r.count))) rs ≡ true
+    weaker [] h = absurd (false≢true h)
+    weaker (r ∷ rs) h = elim (or_cases (nat_le r.start p && nat_lt p (r.start + r.count)) (list_any (λ r. nat_le r.start p && nat_lt p (r.start + r.count)) rs) h) [
+      | inl here ↦ or_left (nat_lt 0 r.count && (nat_lt r.start (b + n) && nat_lt b (r.start + r.count))) (list_any (λ r. nat_lt 0 r.count && (nat_lt r.start (b + n) && nat_lt b (r.start + r.count))) rs) (meets r.start r.count b n p within here)
+      | inr later ↦ or_right (nat_lt 0 r.count && (nat_lt r.start (b + n) && nat_lt b (r.start + r.count))) (list_any (λ r. nat_lt 0 r.count && (nat_lt r.start (b + n) && nat_lt b (r.start + r.count))) rs) (weaker rs later)
+    ]
+
+among_owned : (o : Owned) (os : List Owned) → Among o os → InOwned o.block os
+among_owned o [] i = absurd i
+among_owned o (p ∷ ps) (inl e) = inl (ap (λ (q : Owned). q.block) e)
+among_owned o (p ∷ ps) (inr i) = inr (among_owned o ps i)
+
+pub covered_refill_is_new : RefilledFound → CoveredRefillIsNew
+unfolding group_of
+covered_refill_is_new found at image kept b left e well covered s =
+    let a : State = state_of at image kept in
+    any_none (λ o. is_in_extent e o.block) (a.group e.group).limbo (λ o there within.
+    let free = free_by (records_in (a.group e.group) Bno) o.block (listed found a b left e s o.block within) in
+    let below : o.block < group_len_of at e.group = well.order.limbo_inside o.block (times_in o.block (blocks_in (a.group e.group).limbo) (block_in o (a.group e.group).limbo there)) in
+    let has : Has a (LimboOf e.group) (device_block_of at e.group o.block) = record { inside = well.group; block = o.block; holds = among_owned o (a.group e.group).limbo there; place = refl } in
+    let mapped = covered.listed e.group o.block well.group below free (LimboOf e.group) has in
+    true≢false (sym (guarded_by (records_in (a.group e.group) Rmap) e.block e.count o.block within mapped) ∙ s.row.0.unowned))

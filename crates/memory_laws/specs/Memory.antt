@@ -8,6 +8,7 @@ use Rattle.fs_change.specs.Step.{Step}
 use Rattle.fs_model.specs.declared.entry.Entry.{Entry}
 use Rattle.fs_model.specs.declared.entry.Entry.TheVariants as entries
 use Rattle.fs_model.specs.declared.entry.Extent.{Extent}
+use Rattle.fs_state.specs.Apart.{Covered}
 use Rattle.fs_state.specs.Frame.{Firm}
 use Rattle.fs_state.specs.Kinds.{Image}
 use Rattle.fs_state.specs.Read.{state_of}
@@ -28,6 +29,12 @@ RefillIsNew a e = Unit {0}
 abbrev pub SoundRefillIsNew : Type 0
 SoundRefillIsNew = (a b : State) (left : List Kind) (e : Extent) → Step a left (entries.Refilled e) b
     → ((p : ℕ) → is_in_extent e p ≡ true → Sound (ledger_at a e.group p)) → RefillIsNew a (entries.Refilled e)
+
+-- So it is too in damaged groups, where each block of metadata that free space lists has a reverse mapping: the run has none.
+abbrev pub CoveredRefillIsNew : Type 0
+CoveredRefillIsNew = (at : Layout) (image : Image) (kept : Kept) (b : State) (left : List Kind) (e : Extent)
+    → IsKeptWell at image kept e.group → Covered (state_of at image kept)
+    → Step (state_of at image kept) left (entries.Refilled e) b → RefillIsNew (state_of at image kept) (entries.Refilled e)
 
 -- Then each entry of a writer keeps what is in memory of a group in order by itself, whatever the image behind it holds: no
 -- block of metadata has a second claim before it, and the free list is accepted.

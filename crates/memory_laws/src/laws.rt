@@ -1,4 +1,4 @@
-ghost use Rattle.memory_laws.specs.Memory.{EntryKeepsMemory, MemoryAtEveryMoment, SoundRefillIsNew, WriterKeepsMemory, WriterKeepsOrder};
+ghost use Rattle.memory_laws.specs.Memory.{CoveredRefillIsNew, EntryKeepsMemory, MemoryAtEveryMoment, SoundRefillIsNew, WriterKeepsMemory, WriterKeepsOrder};
 
 use fs_state::limbo_is_a_set;
 use run_laws::records_found;
@@ -11,8 +11,16 @@ pub fn memory_follows()
     ensures writer { WriterKeepsMemory }
     ensures entry { EntryKeepsMemory }
     ensures moment { MemoryAtEveryMoment }
-    ensures refill { SoundRefillIsNew }
 {
     limbo_is_a_set();
+}
+
+/// A law: a run of free space that fills the free list has no block that waits in limbo, where its blocks are sound, and
+/// where each block of metadata that free space lists has a reverse mapping (XFS Algorithms and Data Structures, "AG Free
+/// List").
+pub fn refills_are_new()
+    ensures sound { SoundRefillIsNew }
+    ensures covered { CoveredRefillIsNew }
+{
     records_found();
 }

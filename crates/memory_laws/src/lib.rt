@@ -3,4 +3,4 @@
 
 mod laws;
 
-pub use laws::memory_follows;
+pub use laws::{memory_follows, refills_are_new};

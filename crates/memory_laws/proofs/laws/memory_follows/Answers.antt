@@ -1,5 +1,4 @@
 use Rattle.memory_laws.proofs.Memory.{entry_keeps_memory, memory_at_every_moment, writer_keeps_memory, writer_keeps_order}
-use Rattle.memory_laws.proofs.Sound.{sound_refill_is_new}
 use Rattle.memory_laws.proofs.laws.memory_follows.Goals as goal
 
 pub returns-clause-order : goal.returns-clause-order
@@ -13,6 +12,3 @@ returns-clause-entry c = entry_keeps_memory c.limbo_is_a_set.ensures
 
 pub returns-clause-moment : goal.returns-clause-moment
 returns-clause-moment c = memory_at_every_moment c.limbo_is_a_set.ensures
-
-pub returns-clause-refill : goal.returns-clause-refill
-returns-clause-refill c = sound_refill_is_new c.records_found.ensures.refilled
