@@ -3,17 +3,41 @@ use Rattle.std.proofs.Common.{◌≡◌, ℕ, zero, suc, ◌+◌, ◌*◌, ◌/�
 use Rattle.std.specs.Prelude.{flat_map, slice_index_or}
 use Rattle.std.proofs.lemmas.List.{append-nil}
 use Rattle.std.proofs.Math.Seq.{drop-cons}
+use Rattle.byte_fields.specs.FirstFailing.{Decodes}
+use Rattle.dinode_core.specs.Core.{core_fault, core_of}
+use Rattle.dinode_core.specs.declared.inode.Core3.{Core3}
 use Rattle.dinode_core.specs.declared.inode.CoreFault.{CoreFault}
 use Rattle.fs_derive.specs.Contradiction.{bad_core}
 use Rattle.fs_derive.specs.Lists.{numbers, first_of_all}
 use Rattle.fs_model.specs.declared.claim.Evidence.{Evidence}
 use Rattle.fs_model.specs.declared.claim.Evidence.TheVariants.{BadChunk}
-use Rattle.fs_state.specs.Inodes.{core_in, slot_in}
+use Rattle.fs_state.specs.Inodes.{core_in, slot_in, whole_or}
 use Rattle.fs_state.specs.Kinds.{Image}
 use Rattle.fs_state.specs.State.{CoreState, Broken, Whole}
 use Rattle.geom.specs.Layout.{Layout, device_block_of, inode_at}
 use Rattle.index_derive.specs.Inodes.{mode_of}
-use Rattle.inode_pass.specs.Cores.{block_looks, blocks_looks, broken_from, look_in, mode_seen}
+use Rattle.inode_pass.specs.Cores.{block_looks, blocks_looks, broken_from, core_or_fault, decoded, look_in, mode_in, mode_seen}
+
+-- ---- a core that was decoded
+
+one_answer : (fault : Option CoreFault) (core : Core3) (result : Result Core3 CoreFault) → Decodes fault (λ c. c ≡ core) result → result ≡ core_or_fault fault core
+one_answer fault core (Ok c) said = rw said.0 (ap Ok said.1)
+one_answer fault core (Err f) said = rw said refl
+
+pub decoded_so : (at : Layout) (ino : ℕ) (bytes own : List ℕ) (result : Result Core3 CoreFault) → own ≡ bytes → Decodes (core_fault own ino at.uuid) (λ c. c ≡ core_of own) result → result ≡ decoded at ino bytes
+unfolding decoded
+decoded_so at ino bytes own result same said =
+    one_answer (core_fault own ino at.uuid) (core_of own) result said
+    ∙ ap (λ (bs : List ℕ). core_or_fault (core_fault bs ino at.uuid) (core_of bs)) same
+
+mode_or : (fault : Option CoreFault) (core : Core3) → mode_in (core_or_fault fault core) ≡ look_in (whole_or fault core)
+mode_or (Some fault) core = refl
+mode_or None core = refl
+
+-- its mode is what a state says of it
+pub mode_said : (at : Layout) (ino : ℕ) (bytes : List ℕ) → mode_in (decoded at ino bytes) ≡ look_in (core_in at ino bytes)
+unfolding decoded core_in
+mode_said at ino bytes = mode_or (core_fault bytes ino at.uuid) (core_of bytes)
 
 -- ---- numbers in a row
 
@@ -46,14 +70,19 @@ put_more {A = A} old now new f n so made =
     ∙ ap (λ (xs : List A). old ++ xs) (sym (map_more f 0 n))
     ∙ ap (λ (k : ℕ). old ++ map f (numbers 0 k)) next
 
-spread_on : {A : Type 0} (now new : List A) (f : ℕ → List A) (n : ℕ) → now ≡ flat_map f (numbers 0 n) → new ≡ now ++ f n → new ≡ flat_map f (numbers 0 (n + 1))
-spread_on {A = A} now new f n so made =
-    let first : 0 + n ≡ n = omega arith in
+-- one more of a row of lists that are put down one by one
+pub spread_on : {A : Type 0} (old now new : List A) (f : ℕ → List A) (a n : ℕ) → now ≡ old ++ flat_map f (numbers a n) → new ≡ now ++ f (a + n) → new ≡ old ++ flat_map f (numbers a (n + 1))
+spread_on {A = A} old now new f a n so made =
     let next : suc n ≡ n + 1 = omega arith in
-    made ∙ ap (λ (xs : List A). xs ++ f n) so
-    ∙ ap (λ (k : ℕ). flat_map f (numbers 0 n) ++ f k) (sym first)
-    ∙ sym (spread_more f 0 n)
-    ∙ ap (λ (k : ℕ). flat_map f (numbers 0 k)) next
+    made ∙ ap (λ (xs : List A). xs ++ f (a + n)) so
+    ∙ append_assoc old (flat_map f (numbers a n)) (f (a + n))
+    ∙ ap (λ (xs : List A). old ++ xs) (sym (spread_more f a n))
+    ∙ ap (λ (k : ℕ). old ++ flat_map f (numbers a k)) next
+
+pub spread_first : {A : Type 0} (old now new : List A) (f : ℕ → List A) (n : ℕ) → now ≡ old ++ flat_map f (numbers 0 n) → new ≡ now ++ f n → new ≡ old ++ flat_map f (numbers 0 (n + 1))
+spread_first old now new f n so made =
+    let first : n ≡ 0 + n = omega arith in
+    spread_on old now new f 0 n so (made ∙ ap (λ (k : ℕ). now ++ f k) first)
 
 pub block_whole : (at : Layout) (bytes : List ℕ) (g b n : ℕ) (old now : List (Result ℕ CoreFault)) → n ≡ 8 → now ≡ old ++ map (λ s. look_in (core_in at (inode_at at g b s) (slot_in bytes s))) (numbers 0 n) → now ≡ old ++ block_looks at bytes g b
 unfolding block_looks
@@ -73,7 +102,7 @@ eight_more at bytes g b old new made =
 
 pub block_on : (at : Layout) (image : Image) (g b j : ℕ) (now new : List (Result ℕ CoreFault)) → now ≡ blocks_looks at image g b j → new ≡ now ++ block_looks at (image (device_block_of at g (b + j))) g (b + j) → new ≡ blocks_looks at image g b (j + 1)
 unfolding blocks_looks
-block_on at image g b j now new so made = spread_on now new (λ i. block_looks at (image (device_block_of at g (b + i))) g (b + i)) j so made
+block_on at image g b j now new so made = spread_first [] now new (λ i. block_looks at (image (device_block_of at g (b + i))) g (b + i)) j so made
 
 pub no_block : (at : Layout) (image : Image) (g b : ℕ) → [] ≡ blocks_looks at image g b 0
 unfolding blocks_looks

@@ -1,2 +1,3 @@
 pub mod CoreLemmas
+pub mod NoteLemmas
 pub mod UnitLemmas

@@ -106,7 +106,7 @@ run_within n [] i d lt h = absurd (omega (arith, lt))
 run_within n (r ∷ rs) zero d lt h = h.0
 run_within n (r ∷ rs) (suc i) d lt h = run_within n rs i d (omega (arith, lt)) h.1
 
-drop_all : (runs : List Run) (i : ℕ) → length runs ≤ i → drop i runs ≡ []
+pub drop_all : (runs : List Run) (i : ℕ) → length runs ≤ i → drop i runs ≡ []
 drop_all [] zero le = refl
 drop_all [] (suc i) le = refl
 drop_all (r ∷ rs) zero le = absurd (omega (arith, le))

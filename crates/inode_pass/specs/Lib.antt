@@ -1,3 +1,5 @@
 pub mod Cores
+pub mod Notes
+pub mod Noting
 pub mod Stops
 pub mod Units

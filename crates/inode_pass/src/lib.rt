@@ -3,11 +3,14 @@
 
 mod load;
 mod look;
+mod note;
+mod shown;
 mod stop;
 mod unit;
 mod units;
 
 pub use load::{load_block, read_block};
+pub use note::{ForkNote, GroupInodes};
 pub use stop::PassStop;
 pub use unit::UnitSeen;
 pub use units::see_units;
