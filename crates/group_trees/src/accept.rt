@@ -86,6 +86,7 @@ fn heads_in(alloc: Global, block: &Block, geo: &Geometry, g: u32) -> Result<Grou
     ensures passed { IfOk result (λ _. PassAll (layout geo.now) g block.now.bytes) }
     ensures list { IfOk result (λ heads. LieInside (group_len_of (layout geo.now) g) heads.list.items) }
     ensures refused { IfErr result (IsRefusal (layout geo.now) g block.now.bytes) }
+    ensures short { IfErr result (λ stop. stop ≡ HeadsStop.Memory → PassAll (layout geo.now) g block.now.bytes) }
     ensures own { IfErr result (λ stop. is_failed stop ≡ false) }
 {
     let agf = decode_agf(block, geo, g).map_err(|fault| refused(Head::Agf, fault))?;
@@ -95,7 +96,7 @@ fn heads_in(alloc: Global, block: &Block, geo: &Geometry, g: u32) -> Result<Grou
 }
 
 /// Reads block 0 of group `g` and answers its three heads, where all of them pass their tests; else
-/// the first that is refused, in the order AGF, AGI, AGFL
+/// the first that is refused, in the order AGF, AGI, AGFL. Want of memory is told of heads that pass
 /// (XFS Algorithms and Data Structures, "Allocation Groups").
 pub fn read_heads<D: Device, L: Ledger>(
     alloc: Global,
@@ -110,6 +111,7 @@ pub fn read_heads<D: Device, L: Ledger>(
     ensures passed { IfOk result (λ _. (c : Contents) → D.content dev.old ≡ Some c → PassIn (layout geo.now) (c Image) g) }
     ensures list { IfOk result (λ heads. LieInside (group_len_of (layout geo.now) g) heads.list.items) }
     ensures refused { IfErr result (λ stop. (c : Contents) → D.content dev.old ≡ Some c → IsRefusedIn (layout geo.now) (c Image) g stop) }
+    ensures short { IfErr result (λ stop. (c : Contents) → D.content dev.old ≡ Some c → stop ≡ HeadsStop.Memory → PassIn (layout geo.now) (c Image) g) }
     ensures reading { OnlyRead D.Device dev.old dev.new steps.old steps.new }
     ensures cause { HasCause is_failed (D.faults dev.old) (D.faults dev.new) result }
     ensures one { steps.new.reads ≡ steps.old.reads + 1 }
