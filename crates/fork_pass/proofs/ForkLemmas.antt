@@ -362,7 +362,7 @@ free_slot at image ino bytes sets free = record {
   put = λ _. adds_same sets sets (λ g. []) (pieces_for at ino (λ f. read_fork (slot_fork at image bytes f))) (λ g. sym (λ i. pieces_for at ino (λ f. read_fork (free_fork at image bytes f free i)) g)) (adds_none sets);
 }
 
-core_number : (ino : ℕ) (bytes uuid : List ℕ) → core_fault bytes ino uuid ≡ None → (core_of bytes).ino ≡ ino
+pub core_number : (ino : ℕ) (bytes uuid : List ℕ) → core_fault bytes ino uuid ≡ None → (core_of bytes).ino ≡ ino
 unfolding core_fault core_of
 core_number ino bytes uuid whole = eqb-true (field 8 bytes 152) ino (all_pass (core_tests bytes ino uuid) whole).1.1.0
 
