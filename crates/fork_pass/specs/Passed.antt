@@ -115,8 +115,8 @@ abbrev pub HasSets : ℕ → ForksSeen → Type 0
 HasSets n (Claims sets) = length sets.items ≡ n
 HasSets n (GaveUp evidence) = ⊤
 
--- the answer is of the state that the image stands for right after it was opened, where the units that were kept are its
--- chunks, and the notes those of its cores
+-- the answer is of the state that the image stands for right after it was opened, where the units that were kept are
+-- its chunks, and the notes those of its cores
 abbrev pub IsPass : Layout → List GroupInodes → Image → ForksSeen → Type 0
 IsPass at inodes image seen = AreChunks (opened_state at image) inodes → AreNotes at image inodes → AreForksOf (opened_state at image) seen
 

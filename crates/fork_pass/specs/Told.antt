@@ -17,7 +17,7 @@ use Rattle.inode_pass.specs.declared.note.ForkNote.{ForkNote}
 use Rattle.inode_pass.specs.declared.note.GroupInodes.{GroupInodes}
 use Rattle.inode_pass.specs.declared.stop.PassStop.{PassStop}
 use Rattle.unit_plan.specs.declared.claims.ClaimSet.{ClaimSet}
-use Rattle.fork_pass.specs.Counted.{pieces_most}
+use Rattle.fork_pass.specs.Counted.{forks_most, notes_most, pieces_most}
 use Rattle.fork_pass.specs.Passed.{AreChunks, AreNotes, InodesPassed, IsInChunk, NotesPassed, group_inodes, inodes_from, notes_at, units_at}
 use Rattle.fork_pass.specs.Read.{Come, HasTaken, IsForkRead, IsSlotRead, slot_fork}
 use Rattle.fork_pass.specs.declared.fork.ForkRead.{ForkRead}
@@ -73,3 +73,10 @@ PassesGroups at told inodes old result new = IfOk result (λ found. (c : Content
 -- each step of the pass reads no more blocks than this, whatever ends it
 abbrev pub CountsMost : Option Contents → (Contents → ℕ) → ℕ → ℕ → Type 0
 CountsMost told most before now = (c : Contents) → told ≡ Some c → now ≤ before + most c
+
+-- no more than what these notes of a group stand for asks for, nor than those of all groups
+abbrev pub CountsNotes : Layout → Option Contents → ℕ → List ForkNote → ℕ → ℕ → Type 0
+CountsNotes at told g notes before now = CountsMost told (λ c. notes_most at (c Image) g notes) before now
+
+abbrev pub CountsForks : Layout → Option Contents → List GroupInodes → ℕ → ℕ → Type 0
+CountsForks at told inodes before now = CountsMost told (λ c. forks_most at (c Image) (notes_at inodes)) before now

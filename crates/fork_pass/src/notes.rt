@@ -2,9 +2,9 @@ ghost use Rattle.std.specs.Prelude.{◌≡◌, ℕ, ◌<◌, ◌≤◌, [], ◌�
 ghost use Rattle.blk_device.specs.Causes.{HasCause};
 ghost use Rattle.blk_device.specs.Reading.{OnlyRead};
 ghost use Rattle.blk_device.specs.declared.device.Region.TheVariants.{Image};
-ghost use Rattle.fork_pass.specs.Counted.{note_most, notes_most};
+ghost use Rattle.fork_pass.specs.Counted.{note_most};
 ghost use Rattle.fork_pass.specs.Passed.{notes_at, units_at};
-ghost use Rattle.fork_pass.specs.Told.{CountsMost, PassesGroup, PassesNotes};
+ghost use Rattle.fork_pass.specs.Told.{CountsMost, CountsNotes, PassesGroup, PassesNotes};
 ghost use Rattle.geom.specs.Places.{layout};
 ghost use Rattle.inode_pass.specs.Notes.{AreFit, IsFit};
 ghost use Rattle.inode_pass.specs.Stops.{is_failed};
@@ -107,7 +107,7 @@ fn pass_notes<D: Device, L: Ledger, W: Watch>(
     requires groups { length sets.old ≡ geo.now.agcount }
     ensures exact { PassesNotes (layout geo.now) (D.content dev.old) g notes.now sets.old result sets.new }
     ensures groups { length sets.new ≡ length sets.old }
-    ensures each { CountsMost (D.content dev.old) (λ c. notes_most (layout geo.now) (c Image) g notes.now) steps.old.reads steps.new.reads }
+    ensures each { CountsNotes (layout geo.now) (D.content dev.old) g notes.now steps.old.reads steps.new.reads }
     ensures reading { OnlyRead D.Device dev.old dev.new steps.old steps.new }
     ensures cause { HasCause is_failed (D.faults dev.old) (D.faults dev.new) result }
 {
@@ -145,7 +145,7 @@ pub fn pass_group<D: Device, L: Ledger, W: Watch>(
     ensures units { units_at inodes.new ≡ units_at inodes.old }
     ensures all { length inodes.new ≡ length inodes.old }
     ensures groups { length sets.new ≡ length sets.old }
-    ensures each { CountsMost (D.content dev.old) (λ c. notes_most (layout geo.now) (c Image) g (notes_at inodes.old g)) steps.old.reads steps.new.reads }
+    ensures each { CountsNotes (layout geo.now) (D.content dev.old) g (notes_at inodes.old g) steps.old.reads steps.new.reads }
     ensures reading { OnlyRead D.Device dev.old dev.new steps.old steps.new }
     ensures cause { HasCause is_failed (D.faults dev.old) (D.faults dev.new) result }
 {

@@ -3,9 +3,8 @@ ghost use Rattle.blk_device.specs.Causes.{HasCause};
 ghost use Rattle.blk_device.specs.Contents.{Contents};
 ghost use Rattle.blk_device.specs.Reading.{OnlyRead};
 ghost use Rattle.blk_device.specs.declared.device.Region.TheVariants.{Image};
-ghost use Rattle.fork_pass.specs.Counted.{forks_most};
-ghost use Rattle.fork_pass.specs.Passed.{FitInGroups, HasSets, IsPass, notes_at, units_at};
-ghost use Rattle.fork_pass.specs.Told.{CountsMost, PassesGroups};
+ghost use Rattle.fork_pass.specs.Passed.{FitInGroups, HasSets, IsPass, units_at};
+ghost use Rattle.fork_pass.specs.Told.{CountsForks, PassesGroups};
 ghost use Rattle.geom.specs.Places.{layout};
 ghost use Rattle.inode_pass.specs.Stops.{is_failed};
 
@@ -56,7 +55,7 @@ fn pass_groups<D: Device, L: Ledger, W: Watch>(
     ensures units { units_at inodes.new ≡ units_at inodes.old }
     ensures all { length inodes.new ≡ length inodes.old }
     ensures groups { length sets.new ≡ length sets.old }
-    ensures each { CountsMost (D.content dev.old) (λ c. forks_most (layout geo.now) (c Image) (notes_at inodes.old)) steps.old.reads steps.new.reads }
+    ensures each { CountsForks (layout geo.now) (D.content dev.old) inodes.old steps.old.reads steps.new.reads }
     ensures reading { OnlyRead D.Device dev.old dev.new steps.old steps.new }
     ensures cause { HasCause is_failed (D.faults dev.old) (D.faults dev.new) result }
 {
@@ -91,7 +90,7 @@ pub fn read_forks<D: Device, L: Ledger, W: Watch>(
     ensures groups { IfOk result (HasSets geo.now.agcount) }
     ensures units { units_at inodes.new ≡ units_at inodes.old }
     ensures all { length inodes.new ≡ length inodes.old }
-    ensures each { CountsMost (D.content dev.old) (λ c. forks_most (layout geo.now) (c Image) (notes_at inodes.old)) steps.old.reads steps.new.reads }
+    ensures each { CountsForks (layout geo.now) (D.content dev.old) inodes.old steps.old.reads steps.new.reads }
     ensures reading { OnlyRead D.Device dev.old dev.new steps.old steps.new }
     ensures cause { HasCause is_failed (D.faults dev.old) (D.faults dev.new) result }
 {
