@@ -5,7 +5,7 @@ use Rattle.std.specs.Option.{option_or}
 use Rattle.std.proofs.Math.Nat.{mul-le-mul_left, mul-suc}
 use Rattle.std.proofs.Math.Seq.{drop-cons}
 use Rattle.std.proofs.lemmas.Grind.{flat_map-append}
-use Rattle.std.proofs.lemmas.List.{append-nil}
+use Rattle.std.proofs.lemmas.List.{append-nil, drop_all}
 use Rattle.std.proofs.lemmas.Bool.{eqb-true, false≢true}
 use Rattle.byte_fields.proofs.TestLemmas.{all_pass}
 use Rattle.byte_fields.specs.Fields.{field}
@@ -57,14 +57,8 @@ more_first {X = X} f xs i d lt =
     let next : suc i ≡ i + 1 = omega arith in
     ap (λ (ys : List X). flat_map f ys) (drop-cons xs i d lt) ∙ ap (λ (k : ℕ). f (get_or xs i d) ++ flat_map f (drop k xs)) next
 
-drop_all : {X : Type 0} (xs : List X) (i : ℕ) → length xs ≤ i → drop i xs ≡ []
-drop_all [] zero le = refl
-drop_all [] (suc i) le = refl
-drop_all (x ∷ xs) zero le = absurd (omega (arith, le))
-drop_all (x ∷ xs) (suc i) le = drop_all xs i (omega (arith, le))
-
 pub none_more : {X : Type 0} (f : X → List Piece) (xs : List X) (i : ℕ) → length xs ≤ i → flat_map f (drop i xs) ≡ []
-none_more {X = X} f xs i le = ap (λ (ys : List X). flat_map f ys) (drop_all xs i le)
+none_more {X = X} f xs i le = ap (λ (ys : List X). flat_map f ys) (drop_all i xs le)
 
 -- ---- pieces one after another
 
@@ -362,7 +356,7 @@ free_slot at image ino bytes sets free = record {
   put = λ _. adds_same sets sets (λ g. []) (pieces_for at ino (λ f. read_fork (slot_fork at image bytes f))) (λ g. sym (λ i. pieces_for at ino (λ f. read_fork (free_fork at image bytes f free i)) g)) (adds_none sets);
 }
 
-core_number : (ino : ℕ) (bytes uuid : List ℕ) → core_fault bytes ino uuid ≡ None → (core_of bytes).ino ≡ ino
+pub core_number : (ino : ℕ) (bytes uuid : List ℕ) → core_fault bytes ino uuid ≡ None → (core_of bytes).ino ≡ ino
 unfolding core_fault core_of
 core_number ino bytes uuid whole = eqb-true (field 8 bytes 152) ino (all_pass (core_tests bytes ino uuid) whole).1.1.0
 

@@ -1,5 +1,5 @@
 -- A fork that the inode itself holds.
-use Rattle.std.proofs.Common.{◌≡◌, ℕ, List, [], Option, None, Result, Ok, Err, refl, ap, sym, subst, ◌∙◌}
+use Rattle.std.proofs.Common.{◌≡◌, ℕ, List, [], None, Result, Ok, Err, refl, ap, sym, subst, ◌∙◌}
 use Rattle.std.specs.Prelude.{IfErr, IfOk, map}
 use Rattle.blk_device.specs.Causes.{HasCause, MovesOnly}
 use Rattle.dinode_core.specs.ForkTree.{Image, TreeBlock, fork_fault, met_of}

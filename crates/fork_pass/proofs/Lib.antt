@@ -1,6 +1,8 @@
 pub mod CountLemmas
 pub mod ForkLemmas
 pub mod InlineLemmas
+pub mod KeptLemmas
+pub mod NoteLemmas
 pub mod PassLemmas
 pub mod PieceLemmas
 pub mod SetLemmas

@@ -12,6 +12,8 @@ use Rattle.fork_read.specs.First.{most_met}
 use Rattle.fs_derive.specs.Lists.{numbers}
 use Rattle.fs_state.specs.Inodes.{slot_in}
 use Rattle.geom.specs.Layout.{Layout, device_block_of}
+use Rattle.inode_pass.specs.declared.note.ForkNote.{ForkNote}
+use Rattle.inode_pass.specs.declared.note.ForkNote.TheVariants.{Mapping, Block}
 
 -- How often is a fork read on at most, where a piece ended? Each such piece has two blocks of its own.
 abbrev pub turns_most : Layout → Image → Core3 → Fork → ℕ
@@ -43,13 +45,14 @@ slot_most at image bytes = if (core_of bytes).mode == 0 then 0 else inode_most a
 unfoldable pub block_most : Layout → Image → ℕ → ℕ → ℕ
 block_most at image g b = 1 + sum_by (λ s. slot_most at image (slot_in (image (device_block_of at g b)) s)) (numbers 0 8)
 
--- Of a unit? Its eight blocks.
-unfoldable pub unit_most : Layout → Image → ℕ → ℕ → ℕ
-unit_most at image g u = sum_by (λ j. block_most at image g (8 * u + j)) (numbers 0 8)
+-- Of what a note of a group stands for? A mapping, nothing; a block of inodes, that block.
+abbrev pub note_most : Layout → Image → ℕ → ForkNote → ℕ
+note_most at image g (Mapping ino f m) = 0
+note_most at image g (Block b) = block_most at image g b
 
-abbrev pub units_most : Layout → Image → ℕ → List ℕ → ℕ
-units_most at image g units = sum_by (unit_most at image g) units
+abbrev pub notes_most : Layout → Image → ℕ → List ForkNote → ℕ
+notes_most at image g notes = sum_by (note_most at image g) notes
 
--- Of the units of all groups?
-unfoldable pub forks_most : Layout → Image → (ℕ → List ℕ) → ℕ
-forks_most at image units = sum_by (λ g. units_most at image g (units g)) (numbers 0 at.agcount)
+-- Of the notes of all groups?
+unfoldable pub forks_most : Layout → Image → (ℕ → List ForkNote) → ℕ
+forks_most at image notes = sum_by (λ g. notes_most at image g (notes g)) (numbers 0 at.agcount)

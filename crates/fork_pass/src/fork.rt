@@ -8,7 +8,7 @@ ghost use Rattle.fork_read.specs.Answers.{IsOutside, is_failed as is_failed_read
 ghost use Rattle.fork_read.specs.First.{most_met};
 ghost use Rattle.fork_pass.specs.Counted.{fork_most, pieces_most};
 ghost use Rattle.fork_pass.specs.Read.{HasRead, IsForkRead, IsRefusal, IsShown, IsWorst, is_number_wrong as is_wrong};
-ghost use Rattle.fork_pass.specs.Told.{CountsMost, CountsPiece, TakesPiece};
+ghost use Rattle.fork_pass.specs.Told.{CountsMost, CountsPiece, SeesFork, TakesPiece};
 ghost use Rattle.geom.specs.Places.{layout};
 ghost use Rattle.inode_pass.specs.Stops.{is_failed};
 
@@ -191,7 +191,7 @@ fn see_pieces<D: Device, L: Ledger>(
 ) -> Result<ForkRead, PassStop>
     requires room { geo.now.dblocks ≤ D.blocks dev.old Image }
     requires groups { length sets.old ≡ geo.now.agcount }
-    ensures exact { IfOk result (λ read. (c : Contents) → D.content dev.old ≡ Some c → IsForkRead (layout geo.now) (c Image) core.now fork sets.old sets.new read) }
+    ensures exact { SeesFork (layout geo.now) (D.content dev.old) core.now fork sets.old result sets.new }
     ensures groups { length sets.new ≡ length sets.old }
     ensures each { CountsMost (D.content dev.old) (λ c. fork_most (layout geo.now) (c Image) core.now fork) steps.old.reads steps.new.reads }
     ensures reading { OnlyRead D.Device dev.old dev.new steps.old steps.new }
@@ -261,7 +261,7 @@ pub fn see_fork<D: Device, L: Ledger>(
 ) -> Result<ForkRead, PassStop>
     requires room { geo.now.dblocks ≤ D.blocks dev.old Image }
     requires groups { length sets.old ≡ geo.now.agcount }
-    ensures exact { IfOk result (λ read. (c : Contents) → D.content dev.old ≡ Some c → IsForkRead (layout geo.now) (c Image) core.now fork sets.old sets.new read) }
+    ensures exact { SeesFork (layout geo.now) (D.content dev.old) core.now fork sets.old result sets.new }
     ensures groups { length sets.new ≡ length sets.old }
     ensures each { CountsMost (D.content dev.old) (λ c. fork_most (layout geo.now) (c Image) core.now fork) steps.old.reads steps.new.reads }
     ensures reading { OnlyRead D.Device dev.old dev.new steps.old steps.new }

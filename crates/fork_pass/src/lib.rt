@@ -2,11 +2,12 @@
 //! that can't be read.
 #![tactic(auto)]
 
+mod block;
 mod fork;
 mod inode;
+mod notes;
 mod pass;
 mod pieces;
 mod sets;
-mod unit;
 
 pub use pass::{ForksSeen, read_forks};

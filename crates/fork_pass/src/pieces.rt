@@ -47,8 +47,9 @@ fn word_of(fork: Fork, m: &Mapping) -> u64
     m.offset + flag_of(fork) + unwritten_flag(m)
 }
 
-// Puts the blocks of a mapping into the set of the group in which they lie.
-fn put_mapping(
+/// Puts the blocks of a mapping of a fork into the set of the group in which they lie
+/// (XFS Online Fsck Design, "Cross-Referencing Space Metadata").
+pub fn put_mapping(
     sets: &mut [ClaimSet],
     geo: &Geometry,
     fork: Fork,

@@ -1,12 +1,19 @@
--- One list with one chunk lies in its group.
-use Rattle.std.proofs.Common.{◌≡◌, ℕ, ◌+◌, ◌*◌, ◌<◌, ◌≤◌, List, [], ◌∷◌, sym, subst, arith}
-use Rattle.std.specs.Global.{Vec}
-use Rattle.std.specs.Prelude.{All}
+-- What is kept of one group.
+use Rattle.std.proofs.Common.{◌≡◌, List, [], ◌∷◌, ◌++◌, ap, ◌∙◌, sym, subst}
 use Rattle.std.proofs.lemmas.List.Elements.{All-from_recursion}
-use Rattle.fork_pass.specs.Passed.{units_at}
-use Rattle.geom.specs.Layout.{Layout, group_len_of}
+use Rattle.geom.specs.Layout.{Layout}
+use Rattle.inode_pass.specs.Notes.{AreFit, IsFit}
+use Rattle.inode_pass.specs.declared.note.ForkNote.{ForkNote}
+use Rattle.inode_pass.specs.declared.note.GroupInodes.{GroupInodes}
+use Rattle.fork_pass.specs.Passed.{notes_at}
 
-pub chunk_inside : (at : Layout) (lists : List (Vec ℕ)) (h : ℕ) → h ≡ 0 → units_at lists 0 ≡ 3 ∷ [] → 32 ≤ group_len_of at 0 → All (λ u. 8 * u + 7 < group_len_of at h) (units_at lists h)
-chunk_inside at lists h zero one long =
-    subst (λ (k : ℕ). All (λ u. 8 * u + 7 < group_len_of at k) (units_at lists k)) (sym zero)
-    (subst (λ (us : List ℕ). All (λ u. 8 * u + 7 < group_len_of at 0) us) (sym one) (All-from_recursion (λ u. 8 * u + 7 < group_len_of at 0) (3 ∷ []) (omega (arith, long), tt)))
+-- where nothing was noted before, what the cores show fits
+pub kept_fits : (at : Layout) (first : List ForkNote) (inodes : List GroupInodes) (kept : GroupInodes) → first ≡ [] → inodes ≡ kept ∷ [] → (AreFit at 0 first → AreFit at 0 kept.notes.items) → AreFit at 0 (notes_at inodes 0)
+unfolding notes_at
+kept_fits at first inodes kept none is fit =
+    let empty = subst (λ (ns : List ForkNote). AreFit at 0 ns) (sym none) (All-from_recursion (IsFit at 0) [] tt) in
+    subst (λ (xs : List GroupInodes). AreFit at 0 (notes_at xs 0)) (sym is) (fit empty)
+
+-- one is put into none
+pub one_more : (old new : List GroupInodes) (kept : GroupInodes) → old ≡ [] → new ≡ old ++ kept ∷ [] → new ≡ kept ∷ []
+one_more old new kept none is = is ∙ ap (λ (xs : List GroupInodes). xs ++ kept ∷ []) none

@@ -1,8 +1,9 @@
 // What the forks of two inodes of a new image claim together, or the first one that can't be read.
-ghost use Rattle.std.specs.Prelude.{◌≡◌, ◌≤◌, [], ◌∷◌, IfSome, length, true};
-ghost use Rattle.fork_pass.specs.Passed.{units_at};
+ghost use Rattle.std.specs.Prelude.{◌≡◌, ◌≤◌, IfOk, length, true};
+ghost use Rattle.fork_pass.specs.Passed.{notes_at};
 ghost use Rattle.geom.specs.Layout.{group_len_of};
 ghost use Rattle.geom.specs.Places.{layout};
+ghost use Rattle.inode_pass.specs.Notes.{AreFit};
 
 use blk_device::{Device, MemDevice, Region};
 use byte_fields::{Block, Steps, put_sum, put_u16, put_u32, put_u64, sum_at};
@@ -12,6 +13,8 @@ use fork_pass::{ForksSeen, read_forks};
 use fresh_image::write_fresh;
 use fs_model::{Claim, Evidence};
 use geom::{Geometry, try_geometry};
+use inode_pass::{GroupInodes, PassStop, see_units};
+use run_sets::Run;
 use std::alloc::Global;
 use std::marker::Brand;
 use std::sync::ledger::{Blank, Ledger};
@@ -143,25 +146,39 @@ fn geometry_of(device: &mut MemDevice) -> Option<Geometry> {
     try_geometry(&block, device.size(Region::Image)).ok()
 }
 
-// One list of chunks, with unit 3 alone, which begins at block 24.
-#[tactic(auto, unfolding(fork_pass::specs::Passed::units_at))]
-fn one_chunk(alloc: Global) -> Option<Vec<Vec<u32>>>
-    ensures one { IfSome result (λ lists. length lists.items ≡ 1) }
-    ensures first { IfSome result (λ lists. units_at lists.items 0 ≡ 3 ∷ []) }
-{
-    let mut units = Vec::new(alloc);
-    units.push(3).ok()?;
-    let mut lists = Vec::new(alloc);
-    lists.push(units).ok()?;
-    Some(lists)
-}
-
 // Whether there is one group, with 32 blocks at least.
 fn is_small(geo: &Geometry) -> bool
     ensures one { result ≡ true → geo.now.agcount ≡ 1 }
     ensures long { result ≡ true → 32 ≤ group_len_of (layout geo.now) 0 }
 {
     geo.agcount == 1 && geo.group_len(0) >= 32
+}
+
+// The one chunk of the group, unit 3, which begins at block 24.
+const CHUNK: Run = Run { start: 3, count: 1 };
+
+// What is kept of the inodes of the one group: its chunk, and what the cores show of the forks.
+fn kept<L: Ledger>(
+    alloc: Global,
+    device: &mut MemDevice,
+    geo: &Geometry,
+    steps: &mut Steps<L>,
+) -> Result<Vec<GroupInodes>, PassStop>
+    requires one { geo.now.agcount ≡ 1 }
+    requires long { 32 ≤ group_len_of (layout geo.now) 0 }
+    ensures one { IfOk result (λ inodes. length inodes.items ≡ 1) }
+    ensures fit { IfOk result (λ inodes. AreFit (layout geo.now) 0 (notes_at inodes.items 0)) }
+{
+    if device.size(Region::Image) < geo.dblocks {
+        return Err(PassStop::Failed);
+    }
+    let mut notes = Vec::new(alloc);
+    let _seen = see_units(alloc, device, geo, 0, &[CHUNK], &mut notes, steps)?;
+    let mut chunks = Vec::new(alloc);
+    chunks.push(CHUNK.start)?;
+    let mut inodes = Vec::new(alloc);
+    inodes.push(GroupInodes { chunks, notes })?;
+    Ok(inodes)
 }
 
 fn pass<L: Ledger>(
@@ -177,22 +194,14 @@ fn pass<L: Ledger>(
     if !is_small(geo) {
         return None;
     }
+    let mut steps = Steps::<L>::new(blank);
+    let Ok(mut inodes) = kept(alloc, device, geo, &mut steps) else {
+        return None;
+    };
     if device.size(Region::Image) < geo.dblocks {
         return None;
     }
-    let Some(lists) = one_chunk(alloc) else {
-        return None;
-    };
-    let mut steps = Steps::<L>::new(blank);
-    read_forks(
-        alloc,
-        device,
-        geo,
-        lists.as_slice(),
-        &mut steps,
-        &mut NoWatch,
-    )
-    .ok()
+    read_forks(alloc, device, geo, &mut inodes, &mut steps, &mut NoWatch).ok()
 }
 
 // The same for a caller that counts no steps.

@@ -9,13 +9,13 @@ use Rattle.geom.specs.Places.{layout}
 use Rattle.inode_pass.specs.Units.{opened_state}
 use Rattle.fork_pass.specs.Counted.{block_most}
 use Rattle.fork_pass.proofs.CountLemmas.{slots_from}
-use Rattle.fork_pass.specs.Passed.{AreLeft, block_inodes}
-use Rattle.fork_pass.proofs.unit.pass_block.Given as goal
+use Rattle.fork_pass.specs.Passed.{InodesLeft, block_inodes}
+use Rattle.fork_pass.proofs.block.pass_block.Given as goal
 
 -- the inodes so far are passed
 abbrev pub invariant-loop-slot : goal.invariant-loop-slot
 invariant-loop-slot g l = record {
-  left : (c : Contents) → g.D.Device.content l.fn.dev ≡ Some c → is_chunk (opened_state (layout l.geo) (c Image)) l.g (l.b / 8) ≡ true → AreLeft (opened_state (layout l.geo) (c Image)) (block_inodes (layout l.geo) l.g l.b) (map (inode_at (layout l.geo) l.g l.b) (numbers l.slot (8 - l.slot))) l.fn.sets l.sets;
+  left : (c : Contents) → g.D.Device.content l.fn.dev ≡ Some c → is_chunk (opened_state (layout l.geo) (c Image)) l.g (l.b / 8) ≡ true → InodesLeft (opened_state (layout l.geo) (c Image)) (block_inodes (layout l.geo) l.g l.b) (map (inode_at (layout l.geo) l.g l.b) (numbers l.slot (8 - l.slot))) l.fn.sets l.sets;
   each : (c : Contents) → g.D.Device.content l.fn.dev ≡ Some c → l.steps.reads + slots_from (layout l.geo) (c Image) l.g l.b l.slot ≤ l.fn.steps.reads + block_most (layout l.geo) (c Image) l.g l.b;
   groups : length l.sets ≡ length l.fn.sets;
   reading : OnlyRead g.D.Device l.fn.dev l.dev l.fn.steps l.steps;
