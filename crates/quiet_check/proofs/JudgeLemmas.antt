@@ -250,7 +250,7 @@ module _ (at : Layout) (image : Image) (g : ℕ) where
 listings : (at : Layout) (image : Image) (g : ℕ) (trees : GroupTrees) → g < at.agcount → AreTrees at image g trees → AreListings (opened_state at image) g (group_len_of at g) (recs_of (reading_of trees.ino)) (recs_of (reading_of trees.rmap))
 listings at image g trees gl are = record { group = gl; whole = refl; chunks = ap recs_of are.ino; owners = ap recs_of are.rmap }
 
-units_said : (at : Layout) (image : Image) (g : ℕ) (trees : GroupTrees) (seen : List UnitSeen) → g < at.agcount → AreTrees at image g trees → AreUnitsOf at g trees seen → unit_numbers seen ≡ filter (is_listed (opened_state at image) g) (numbers 0 (group_len_of at g / 8))
+pub units_said : (at : Layout) (image : Image) (g : ℕ) (trees : GroupTrees) (seen : List UnitSeen) → g < at.agcount → AreTrees at image g trees → AreUnitsOf at g trees seen → unit_numbers seen ≡ filter (is_listed (opened_state at image) g) (numbers 0 (group_len_of at g / 8))
 units_said at image g trees seen gl are listed =
     let inos = recs_of (reading_of trees.ino) in
     let maps = recs_of (reading_of trees.rmap) in
