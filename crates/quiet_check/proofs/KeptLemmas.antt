@@ -1,5 +1,5 @@
 -- What is kept of a group's inodes is what the state decides.
-use Rattle.std.proofs.Common.{◌≡◌, ℕ, ◌+◌, ◌*◌, ◌/◌, ◌<◌, ◌≤◌, Bool, true, false, List, [], ◌∷◌, ◌++◌, All, refl, ap, sym, subst, ◌∙◌, arith, Option, Some, None, Result, Ok, Err, IfOk}
+use Rattle.std.proofs.Common.{◌≡◌, ℕ, ◌+◌, ◌*◌, ◌/◌, ◌<◌, Bool, true, false, List, [], ◌∷◌, ◌++◌, All, refl, ap, sym, subst, ◌∙◌, arith, Option, Some, None, Result, Ok, Err, IfOk}
 use Rattle.std.specs.Prelude.{◌^◌, flat_map, if◌then◌else◌}
 use Rattle.std.specs.List.{filter}
 use Rattle.std.proofs.lemmas.List.Elements.{All-cons, All-nil}
@@ -17,14 +17,13 @@ use Rattle.geom.specs.Layout.{Layout, group_len_of}
 use Rattle.group_trees.specs.Group.{AreInside}
 use Rattle.group_trees.specs.declared.group.GroupTrees.{GroupTrees}
 use Rattle.group_trees.specs.declared.heads.GroupHeads.{GroupHeads}
-use Rattle.index_derive.specs.Inodes.{mask_in}
 use Rattle.inode_pass.specs.Notes.{AreFit, IsFit, blocks_notes, notes_if, notes_of, unit_notes}
 use Rattle.inode_pass.specs.Units.{opened_state, unit_numbers}
 use Rattle.inode_pass.specs.declared.note.ForkNote.{ForkNote}
 use Rattle.inode_pass.specs.declared.note.GroupInodes.{GroupInodes}
 use Rattle.inode_pass.specs.declared.unit.UnitSeen.{UnitSeen}
 use Rattle.quiet_check.specs.Chunks.{chunk_numbers}
-use Rattle.quiet_check.specs.Judged.{AreUnitsOf, Decided, Gathered, IsFaultJudged, IsJudged}
+use Rattle.quiet_check.specs.Judged.{AreUnitsOf, Decided, Gathered, IsJudged}
 use Rattle.quiet_check.specs.Kept.{IsInside, IsKeptAs, IsKeptOf, kept_by, kept_unless}
 use Rattle.quiet_check.specs.declared.judge.InodesJudged.{InodesJudged}
 use Rattle.quiet_check.specs.declared.judge.Judged.{Judged}
@@ -34,16 +33,23 @@ use Rattle.quiet_check.proofs.JudgeLemmas.{units_said}
 
 -- ---- the notes of units that are listed are those of the chunks: the other units have none
 
+keep_silent : (f : ℕ → List ForkNote) (u : ℕ) (us vs : List ℕ) (b : Bool) → (b ≡ false → f u ≡ []) → flat_map f us ≡ flat_map f vs → f u ++ flat_map f us ≡ flat_map f (if b then u ∷ vs else vs)
+keep_silent f u us vs true none rest = ap (λ (ns : List ForkNote). f u ++ ns) rest
+keep_silent f u us vs false none rest = ap (λ (ns : List ForkNote). ns ++ flat_map f us) (none refl) ∙ rest
+
 silent : (p : ℕ → Bool) (f : ℕ → List ForkNote) (us : List ℕ) → ((u : ℕ) → p u ≡ false → f u ≡ []) → flat_map f us ≡ flat_map f (filter p us)
 silent p f [] none = refl
-silent p f (u ∷ us) none = one (p u) (none u) where
-  one : (b : Bool) → (b ≡ false → f u ≡ []) → f u ++ flat_map f us ≡ flat_map f (if b then u ∷ filter p us else filter p us)
-  one true is = ap (λ (ns : List ForkNote). f u ++ ns) (silent p f us none)
-  one false is = ap (λ (ns : List ForkNote). ns ++ flat_map f us) (is refl) ∙ silent p f us none
+silent p f (u ∷ us) none = keep_silent f u us (filter p us) (p u) (none u) (silent p f us none)
 
 no_notes : (at : Layout) (image : Image) (g u : ℕ) → unit_verifies at (opened_state at image).core g u ≡ false → unit_notes at image g u ≡ []
 unfolding unit_notes
 no_notes at image g u is = ap (λ (b : Bool). notes_if (if b then Some (over_free (opened_state at image) g u (λ i. 2 ^ i)) else None) (blocks_notes at image g (8 * u) 8)) is
+
+kept_all : {A : Type 0} (j : Judged) (fs : List Fault) → Decided None fs j → (xs : List A) → kept_by j xs ≡ xs
+kept_all (Faults found) fs h xs = refl
+kept_all (GaveUp e) fs h xs = absurd (no_some e h) where
+  no_some : (x : Evidence) → ◌≡◌ {A = Option Evidence} None (Some x) → ⊥
+  no_some x k = cc
 
 module _ (at : Layout) (image : Image) (g : ℕ) where
   notes_said : (us : List ℕ) → us ≡ filter (is_listed (opened_state at image) g) (numbers 0 (group_len_of at g / 8)) → notes_of at image g us ≡ notes_of at image g (chunks (opened_state at image) g)
@@ -58,16 +64,11 @@ module _ (at : Layout) (image : Image) (g : ℕ) where
       → Decided None (faults (opened_state at image) g units.Inode) found.judged → Gathered at image g heads trees seen → inodes.notes.items ≡ notes_of at image g (unit_numbers seen) → IsKeptAs at image g found
   faults_kept heads trees seen found inodes gl are chunked is decided so noted =
       let listed = units_said at image g trees seen gl so.trees_are are in
-      let all = kept_all found.judged (faults (opened_state at image) g units.Inode) decided in
+      let fs = faults (opened_state at image) g units.Inode in
       record {
-        chunks_are = ap (λ (x : GroupInodes). x.chunks.items) is ∙ chunked ∙ chunks_said at image g seen so.cores_are listed ∙ sym (all (chunks (opened_state at image) g));
-        notes_are = ap (λ (x : GroupInodes). x.notes.items) is ∙ noted ∙ notes_said (unit_numbers seen) listed ∙ sym (all (notes_of at image g (chunks (opened_state at image) g)));
-      } where
-        kept_all : {A : Type 0} (j : Judged) (fs : List Fault) → Decided None fs j → (xs : List A) → kept_by j xs ≡ xs
-        kept_all (Faults found) fs h xs = refl
-        kept_all (GaveUp e) fs h xs = absurd (no_some e h) where
-          no_some : (x : Evidence) → ◌≡◌ {A = Option Evidence} None (Some x) → ⊥
-          no_some x k = cc
+        chunks_are = ap (λ (x : GroupInodes). x.chunks.items) is ∙ chunked ∙ chunks_said at image g seen so.cores_are listed ∙ sym (kept_all found.judged fs decided (chunks (opened_state at image) g));
+        notes_are = ap (λ (x : GroupInodes). x.notes.items) is ∙ noted ∙ notes_said (unit_numbers seen) listed ∙ sym (kept_all found.judged fs decided (notes_of at image g (chunks (opened_state at image) g)));
+      }
 
   -- nothing is kept of inodes that are given up
   pub given_up_kept : (found : InodesJudged) (e : Evidence) → found.judged ≡ GaveUp e → found.inodes.chunks.items ≡ [] → found.inodes.notes.items ≡ [] → IsKeptAs at image g found

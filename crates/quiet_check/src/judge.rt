@@ -14,10 +14,10 @@ ghost use Rattle.inode_pass.specs.Units.{opened_state};
 ghost use Rattle.group_trees.specs.Group.{AreSoundTrees};
 ghost use Rattle.group_trees.specs.Heads.{heads_seen};
 ghost use Rattle.quiet_check.specs.Chunks.{chunk_numbers};
-ghost use Rattle.quiet_check.specs.Counted.{inodes_most};
+ghost use Rattle.quiet_check.specs.Counted.{inodes_most, unless_decided};
 ghost use Rattle.quiet_check.specs.Judged.{AreUnitsOf, IsCoreJudged, IsCoreJudgedBy, IsFaultJudged, IsInodeJudgedBy, IsJudged, IsOverlapJudged, WhereGathered, cores_in, overlap_of};
 ghost use Rattle.quiet_check.specs.Kept.{IsInside, IsKeptAs, IsKeptBy, IsKeptOf, WhereNoted};
-ghost use Rattle.quiet_check.specs.Units.{AreListed};
+ghost use Rattle.quiet_check.specs.Units.{AreListed, evidence_in};
 ghost use Rattle.quiet_check.specs.declared.judge.Judged.TheVariants.{GaveUp};
 ghost use Rattle.tree_walk.specs.Trails.{LieInside};
 
@@ -255,7 +255,7 @@ fn judge_trees<D: Device, L: Ledger>(
     ensures inside { IfOk result (λ found. IsInside (layout geo.now) g found.inodes) }
     ensures reading { OnlyRead D.Device dev.old dev.new steps.old steps.new }
     ensures cause { HasCause is_failed (D.faults dev.old) (D.faults dev.new) result }
-    ensures few { steps.new.reads ≤ steps.old.reads + group_len_of (layout geo.now) g }
+    ensures few { steps.new.reads ≤ steps.old.reads + unless_decided (evidence_in trees.now) (group_len_of (layout geo.now) g) }
 {
     match tree_evidence(trees) {
         Some(found) => Ok(given_up(alloc, found)),
@@ -265,9 +265,10 @@ fn judge_trees<D: Device, L: Ledger>(
 
 /// Judges the inodes of group `g`, whose heads were accepted: the first evidence that contradicts
 /// their derivation, or else the faults of the two inode btrees and of their counters; with these the
-/// group's chunks and what their cores show of the forks. The six btrees of the group are read, and the
-/// cores of each unit that one of the two lists, once. A device that failed and want of memory are the
-/// refusals, and nothing is written (XFS Online Fsck Design, "Metadata Scrubbing").
+/// group's chunks and what their cores show of the forks. The six btrees of the group are read, and then,
+/// where these don't decide, the cores of each unit that one of the two lists, once. A device that failed
+/// and want of memory are the refusals, and nothing is written
+/// (XFS Online Fsck Design, "Metadata Scrubbing").
 pub fn judge_inodes<D: Device, L: Ledger>(
     alloc: Global,
     dev: &mut D,

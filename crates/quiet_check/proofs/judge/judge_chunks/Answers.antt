@@ -6,7 +6,6 @@ use Rattle.fs_state.specs.Kinds.{Image}
 use Rattle.geom.specs.Places.{layout}
 use Rattle.inode_pass.specs.Units.{opened_state}
 use Rattle.quiet_check.specs.Judged.{Decided, Gathered, overlap_of}
-use Rattle.quiet_check.specs.declared.judge.InodesJudged.{InodesJudged}
 use Rattle.quiet_check.specs.declared.judge.Judged.{Judged}
 use Rattle.quiet_check.proofs.JudgeLemmas.{faults_decide, overlap_decides}
 use Rattle.quiet_check.proofs.KeptLemmas.{given_up_kept, nothing_inside}

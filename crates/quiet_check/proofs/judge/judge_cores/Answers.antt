@@ -67,7 +67,7 @@ returns-clause-few g c =
     cores_few (is_listed_by (recs_of (reading_of c.args.trees.now.ino)) (recs_of (reading_of c.args.trees.now.rmap))) (group_len_of (layout c.args.geo.now) c.args.g) c.as_slice-units.result.now c.args.steps.now.reads c.see_units.new.steps.reads (c.as_slice-units.ensures.value ∙ listed.either) c.in_ok-seen.ensures.few
 
 pub judge_gathered-requires-clause-fit : goal.judge_gathered-requires-clause-fit
-judge_gathered-requires-clause-fit g c = c.in_ok-seen.ensures.fit (nothing_fits (layout c.args.geo.now) c.args.g c.new-notes.result.items c.new-notes.ensures)
+judge_gathered-requires-clause-fit g c = c.in_ok-seen.ensures.fit (nothing_fits (layout c.args.geo.now) c.args.g c.new-notes.result.items c.new-notes.ensures.items)
 
 pub returns-clause-kept : goal.returns-clause-kept
 returns-clause-kept g c =
@@ -79,6 +79,6 @@ returns-clause-kept g c =
       trees_are = are;
       cores_are = subst (AreSeen at (m Image) c.args.g) (sym c.as_slice.ensures.value) (c.in_ok-seen.ensures.exact m e);
     })
-    (c.in_ok-seen.ensures.noted m e ∙ ap (λ (ns : List ForkNote). ns ++ notes_of at (m Image) c.args.g (units_in c.as_slice-units.result.now)) c.new-notes.ensures
+    (c.in_ok-seen.ensures.noted m e ∙ ap (λ (ns : List ForkNote). ns ++ notes_of at (m Image) c.args.g (units_in c.as_slice-units.result.now)) c.new-notes.ensures.items
     ∙ ap (notes_of at (m Image) c.args.g) (sym (ap unit_numbers c.as_slice.ensures.value ∙ c.in_ok-seen.ensures.units))))
     c.judge_gathered.ensures.kept

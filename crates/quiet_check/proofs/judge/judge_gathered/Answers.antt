@@ -10,7 +10,6 @@ use Rattle.group_trees.specs.Trees.{reading_of}
 use Rattle.index_derive.specs.Units.{is_listed_by}
 use Rattle.inode_pass.specs.Units.{opened_state}
 use Rattle.quiet_check.specs.Judged.{Decided, Gathered, later_evidence, overlap_of}
-use Rattle.quiet_check.specs.declared.judge.InodesJudged.{InodesJudged}
 use Rattle.quiet_check.specs.declared.judge.Judged.{Judged}
 use Rattle.quiet_check.proofs.JudgeLemmas.{bad_decides, bad_judged, left_decides}
 use Rattle.quiet_check.proofs.KeptLemmas.{given_up_kept, nothing_inside}

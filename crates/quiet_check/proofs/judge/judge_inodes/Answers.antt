@@ -13,6 +13,7 @@ use Rattle.quiet_check.specs.Counted.{inodes_most}
 use Rattle.quiet_check.specs.Judged.{IsJudged}
 use Rattle.quiet_check.specs.Kept.{IsKeptAs, IsKeptOf}
 use Rattle.quiet_check.specs.declared.judge.InodesJudged.{InodesJudged}
+use Rattle.quiet_check.proofs.JudgeLemmas.{inodes_few}
 use Rattle.quiet_check.proofs.KeptLemmas.{both_ok, kept_decided}
 use Rattle.quiet_check.proofs.judge.judge_inodes.Goals as goal
 
@@ -32,11 +33,8 @@ unfolding inodes_most
 returns-in_err-trees-clause-counted g c = λ m e. let read = c.in_err-trees.ensures.counted m e in omega (arith, read)
 
 pub returns-clause-counted : goal.returns-clause-counted
-unfolding inodes_most
 returns-clause-counted g c = λ m e.
-    let read = c.in_ok-trees.ensures.counted m e in
-    let cores = c.judge_trees.ensures.few in
-    omega (arith, read, cores)
+    inodes_few (layout c.args.geo.now) (m Image) c.args.g c.in_ok-trees.trees c.args.steps.now.reads c.read_trees.new.steps.reads c.judge_trees.new.steps.reads (c.in_ok-trees.ensures.exact m e) (c.in_ok-trees.ensures.counted m e) c.judge_trees.ensures.few
 
 pub returns-clause-kept : goal.returns-clause-kept
 returns-clause-kept g c =

@@ -5,14 +5,15 @@ use Rattle.blk_device.specs.declared.device.Region.TheVariants.{Image}
 use Rattle.fs_derive.specs.Faults.{faults}
 use Rattle.fs_model.specs.declared.unit.Unit.TheVariants as units
 use Rattle.fs_state.specs.Kinds.{heads_of}
+use Rattle.geom.specs.Layout.{group_len_of}
 use Rattle.geom.specs.Places.{layout}
 use Rattle.inode_pass.specs.Units.{opened_state}
 use Rattle.group_trees.specs.Group.{AreTrees}
 use Rattle.group_trees.specs.Heads.{heads_seen}
 use Rattle.quiet_check.specs.Judged.{Decided, IsJudged, later_evidence}
-use Rattle.quiet_check.specs.declared.judge.InodesJudged.{InodesJudged}
 use Rattle.quiet_check.specs.declared.judge.Judged.{Judged}
-use Rattle.quiet_check.proofs.JudgeLemmas.{cores_decide, trees_decide}
+use Rattle.quiet_check.specs.Units.{evidence_in}
+use Rattle.quiet_check.proofs.JudgeLemmas.{cores_decide, cores_read, trees_decide}
 use Rattle.quiet_check.proofs.KeptLemmas.{given_up_kept, nothing_inside}
 use Rattle.quiet_check.proofs.judge.judge_trees.Goals as goal
 
@@ -33,3 +34,6 @@ returns-in-Some-clause-kept g c = λ m e named are. given_up_kept (layout c.args
 
 pub returns-in-Some-clause-inside : goal.returns-in-Some-clause-inside
 returns-in-Some-clause-inside g c = nothing_inside (layout c.args.geo.now) c.args.g c.given_up.result.inodes c.given_up.ensures.chunks c.given_up.ensures.notes
+
+pub returns-in-None-clause-few : goal.returns-in-None-clause-few
+returns-in-None-clause-few g c = cores_read c.args.steps.now.reads c.judge_cores.new.steps.reads (group_len_of (layout c.args.geo.now) c.args.g) (evidence_in c.args.trees.now) (sym c.in-None.is ∙ c.tree_evidence.ensures) c.judge_cores.ensures.few

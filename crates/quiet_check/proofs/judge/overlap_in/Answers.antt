@@ -1,4 +1,4 @@
-use Rattle.std.proofs.Common.{ℕ, ◌∙◌, ◌<◌, ◌^◌, All, sym, subst}
+use Rattle.std.proofs.Common.{ℕ, ◌<◌, ◌^◌, All, sym, subst}
 use Rattle.fs_state.specs.Kinds.{Image}
 use Rattle.geom.specs.Layout.{group_len_of}
 use Rattle.geom.specs.Places.{layout}
