@@ -90,12 +90,7 @@ impl Tally {
 
     /// Adds what was found of the inodes of group `group` as `add` does, and puts what is kept of them
     /// behind that of the groups before (XFS Online Fsck Design, "Metadata Scrubbing").
-    pub fn add_inodes(
-        &mut self,
-        alloc: Global,
-        group: u32,
-        found: InodesJudged,
-    ) -> Result<(), Halt>
+    pub fn add_inodes(&mut self, alloc: Global, group: u32, found: InodesJudged) -> Result<(), Halt>
         ensures added { Adds self.old.journal.entries.items (entries_of group units.Inode found.judged) self.new.journal.entries.items result }
         ensures passed { OnOk result (self.new.passed.items ≡ self.old.passed.items ++ passes_as found.judged ∷ []) }
         ensures kept { OnOk result (self.new.inodes.items ≡ self.old.inodes.items ++ found.inodes ∷ []) }
