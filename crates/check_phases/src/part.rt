@@ -119,6 +119,7 @@ fn check_space_of<D: Device, L: Ledger>(
     requires readable { (c : Contents) → D.content dev.old ≡ Some c → AreReadable (opened_state (layout geo.now) (c Image)) passed.now }
     ensures exact { (c : Contents) → D.content dev.old ≡ Some c → ChecksSpaceOf (layout geo.now) (c Image) passed.now g tally.old tally.new result }
     ensures added { AddsPart (IsSpacePart g) tally.old tally.new result }
+    ensures inodes { tally.new.inodes ≡ tally.old.inodes }
     ensures kept { KeepsGroup (layout geo.now) (D.content dev.old) Space (lacks_mappings passed.now) g tally.old steps.old.reads tally.new steps.new.reads result }
     ensures reading { OnlyRead D.Device dev.old dev.new steps.old steps.new }
     ensures cause { HasCause is_failed (D.faults dev.old) (D.faults dev.new) result }
@@ -150,6 +151,7 @@ pub fn check_space_part<D: Device, L: Ledger, W: Watch>(
     requires readable { (c : Contents) → D.content dev.old ≡ Some c → AreReadable (opened_state (layout geo.now) (c Image)) passed.now }
     ensures exact { (c : Contents) → D.content dev.old ≡ Some c → ChecksSpaces (layout geo.now) (c Image) part passed.now tally.old tally.new result }
     ensures added { AddsParts IsSpacePart part tally.old tally.new result }
+    ensures inodes { tally.new.inodes ≡ tally.old.inodes }
     ensures kept { KeepsPart (layout geo.now) (D.content dev.old) Space (lacks_mappings passed.now) part
         tally.old steps.old.reads tally.new steps.new.reads result }
     ensures reading { OnlyRead D.Device dev.old dev.new steps.old steps.new }
