@@ -5,7 +5,9 @@ use Rattle.fs_derive.specs.Session.{Place}
 use Rattle.fs_model.specs.declared.entry.Entry.{Entry}
 use Rattle.fs_model.specs.declared.unit.Unit.{Unit as ScrubUnit}
 use Rattle.fs_model.specs.declared.unit.Unit.TheVariants as units
-use Rattle.fs_model.specs.declared.verdict.Verdict.TheVariants.{Skipped}
+use Rattle.fs_model.specs.declared.claim.Evidence.TheVariants.{BadTree}
+use Rattle.fs_model.specs.declared.verdict.Verdict.{Verdict}
+use Rattle.sblock.specs.declared.kind.Kind.TheVariants.{Rmap}
 use Rattle.quiet_check.specs.Entries.{entries_of}
 use Rattle.quiet_check.specs.declared.judge.Judged.{Judged}
 use Rattle.quiet_check.specs.declared.judge.Judged.TheVariants as judged
@@ -17,7 +19,7 @@ use Rattle.space_check.specs.declared.halt.Halt.{Halt}
 use Rattle.space_check.specs.declared.journal.Journal.{Journal}
 use Rattle.space_check.proofs.EventLemmas.{cut_off, first_stops, none_done, not_begun, one_event, then_does}
 use Rattle.check_phases.specs.Checks.{reached}
-use Rattle.check_phases.specs.Parts.{AddsGroups, AddsPart, AddsParts, AreParts, AreSkipped, IsJudgedEvent, IsJudgedPart, IsSpacePart}
+use Rattle.check_phases.specs.Parts.{AddsGroups, AddsPart, AddsParts, AreGivenUp, AreParts, AreSkipped, HaveVerdict, IsJudgedEvent, IsJudgedPart, IsSpacePart, gave_up_event}
 use Rattle.check_phases.specs.declared.part.Part.{Part}
 use Rattle.check_phases.specs.declared.tally.Tally.{Tally}
 
@@ -114,32 +116,38 @@ module _ (g : ℕ) where
   pub space_full : (S T : Type 0) (t : Tally) (halt : Halt) → Begins {T = S} t.journal.entries.items (Err halt) → AddsPart {T = T} (IsSpacePart g) t t (Err halt)
   space_full S T t halt full = none_full S T (IsSpacePart g) (stands_for g units.Free) (event 0 (stands_for g units.Refc) ∷ []) t halt any_space full
 
-  -- both skipped
+  -- both get one verdict
 
-  module _ (needed : Place) where
-    abbrev skips : ScrubUnit → List Entry
-    skips unit = verdict_entries g unit (Skipped needed.0 needed.1)
+  module _ (verdict : Verdict) where
+    abbrev says : ScrubUnit → List Entry
+    says unit = verdict_entries g unit verdict
 
-    abbrev IsSkip : ScrubUnit → List Event → Type 0
-    IsSkip unit es = es ≡ event 0 (skips unit) ∷ []
+    abbrev IsSaid : ScrubUnit → List Event → Type 0
+    IsSaid unit es = es ≡ event 0 (says unit) ∷ []
 
-    pub skip_added : {T : Type 0} (unit : ScrubUnit) (before after : Tally) (result : Result T Halt) → length before.journal.entries.items < most_entries → Adds before.journal.entries.items (skips unit) after.journal.entries.items result → AddsPart (IsSkip unit) before after result
-    skip_added unit before after result room added = one_added (IsSkip unit) (skips unit) before after result refl room added
+    pub verdict_added : {T : Type 0} (unit : ScrubUnit) (before after : Tally) (result : Result T Halt) → length before.journal.entries.items < most_entries → Adds before.journal.entries.items (says unit) after.journal.entries.items result → AddsPart (IsSaid unit) before after result
+    verdict_added unit before after result room added = one_added (IsSaid unit) (says unit) before after result refl room added
 
-    pub skip_full : (S T : Type 0) (unit : ScrubUnit) (t : Tally) (halt : Halt) → Begins {T = S} t.journal.entries.items (Err halt) → AddsPart {T = T} (IsSkip unit) t t (Err halt)
-    skip_full S T unit t halt full = none_full S T (IsSkip unit) (skips unit) [] t halt refl full
+    pub verdict_full : (S T : Type 0) (unit : ScrubUnit) (t : Tally) (halt : Halt) → Begins {T = S} t.journal.entries.items (Err halt) → AddsPart {T = T} (IsSaid unit) t t (Err halt)
+    verdict_full S T unit t halt full = none_full S T (IsSaid unit) (says unit) [] t halt refl full
 
-    pub skips_added : {S T : Type 0} (a b c : Tally) (done : S) (result : Result T Halt) → AddsPart {T = S} (IsSkip units.Free) a b (Ok done) → AddsPart (IsSkip units.Refc) b c result → AddsPart (AreSkipped needed g) a c result
-    skips_added a b c done result free counts = then_added (IsSkip units.Free) (IsSkip units.Refc) (AreSkipped needed g) a b c done result (λ es fs p q. λ i. p i ++ q i) free counts
+    pub verdicts_added : {S T : Type 0} (a b c : Tally) (done : S) (result : Result T Halt) → AddsPart {T = S} (IsSaid units.Free) a b (Ok done) → AddsPart (IsSaid units.Refc) b c result → AddsPart (HaveVerdict verdict g) a c result
+    verdicts_added a b c done result free counts = then_added (IsSaid units.Free) (IsSaid units.Refc) (HaveVerdict verdict g) a b c done result (λ es fs p q. λ i. p i ++ q i) free counts
 
-    pub skip_stops : (S T : Type 0) (a b : Tally) (halt : Halt) → AddsPart {T = S} (IsSkip units.Free) a b (Err halt) → AddsPart {T = T} (AreSkipped needed g) a b (Err halt)
-    skip_stops S T a b halt h = stops_before S T (IsSkip units.Free) (AreSkipped needed g) (event 0 (skips units.Refc) ∷ []) a b halt (λ es p. ap (λ (x : List Event). x ++ event 0 (skips units.Refc) ∷ []) p) h
+    pub verdict_stops : (S T : Type 0) (a b : Tally) (halt : Halt) → AddsPart {T = S} (IsSaid units.Free) a b (Err halt) → AddsPart {T = T} (HaveVerdict verdict g) a b (Err halt)
+    verdict_stops S T a b halt h = stops_before S T (IsSaid units.Free) (HaveVerdict verdict g) (event 0 (says units.Refc) ∷ []) a b halt (λ es p. ap (λ (x : List Event). x ++ event 0 (says units.Refc) ∷ []) p) h
 
-    pub skips_full : (S T : Type 0) (t : Tally) (halt : Halt) → Begins {T = S} t.journal.entries.items (Err halt) → AddsPart {T = T} (AreSkipped needed g) t t (Err halt)
-    skips_full S T t halt full = none_full S T (AreSkipped needed g) (skips units.Free) (event 0 (skips units.Refc) ∷ []) t halt refl full
+    pub verdicts_full : (S T : Type 0) (t : Tally) (halt : Halt) → Begins {T = S} t.journal.entries.items (Err halt) → AddsPart {T = T} (HaveVerdict verdict g) t t (Err halt)
+    verdicts_full S T t halt full = none_full S T (HaveVerdict verdict g) (says units.Free) (event 0 (says units.Refc) ∷ []) t halt refl full
 
   pub as_skipped : {T : Type 0} (needed : Place) (a b : Tally) (result : Result T Halt) → needed ≡ (g, units.Rmap) → AddsPart (AreSkipped needed g) a b result → AddsPart (IsSpacePart g) a b result
   as_skipped needed a b result is h = as_added (AreSkipped needed g) (IsSpacePart g) a b result (λ es p. inr (subst (λ (n : Place). AreSkipped n g es) is p)) h
+
+  pub as_given_up : {T : Type 0} (block : ℕ) (a b : Tally) (result : Result T Halt) → AddsPart (AreGivenUp block g) a b result → AddsPart (IsSpacePart g) a b result
+  as_given_up block a b result h =
+      let bad = BadTree Rmap block in
+      as_added (AreGivenUp block g) (IsSpacePart g) a b result
+      (λ es p. inl (record { free = gave_up_event g units.Free bad; counts = gave_up_event g units.Refc bad; free_judged = inr (bad, refl); counts_judged = inr (bad, refl); both = p })) h
 
 -- ---- groups, one after the other
 

@@ -1,6 +1,7 @@
 pub mod AddedLemmas
 pub mod CheckLemmas
 pub mod HeadLemmas
+pub mod InodeLemmas
 pub mod JudgedLemmas
 pub mod KeptLemmas
 pub mod KeptToldLemmas

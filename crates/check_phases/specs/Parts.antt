@@ -4,11 +4,14 @@
 use Rattle.std.specs.Prelude.{◌≡◌, ℕ, zero, suc, ◌+◌, ◌-◌, ◌⊎◌, List, [], ◌∷◌, ◌++◌, Result}
 use Rattle.fs_derive.specs.Session.{Place}
 use Rattle.fs_model.specs.declared.claim.Evidence.{Evidence}
+use Rattle.fs_model.specs.declared.claim.Evidence.TheVariants.{BadTree}
 use Rattle.fs_model.specs.declared.fault.Fault.{Fault}
 use Rattle.fs_model.specs.declared.unit.Unit.{Unit as ScrubUnit}
 use Rattle.fs_model.specs.declared.unit.Unit.TheVariants as units
 use Rattle.fs_model.specs.declared.verdict.Reason.TheVariants.{Contradiction}
+use Rattle.fs_model.specs.declared.verdict.Verdict.{Verdict}
 use Rattle.fs_model.specs.declared.verdict.Verdict.TheVariants.{GaveUp, Skipped}
+use Rattle.sblock.specs.declared.kind.Kind.TheVariants.{Rmap}
 use Rattle.space_check.specs.Events.{Event, Does}
 use Rattle.space_check.specs.Groups.{event, verdict_entries}
 use Rattle.space_check.specs.Session.{unit_event}
@@ -48,9 +51,17 @@ pub record AreJudged (g : ℕ) (events : List Event) : Type 0 where
   pub counts_judged : IsJudgedEvent g units.Refc counts
   pub both : events ≡ free ∷ counts ∷ []
 
+-- both get this verdict, without a fault before it
+abbrev pub HaveVerdict : Verdict → ℕ → List Event → Type 0
+HaveVerdict verdict g events = events ≡ event 0 (verdict_entries g units.Free verdict) ∷ event 0 (verdict_entries g units.Refc verdict) ∷ []
+
 -- both are skipped for this unit
 abbrev pub AreSkipped : Place → ℕ → List Event → Type 0
-AreSkipped needed g events = events ≡ skipped_event g units.Free needed.0 needed.1 ∷ skipped_event g units.Refc needed.0 needed.1 ∷ []
+AreSkipped needed g events = HaveVerdict (Skipped needed.0 needed.1) g events
+
+-- both are given up for this block of the reverse mappings
+abbrev pub AreGivenUp : ℕ → ℕ → List Event → Type 0
+AreGivenUp block g events = HaveVerdict (GaveUp (Contradiction (BadTree Rmap block))) g events
 
 -- free space and reference counts of a group are judged, or both are skipped for its reverse mappings
 abbrev pub IsSpacePart : ℕ → List Event → Type 0

@@ -1,9 +1,10 @@
-ghost use Rattle.std.specs.Prelude.{◌≡◌, ◌+◌, ◌<◌, ◌≤◌, Some, IfErr, IfOk};
+ghost use Rattle.std.specs.Prelude.{◌≡◌, ◌+◌, ◌<◌, ◌≤◌, Some, IfErr, IfOk, OnOk};
 ghost use Rattle.blk_device.specs.Causes.{HasCause};
 ghost use Rattle.blk_device.specs.Contents.{Contents};
 ghost use Rattle.blk_device.specs.Reading.{OnlyRead};
 ghost use Rattle.blk_device.specs.declared.device.Region.TheVariants.{Image};
 ghost use Rattle.check_phases.specs.Checks.{ChecksInode, IsHeadsOf};
+ghost use Rattle.check_phases.specs.InodesKept.{PutsInodes};
 ghost use Rattle.check_phases.specs.Kept.{KeepsGroup};
 ghost use Rattle.check_phases.specs.Parts.{AddsPart, IsInodePart};
 ghost use Rattle.check_phases.specs.Phases.{Inodes, lacks_nothing};
@@ -13,6 +14,7 @@ ghost use Rattle.geom.specs.Places.{layout};
 ghost use Rattle.inode_pass.specs.Units.{opened_state};
 ghost use Rattle.quiet_check.specs.Counted.{inodes_most};
 ghost use Rattle.quiet_check.specs.Judged.{IsJudged};
+ghost use Rattle.quiet_check.specs.Kept.{IsInside, IsKeptOf};
 ghost use Rattle.space_check.specs.Progress.{is_failed, IsOutside};
 ghost use Rattle.tree_walk.specs.Trails.{LieInside};
 
@@ -20,10 +22,9 @@ use crate::tally::Tally;
 use blk_cache::BlkCache;
 use blk_device::Device;
 use byte_fields::Steps;
-use fs_model::Unit;
 use geom::Geometry;
 use group_trees::GroupHeads;
-use quiet_check::{Judged, judge_inodes};
+use quiet_check::{InodesJudged, judge_inodes};
 use space_check::Halt;
 use std::alloc::Global;
 use std::sync::ledger::Ledger;
@@ -36,25 +37,27 @@ fn judge_unit<D: Device, L: Ledger>(
     g: u32,
     heads: &GroupHeads,
     steps: &mut Steps<L>,
-) -> Result<Judged, Halt>
+) -> Result<InodesJudged, Halt>
     requires group { g < geo.now.agcount }
     requires room { geo.now.dblocks ≤ D.blocks dev.old Image }
     requires list { LieInside (group_len_of (layout geo.now) g) heads.now.list.items }
     requires heads { (c : Contents) → D.content dev.old ≡ Some c → IsHeadsOf (layout geo.now) (c Image) g heads.now }
-    ensures exact { IfOk result (λ judged. (c : Contents) → D.content dev.old ≡ Some c → IsJudged (opened_state (layout geo.now) (c Image)) g units.Inode judged) }
+    ensures exact { IfOk result (λ found. (c : Contents) → D.content dev.old ≡ Some c → IsJudged (opened_state (layout geo.now) (c Image)) g units.Inode found.judged) }
+    ensures inodes { IfOk result (λ found. (c : Contents) → D.content dev.old ≡ Some c → IsKeptOf (layout geo.now) (c Image) g found.inodes) }
+    ensures inside { IfOk result (λ found. IsInside (layout geo.now) g found.inodes) }
     ensures outside { IfErr result IsOutside }
     ensures counted { (c : Contents) → D.content dev.old ≡ Some c → steps.new.reads ≤ steps.old.reads + inodes_most (layout geo.now) (c Image) g }
     ensures reading { OnlyRead D.Device dev.old dev.new steps.old steps.new }
     ensures cause { HasCause is_failed (D.faults dev.old) (D.faults dev.new) result }
 {
     let mut cache = BlkCache::new(alloc, 0)?;
-    let judged = judge_inodes(alloc, dev, &mut cache, geo, g, heads, steps)?;
-    Ok(judged)
+    let found = judge_inodes(alloc, dev, &mut cache, geo, g, heads, steps)?;
+    Ok(found)
 }
 
-/// Checks the inodes of group `g`, whose heads were accepted: a journal that is full, a device that
-/// failed and want of memory end it, without an entry
-/// (XFS Online Fsck Design, "Metadata Scrubbing").
+/// Checks the inodes of group `g`, whose heads were accepted, and keeps its chunks and what their cores
+/// show of the forks: a journal that is full, a device that failed and want of memory end it, without an
+/// entry (XFS Online Fsck Design, "Metadata Scrubbing").
 pub fn check_inodes<D: Device, L: Ledger>(
     alloc: Global,
     dev: &mut D,
@@ -70,11 +73,12 @@ pub fn check_inodes<D: Device, L: Ledger>(
     requires heads { (c : Contents) → D.content dev.old ≡ Some c → IsHeadsOf (layout geo.now) (c Image) g heads.now }
     ensures exact { (c : Contents) → D.content dev.old ≡ Some c → ChecksInode (layout geo.now) (c Image) g tally.old tally.new result }
     ensures added { AddsPart (IsInodePart g) tally.old tally.new result }
+    ensures inodes { OnOk result (PutsInodes (layout geo.now) (D.content dev.old) g 1 tally.old.inodes.items tally.new.inodes.items) }
     ensures kept { KeepsGroup (layout geo.now) (D.content dev.old) Inodes lacks_nothing g tally.old steps.old.reads tally.new steps.new.reads result }
     ensures reading { OnlyRead D.Device dev.old dev.new steps.old steps.new }
     ensures cause { HasCause is_failed (D.faults dev.old) (D.faults dev.new) result }
 {
     tally.begin()?;
-    let judged = judge_unit(alloc, dev, geo, g, heads, steps)?;
-    tally.add(alloc, g, Unit::Inode, &judged)
+    let found = judge_unit(alloc, dev, geo, g, heads, steps)?;
+    tally.add_inodes(alloc, g, found)
 }

@@ -1,9 +1,10 @@
-ghost use Rattle.std.specs.Prelude.{◌≡◌, ◌-◌, ◌<◌, ◌≤◌, Some, length};
+ghost use Rattle.std.specs.Prelude.{◌≡◌, ◌-◌, ◌<◌, ◌≤◌, Some, OnOk, length};
 ghost use Rattle.blk_device.specs.Causes.{HasCause};
 ghost use Rattle.blk_device.specs.Contents.{Contents};
 ghost use Rattle.blk_device.specs.Reading.{OnlyRead};
 ghost use Rattle.blk_device.specs.declared.device.Region.TheVariants.{Image};
 ghost use Rattle.check_phases.specs.Checks.{AreAccepted, AreHeads, AreReadable, ChecksInode, ChecksInodes, ChecksSpaceOf, ChecksSpaces};
+ghost use Rattle.check_phases.specs.InodesKept.{PutsInodes};
 ghost use Rattle.check_phases.specs.Kept.{KeepsGroup, KeepsPart};
 ghost use Rattle.check_phases.specs.Parts.{AddsPart, AddsParts, IsInodePart, IsSpacePart};
 ghost use Rattle.check_phases.specs.Phases.{Inodes, Space, lacks_mappings, lacks_nothing};
@@ -56,6 +57,7 @@ fn check_inodes_of<D: Device, L: Ledger>(
     requires heads { (c : Contents) → D.content dev.old ≡ Some c → AreHeads (layout geo.now) (c Image) 0 heads.now }
     ensures exact { (c : Contents) → D.content dev.old ≡ Some c → ChecksInode (layout geo.now) (c Image) g tally.old tally.new result }
     ensures added { AddsPart (IsInodePart g) tally.old tally.new result }
+    ensures inodes { OnOk result (PutsInodes (layout geo.now) (D.content dev.old) g 1 tally.old.inodes.items tally.new.inodes.items) }
     ensures kept { KeepsGroup (layout geo.now) (D.content dev.old) Inodes lacks_nothing g tally.old steps.old.reads tally.new steps.new.reads result }
     ensures reading { OnlyRead D.Device dev.old dev.new steps.old steps.new }
     ensures cause { HasCause is_failed (D.faults dev.old) (D.faults dev.new) result }
@@ -64,8 +66,9 @@ fn check_inodes_of<D: Device, L: Ledger>(
 }
 
 /// Checks the inodes of these groups: the unit of each group with its faults and its verdict, or given
-/// up with the first evidence, in the groups' order. A journal that is full, a device that failed and
-/// want of memory end it, each unit with all its entries or none
+/// up with the first evidence, in the groups' order. Of each group whose inodes could be judged its chunks
+/// are kept, and what their cores show of the forks. A journal that is full, a device that failed and want
+/// of memory end it, each unit with all its entries or none
 /// (XFS Online Fsck Design, "Metadata Scrubbing").
 pub fn check_inode_part<D: Device, L: Ledger, W: Watch>(
     alloc: Global,
@@ -85,6 +88,7 @@ pub fn check_inode_part<D: Device, L: Ledger, W: Watch>(
     requires heads { (c : Contents) → D.content dev.old ≡ Some c → AreHeads (layout geo.now) (c Image) 0 heads.now }
     ensures exact { (c : Contents) → D.content dev.old ≡ Some c → ChecksInodes (layout geo.now) (c Image) part tally.old tally.new result }
     ensures added { AddsParts IsInodePart part tally.old tally.new result }
+    ensures inodes { OnOk result (PutsInodes (layout geo.now) (D.content dev.old) part.from (part.to - part.from) tally.old.inodes.items tally.new.inodes.items) }
     ensures kept { KeepsPart (layout geo.now) (D.content dev.old) Inodes lacks_nothing part tally.old steps.old.reads tally.new steps.new.reads result }
     ensures reading { OnlyRead D.Device dev.old dev.new steps.old steps.new }
     ensures cause { HasCause is_failed (D.faults dev.old) (D.faults dev.new) result }
@@ -115,6 +119,7 @@ fn check_space_of<D: Device, L: Ledger>(
     requires readable { (c : Contents) → D.content dev.old ≡ Some c → AreReadable (opened_state (layout geo.now) (c Image)) passed.now }
     ensures exact { (c : Contents) → D.content dev.old ≡ Some c → ChecksSpaceOf (layout geo.now) (c Image) passed.now g tally.old tally.new result }
     ensures added { AddsPart (IsSpacePart g) tally.old tally.new result }
+    ensures inodes { tally.new.inodes ≡ tally.old.inodes }
     ensures kept { KeepsGroup (layout geo.now) (D.content dev.old) Space (lacks_mappings passed.now) g tally.old steps.old.reads tally.new steps.new.reads result }
     ensures reading { OnlyRead D.Device dev.old dev.new steps.old steps.new }
     ensures cause { HasCause is_failed (D.faults dev.old) (D.faults dev.new) result }
@@ -146,6 +151,7 @@ pub fn check_space_part<D: Device, L: Ledger, W: Watch>(
     requires readable { (c : Contents) → D.content dev.old ≡ Some c → AreReadable (opened_state (layout geo.now) (c Image)) passed.now }
     ensures exact { (c : Contents) → D.content dev.old ≡ Some c → ChecksSpaces (layout geo.now) (c Image) part passed.now tally.old tally.new result }
     ensures added { AddsParts IsSpacePart part tally.old tally.new result }
+    ensures inodes { tally.new.inodes ≡ tally.old.inodes }
     ensures kept { KeepsPart (layout geo.now) (D.content dev.old) Space (lacks_mappings passed.now) part
         tally.old steps.old.reads tally.new steps.new.reads result }
     ensures reading { OnlyRead D.Device dev.old dev.new steps.old steps.new }

@@ -5,7 +5,7 @@ ghost use Rattle.blk_device.specs.Reading.{OnlyRead};
 ghost use Rattle.blk_device.specs.declared.device.Region.TheVariants.{Image};
 ghost use Rattle.check_phases.specs.Checks.{AreReadable, ChecksBoth, ChecksCounts, ChecksFree, ChecksSpace, ChecksSpaceOf, HasMappings};
 ghost use Rattle.check_phases.specs.Kept.{KeepsBoth, KeepsCounts, KeepsFree, KeepsGroup};
-ghost use Rattle.check_phases.specs.Parts.{AddsPart, AreSkipped, IsJudgedPart, IsSpacePart};
+ghost use Rattle.check_phases.specs.Parts.{AddsPart, AreGivenUp, AreSkipped, IsJudgedPart, IsSpacePart};
 ghost use Rattle.check_phases.specs.Phases.{Space, lacks_mappings, lacks_nothing};
 ghost use Rattle.fs_model.specs.declared.unit.Unit.TheVariants as units;
 ghost use Rattle.fs_state.specs.Kinds.{heads_of};
@@ -51,6 +51,7 @@ fn check_free<D: Device, L: Ledger>(
     requires begun { length tally.old.journal.entries.items < most_entries }
     ensures exact { (c : Contents) → D.content dev.old ≡ Some c → ChecksFree (layout geo.now) (c Image) g agf.now mapped.now tally.old tally.new result }
     ensures added { AddsPart (IsJudgedPart g units.Free) tally.old tally.new result }
+    ensures inodes { tally.new.inodes ≡ tally.old.inodes }
     ensures kept { KeepsFree (layout geo.now) (D.content dev.old) g agf.now mapped.now tally.old steps.old.reads tally.new steps.new.reads result }
     ensures reading { OnlyRead D.Device dev.old dev.new steps.old steps.new }
     ensures cause { HasCause is_failed (D.faults dev.old) (D.faults dev.new) result }
@@ -75,6 +76,7 @@ fn check_counts<D: Device, L: Ledger>(
     requires room { geo.now.dblocks ≤ D.blocks dev.old Image }
     ensures exact { (c : Contents) → D.content dev.old ≡ Some c → ChecksCounts (layout geo.now) (c Image) g agf.now mapped.now tally.old tally.new result }
     ensures added { AddsPart (IsJudgedPart g units.Refc) tally.old tally.new result }
+    ensures inodes { tally.new.inodes ≡ tally.old.inodes }
     ensures kept { KeepsCounts (layout geo.now) (D.content dev.old) g agf.now mapped.now tally.old steps.old.reads tally.new steps.new.reads result }
     ensures reading { OnlyRead D.Device dev.old dev.new steps.old steps.new }
     ensures cause { HasCause is_failed (D.faults dev.old) (D.faults dev.new) result }
@@ -101,6 +103,7 @@ fn check_both<D: Device, L: Ledger>(
     requires begun { length tally.old.journal.entries.items < most_entries }
     ensures exact { (c : Contents) → D.content dev.old ≡ Some c → ChecksBoth (layout geo.now) (c Image) g agf.now mapped.now tally.old tally.new result }
     ensures added { AddsPart (IsSpacePart g) tally.old tally.new result }
+    ensures inodes { tally.new.inodes ≡ tally.old.inodes }
     ensures kept { KeepsBoth (layout geo.now) (D.content dev.old) g agf.now mapped.now tally.old steps.old.reads tally.new steps.new.reads result }
     ensures reading { OnlyRead D.Device dev.old dev.new steps.old steps.new }
     ensures cause { HasCause is_failed (D.faults dev.old) (D.faults dev.new) result }
@@ -113,7 +116,8 @@ fn check_both<D: Device, L: Ledger>(
 // in between.
 fn give_up_both(alloc: Global, g: u32, block: u32, tally: &mut Tally) -> Result<(), Halt>
     requires begun { length tally.old.journal.entries.items < most_entries }
-    ensures added { AddsPart (IsSpacePart g) tally.old tally.new result }
+    ensures added { AddsPart (AreGivenUp block g) tally.old tally.new result }
+    ensures inodes { tally.new.inodes ≡ tally.old.inodes }
     ensures own { IfErr result IsOwn }
 {
     let judged = Judged::GaveUp(Evidence::BadTree {
@@ -141,6 +145,7 @@ fn check_mapped<D: Device, L: Ledger>(
     requires readable { (c : Contents) → D.content dev.old ≡ Some c → HasMappings (opened_state (layout geo.now) (c Image)) g }
     ensures exact { (c : Contents) → D.content dev.old ≡ Some c → ChecksSpace (opened_state (layout geo.now) (c Image)) None g tally.old tally.new result }
     ensures added { AddsPart (IsSpacePart g) tally.old tally.new result }
+    ensures inodes { tally.new.inodes ≡ tally.old.inodes }
     ensures kept { KeepsGroup (layout geo.now) (D.content dev.old) Space lacks_nothing g tally.old steps.old.reads tally.new steps.new.reads result }
     ensures reading { OnlyRead D.Device dev.old dev.new steps.old steps.new }
     ensures cause { HasCause is_failed (D.faults dev.old) (D.faults dev.new) result }
@@ -158,6 +163,7 @@ fn check_mapped<D: Device, L: Ledger>(
 fn skip_both(g: u32, needed: (u32, Unit), tally: &mut Tally) -> Result<(), Halt>
     ensures exact { (a : State) → ChecksSpace a (Some needed) g tally.old tally.new result }
     ensures added { AddsPart (AreSkipped needed g) tally.old tally.new result }
+    ensures inodes { tally.new.inodes ≡ tally.old.inodes }
     ensures own { IfErr result IsOwn }
 {
     tally.begin()?;
@@ -185,6 +191,7 @@ pub fn check_space<D: Device, L: Ledger>(
     requires readable { (c : Contents) → D.content dev.old ≡ Some c → AreReadable (opened_state (layout geo.now) (c Image)) passed.now }
     ensures exact { (c : Contents) → D.content dev.old ≡ Some c → ChecksSpaceOf (layout geo.now) (c Image) passed.now g tally.old tally.new result }
     ensures added { AddsPart (IsSpacePart g) tally.old tally.new result }
+    ensures inodes { tally.new.inodes ≡ tally.old.inodes }
     ensures kept { KeepsGroup (layout geo.now) (D.content dev.old) Space (lacks_mappings passed.now) g tally.old steps.old.reads tally.new steps.new.reads result }
     ensures reading { OnlyRead D.Device dev.old dev.new steps.old steps.new }
     ensures cause { HasCause is_failed (D.faults dev.old) (D.faults dev.new) result }

@@ -2,16 +2,19 @@ ghost use Rattle.std.specs.Prelude.{◌≡◌};
 ghost use Rattle.check_phases.specs.Entries.{passes_as};
 
 use fs_model::{Unit, Verdict};
-use quiet_check::{Judged, add_judged};
+use inode_pass::GroupInodes;
+use quiet_check::{InodesJudged, Judged, add_judged};
 use space_check::{Halt, Journal};
 use std::alloc::Global;
 
 /// The journal of a check so far, and of each unit in it whether it passed: it was judged, and there
-/// was no fault (XFS Online Fsck Design, "Metadata Scrubbing").
+/// was no fault; and what is kept of the inodes of each group whose inodes were judged, group by group
+/// (XFS Online Fsck Design, "Metadata Scrubbing").
 #[derive(Drop)]
 pub struct Tally {
     pub journal: Journal,
     pub passed: Vec<bool>,
+    pub inodes: Vec<GroupInodes>,
 }
 
 // Whether a unit that was judged so has passed.
@@ -28,6 +31,7 @@ impl Tally {
     ghost use Rattle.std.specs.Prelude.{◌≡◌, ◌++◌, ◌∷◌, [], false, OnOk};
     ghost use Rattle.check_phases.specs.Entries.{passes_as};
     ghost use Rattle.quiet_check.specs.Entries.{entries_of};
+    ghost use Rattle.fs_model.specs.declared.unit.Unit.TheVariants as units;
     ghost use Rattle.fs_model.specs.declared.verdict.Verdict.TheVariants.{Skipped};
     ghost use Rattle.space_check.specs.Groups.{verdict_entries};
     ghost use Rattle.space_check.specs.Progress.{Adds, Begins};
@@ -36,10 +40,12 @@ impl Tally {
     pub fn new(alloc: Global) -> Self
         ensures journal { result.journal.entries.items ≡ [] }
         ensures passed { result.passed.items ≡ [] }
+        ensures inodes { result.inodes.items ≡ [] }
     {
         Tally {
             journal: Journal::new(alloc),
             passed: Vec::new(alloc),
+            inodes: Vec::new(alloc),
         }
     }
 
@@ -56,6 +62,7 @@ impl Tally {
     pub fn skip(&mut self, group: u32, unit: Unit, needed: (u32, Unit)) -> Result<(), Halt>
         ensures added { Adds self.old.journal.entries.items (verdict_entries group unit (Skipped needed.0 needed.1)) self.new.journal.entries.items result }
         ensures passed { OnOk result (self.new.passed.items ≡ self.old.passed.items ++ false ∷ []) }
+        ensures inodes { self.new.inodes ≡ self.old.inodes }
     {
         self.passed.push(false)?;
         self.journal
@@ -74,9 +81,22 @@ impl Tally {
     ) -> Result<(), Halt>
         ensures added { Adds self.old.journal.entries.items (entries_of group unit judged.now) self.new.journal.entries.items result }
         ensures passed { OnOk result (self.new.passed.items ≡ self.old.passed.items ++ passes_as judged.now ∷ []) }
+        ensures inodes { self.new.inodes ≡ self.old.inodes }
     {
         // First: where there is no memory for it, the unit has no entries either.
         self.passed.push(has_passed(judged))?;
         add_judged(&mut self.journal, alloc, group, unit, judged)
+    }
+
+    /// Adds what was found of the inodes of group `group` as `add` does, and puts what is kept of them
+    /// behind that of the groups before (XFS Online Fsck Design, "Metadata Scrubbing").
+    pub fn add_inodes(&mut self, alloc: Global, group: u32, found: InodesJudged) -> Result<(), Halt>
+        ensures added { Adds self.old.journal.entries.items (entries_of group units.Inode found.judged) self.new.journal.entries.items result }
+        ensures passed { OnOk result (self.new.passed.items ≡ self.old.passed.items ++ passes_as found.judged ∷ []) }
+        ensures kept { OnOk result (self.new.inodes.items ≡ self.old.inodes.items ++ found.inodes ∷ []) }
+    {
+        let InodesJudged { judged, inodes } = found;
+        self.inodes.push(inodes)?;
+        self.add(alloc, group, Unit::Inode, &judged)
     }
 }

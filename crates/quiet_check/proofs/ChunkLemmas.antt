@@ -113,7 +113,7 @@ filter_if : (q : ℕ → Bool) (b : Bool) (u : ℕ) (rest : List ℕ) → filter
 filter_if q true u rest = refl
 filter_if q false u rest = refl
 
-twice : (p q : ℕ → Bool) (us : List ℕ) → filter q (filter p us) ≡ filter (λ u. p u && q u) us
+pub twice : (p q : ℕ → Bool) (us : List ℕ) → filter q (filter p us) ≡ filter (λ u. p u && q u) us
 twice p q [] = refl
 twice p q (u ∷ us) = filter_if q (p u) u (filter p us) ∙ ap (λ (rest : List ℕ). if p u && q u then u ∷ rest else rest) (twice p q us)
 

@@ -42,7 +42,9 @@ use Rattle.group_trees.specs.Heads.{heads_seen}
 use Rattle.quiet_check.specs.Judged.{AreUnitsOf, Decided, Gathered, IsJudged, cores_in, later_evidence, overlap_of}
 use Rattle.quiet_check.specs.Chunks.{bad_where, chunk_numbers}
 use Rattle.group_trees.specs.Trees.{FewBlocks, IsSound, RisesIfRead, reading_of}
-use Rattle.quiet_check.specs.Units.{AreListed}
+use Rattle.quiet_check.specs.Units.{AreListed, evidence_in}
+use Rattle.quiet_check.specs.Counted.{inodes_most, tree_evidence, unless_decided}
+use Rattle.group_trees.specs.Counted.{trees_most}
 use Rattle.quiet_check.specs.declared.judge.Judged.TheVariants.{Faults}
 use Rattle.group_trees.specs.declared.reads.TreeSeen.{TreeSeen}
 use Rattle.group_trees.specs.declared.reads.TreeSeen.TheVariants as trees
@@ -250,7 +252,7 @@ module _ (at : Layout) (image : Image) (g : ℕ) where
 listings : (at : Layout) (image : Image) (g : ℕ) (trees : GroupTrees) → g < at.agcount → AreTrees at image g trees → AreListings (opened_state at image) g (group_len_of at g) (recs_of (reading_of trees.ino)) (recs_of (reading_of trees.rmap))
 listings at image g trees gl are = record { group = gl; whole = refl; chunks = ap recs_of are.ino; owners = ap recs_of are.rmap }
 
-units_said : (at : Layout) (image : Image) (g : ℕ) (trees : GroupTrees) (seen : List UnitSeen) → g < at.agcount → AreTrees at image g trees → AreUnitsOf at g trees seen → unit_numbers seen ≡ filter (is_listed (opened_state at image) g) (numbers 0 (group_len_of at g / 8))
+pub units_said : (at : Layout) (image : Image) (g : ℕ) (trees : GroupTrees) (seen : List UnitSeen) → g < at.agcount → AreTrees at image g trees → AreUnitsOf at g trees seen → unit_numbers seen ≡ filter (is_listed (opened_state at image) g) (numbers 0 (group_len_of at g / 8))
 units_said at image g trees seen gl are listed =
     let inos = recs_of (reading_of trees.ino) in
     let maps = recs_of (reading_of trees.rmap) in
@@ -313,6 +315,30 @@ cores_decide at image g trees j are none left =
     decided_as (later_evidence (opened_state at image) g) (evidence (opened_state at image) g units.Inode) (faults (opened_state at image) g units.Inode) j
     (sym (tree_part at image g trees are ∙ none_first (later_in Ino (reading_of trees.ino)) (later_in Fino (reading_of trees.fino)) (if is_readable (reading_of trees.ino) then None else bad_block (reading_of trees.rmap)) (bad_chunk (opened_state at image) g) (overlap_of (opened_state at image) g) (sym none)))
     left
+
+-- ---- how much is read
+
+grouped : (x y z : Option Evidence) → first_of_all (x ∷ y ∷ z ∷ []) ≡ first_of_all (first_of_all (x ∷ y ∷ []) ∷ z ∷ [])
+grouped (Some a) y z = refl
+grouped None (Some a) z = refl
+grouped None None z = refl
+
+trees_said : (at : Layout) (image : Image) (g : ℕ) (trees : GroupTrees) → AreTrees at image g trees → evidence_in trees ≡ tree_evidence (opened_state at image) g
+unfolding first_later bad_tree
+trees_said at image g trees are =
+    grouped (later_in Ino (reading_of trees.ino)) (later_in Fino (reading_of trees.fino)) (if is_readable (reading_of trees.ino) then None else bad_block (reading_of trees.rmap))
+    ∙ (λ i. first_of_all (first_of_all (later_in Ino (sym are.ino i) ∷ later_in Fino (sym are.fino i) ∷ []) ∷ (if is_readable (sym are.ino i) then None else bad_block (sym are.rmap i)) ∷ []))
+
+-- the btrees, and then the cores where these don't decide
+pub inodes_few : (at : Layout) (image : Image) (g : ℕ) (trees : GroupTrees) (before now after : ℕ) → AreTrees at image g trees → now ≤ before + trees_most at image g → after ≤ now + unless_decided (evidence_in trees) (group_len_of at g) → after ≤ before + inodes_most at image g
+unfolding inodes_most
+inodes_few at image g trees before now after are first second =
+    let cores = subst (λ (o : Option Evidence). after ≤ now + unless_decided o (group_len_of at g)) (trees_said at image g trees are) second in
+    omega (arith, first, cores)
+
+-- no evidence of the btrees
+pub cores_read : (before after len : ℕ) (found : Option Evidence) → None ≡ found → after ≤ before + len → after ≤ before + unless_decided found len
+cores_read before after len found none read = subst (λ (o : Option Evidence). after ≤ before + unless_decided o len) none read
 
 -- ---- the numbers of units are small
 

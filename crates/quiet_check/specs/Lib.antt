@@ -3,5 +3,6 @@ pub mod Counted
 pub mod Entries
 pub mod Faults
 pub mod Judged
+pub mod Kept
 pub mod Space
 pub mod Units

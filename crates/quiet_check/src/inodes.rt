@@ -46,8 +46,8 @@ fn judge_by<D: Device, L: Ledger>(
     ensures counted { (c : Contents) → D.content dev.old ≡ Some c → steps.new.reads ≤ steps.old.reads + inodes_most (layout geo.now) (c Image) g }
 {
     let mut cache = BlkCache::new(alloc, 0)?;
-    let judged = judge_inodes(alloc, dev, &mut cache, geo, g, heads, steps)?;
-    Ok(judged)
+    let found = judge_inodes(alloc, dev, &mut cache, geo, g, heads, steps)?;
+    Ok(found.judged)
 }
 
 /// Checks the inodes of group `g`: what the check adds to the journal, whatever that has so far,

@@ -15,6 +15,6 @@ pub use entries::add_judged;
 pub use evidence::{later_in, tree_evidence};
 pub use faults::{add_counter, blocks_in, index_faults, inode_faults};
 pub use inodes::check_inodes;
-pub use judge::{Judged, judge_inodes};
+pub use judge::{InodesJudged, Judged, judge_inodes};
 pub use space::{judge_counts, judge_free_space};
 pub use units::{Listed, list_units};

@@ -10,6 +10,7 @@ use Rattle.check_phases.proofs.PartLemmas.{part_begun, part_ended, part_goes_on,
 use Rattle.space_check.proofs.EventLemmas.{err_cause, with_err}
 use Rattle.check_phases.proofs.AddedLemmas.{any_judged, groups_begun, groups_ended, groups_go_on, groups_stop}
 use Rattle.check_phases.specs.Parts.{AddsGroups, IsInodePart}
+use Rattle.check_phases.proofs.InodeLemmas.{puts_ended, puts_next, puts_none}
 use Rattle.check_phases.proofs.KeptToldLemmas.{keep_begun, keep_ended, keep_on, keep_stop}
 use Rattle.check_phases.specs.Kept.{KeepsPart, most_in}
 use Rattle.check_phases.proofs.part.check_inode_part.Goals as goal
@@ -19,6 +20,7 @@ loop-g-init g c = record {
   exact = λ m e. part_begun (opened_state (layout c.args.geo.now) (m Image)) Inodes lacks_nothing c.args.part.from (c.args.part.from - c.args.part.from) c.args.tally.now (omega arith);
   added = groups_begun IsInodePart c.args.part.from (c.args.part.from - c.args.part.from) c.args.tally.now (omega arith);
   kept = keep_begun (most_in (layout c.args.geo.now)) (layout c.args.geo.now) (g.D.Device.content c.args.dev.now) Inodes lacks_nothing c.args.part.from (c.args.part.from - c.args.part.from) c.args.tally.now c.args.steps.now.reads (omega arith);
+  inodes = puts_none (layout c.args.geo.now) (g.D.Device.content c.args.dev.now) c.args.part.from (c.args.part.from - c.args.part.from) c.args.tally.now.inodes.items (omega arith);
   reading = nothing_read g.D.Device g.met.D.Device.only_now g.met.D.Device.counts_now c.args.dev.now c.args.steps.now;
   calm = refl;
 }
@@ -31,6 +33,7 @@ loop-g-preserved g c = record {
   exact = λ m e. part_goes_on (opened_state (layout c.args.geo.now) (m Image)) Inodes lacks_nothing c.args.part.from c.loop-g.g c.args.tally.now c.loop-g.tally c.check_inodes_of.new.tally c.loop-g.auto.g (c.loop-g.invariant.exact m e) (c.in_ok-check_inodes_of.ensures.exact m (c.loop-g.invariant.reading.same ∙ e));
   added = groups_go_on IsInodePart c.args.part.from c.loop-g.g c.args.tally.now c.loop-g.tally c.check_inodes_of.new.tally c.loop-g.auto.g c.loop-g.invariant.added c.in_ok-check_inodes_of.ensures.added;
   kept = keep_on (most_in (layout c.args.geo.now)) (layout c.args.geo.now) (g.D.Device.content c.args.dev.now) Inodes lacks_nothing c.args.part.from c.loop-g.g c.args.tally.now c.loop-g.tally c.check_inodes_of.new.tally c.args.steps.now.reads c.loop-g.steps.reads c.check_inodes_of.new.steps.reads (g.D.Device.content c.loop-g.dev) c.loop-g.invariant.reading.same c.loop-g.auto.g c.loop-g.invariant.kept c.in_ok-check_inodes_of.ensures.kept;
+  inodes = puts_next (layout c.args.geo.now) (g.D.Device.content c.args.dev.now) c.args.part.from c.loop-g.g c.args.tally.now.inodes.items c.loop-g.tally.inodes.items c.check_inodes_of.new.tally.inodes.items (g.D.Device.content c.loop-g.dev) c.loop-g.invariant.reading.same c.loop-g.auto.g c.loop-g.invariant.inodes c.in_ok-check_inodes_of.ensures.inodes;
   reading = read_on g.D.Device g.met.D.Device.only_now g.met.D.Device.counts_now c.args.dev.now c.loop-g.dev c.check_inodes_of.new.dev c.args.steps.now c.loop-g.steps c.check_inodes_of.new.steps c.loop-g.invariant.reading c.in_ok-check_inodes_of.ensures.reading;
   calm = c.in_ok-check_inodes_of.ensures.cause ∙ c.loop-g.invariant.calm;
 }
@@ -70,3 +73,7 @@ returns-in_err-check_inodes_of-clause-kept g c =
 pub returns-clause-kept : goal.returns-clause-kept
 returns-clause-kept g c =
     keep_ended (most_in (layout c.args.geo.now)) (layout c.args.geo.now) (g.D.Device.content c.args.dev.now) Inodes lacks_nothing c.args.part.from c.args.part.to c.loop-g.g c.args.tally.now c.loop-g.tally c.args.steps.now.reads c.loop-g.steps.reads (let end = c.loop-g.auto.g-end c.requires.order in omega (arith, c.loop-g-test.false, end)) c.loop-g.invariant.kept
+
+pub returns-clause-inodes : goal.returns-clause-inodes
+returns-clause-inodes g c =
+    puts_ended (layout c.args.geo.now) (g.D.Device.content c.args.dev.now) c.args.part.from c.args.part.to c.loop-g.g c.args.tally.now.inodes.items c.loop-g.tally.inodes.items (let end = c.loop-g.auto.g-end c.requires.order in omega (arith, c.loop-g-test.false, end)) c.loop-g.invariant.inodes

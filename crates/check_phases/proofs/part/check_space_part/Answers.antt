@@ -18,6 +18,7 @@ loop-g-init g c = record {
   exact = λ m e. part_begun (opened_state (layout c.args.geo.now) (m Image)) Space (lacks_mappings c.args.passed.now) c.args.part.from (c.args.part.from - c.args.part.from) c.args.tally.now (omega arith);
   added = groups_begun IsSpacePart c.args.part.from (c.args.part.from - c.args.part.from) c.args.tally.now (omega arith);
   kept = keep_begun (most_in (layout c.args.geo.now)) (layout c.args.geo.now) (g.D.Device.content c.args.dev.now) Space (lacks_mappings c.args.passed.now) c.args.part.from (c.args.part.from - c.args.part.from) c.args.tally.now c.args.steps.now.reads (omega arith);
+  inodes = refl;
   reading = nothing_read g.D.Device g.met.D.Device.only_now g.met.D.Device.counts_now c.args.dev.now c.args.steps.now;
   calm = refl;
 }
@@ -33,6 +34,7 @@ loop-g-preserved g c = record {
   exact = λ m e. part_goes_on (opened_state (layout c.args.geo.now) (m Image)) Space (lacks_mappings c.args.passed.now) c.args.part.from c.loop-g.g c.args.tally.now c.loop-g.tally c.check_space_of.new.tally c.loop-g.auto.g (c.loop-g.invariant.exact m e) (c.in_ok-check_space_of.ensures.exact m (c.loop-g.invariant.reading.same ∙ e));
   added = groups_go_on IsSpacePart c.args.part.from c.loop-g.g c.args.tally.now c.loop-g.tally c.check_space_of.new.tally c.loop-g.auto.g c.loop-g.invariant.added c.in_ok-check_space_of.ensures.added;
   kept = keep_on (most_in (layout c.args.geo.now)) (layout c.args.geo.now) (g.D.Device.content c.args.dev.now) Space (lacks_mappings c.args.passed.now) c.args.part.from c.loop-g.g c.args.tally.now c.loop-g.tally c.check_space_of.new.tally c.args.steps.now.reads c.loop-g.steps.reads c.check_space_of.new.steps.reads (g.D.Device.content c.loop-g.dev) c.loop-g.invariant.reading.same c.loop-g.auto.g c.loop-g.invariant.kept c.in_ok-check_space_of.ensures.kept;
+  inodes = c.in_ok-check_space_of.ensures.inodes ∙ c.loop-g.invariant.inodes;
   reading = read_on g.D.Device g.met.D.Device.only_now g.met.D.Device.counts_now c.args.dev.now c.loop-g.dev c.check_space_of.new.dev c.args.steps.now c.loop-g.steps c.check_space_of.new.steps c.loop-g.invariant.reading c.in_ok-check_space_of.ensures.reading;
   calm = c.in_ok-check_space_of.ensures.cause ∙ c.loop-g.invariant.calm;
 }

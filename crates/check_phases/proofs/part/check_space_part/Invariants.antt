@@ -17,6 +17,7 @@ invariant-loop-g g l = record {
   exact : (c : Contents) → g.D.Device.content l.fn.dev ≡ Some c → ChecksPhase {T = Unit {0}} (opened_state (layout l.geo) (c Image)) Space (lacks_mappings l.passed) l.fn.part.from (l.g - l.fn.part.from) l.fn.tally l.tally (Ok tt);
   added : AddsGroups {T = Unit {0}} IsSpacePart l.fn.part.from (l.g - l.fn.part.from) l.fn.tally l.tally (Ok tt);
   kept : KeepsTold {T = Unit {0}} (g.D.Device.content l.fn.dev) (groups_of (most_in (layout l.geo)) (layout l.geo) Space (lacks_mappings l.passed) l.fn.part.from (l.g - l.fn.part.from)) l.fn.tally l.fn.steps.reads l.tally l.steps.reads (Ok tt);
+  inodes : l.tally.inodes ≡ l.fn.tally.inodes;
   reading : OnlyRead g.D.Device l.fn.dev l.dev l.fn.steps l.steps;
   calm : g.D.Device.faults l.dev ≡ g.D.Device.faults l.fn.dev;
 }

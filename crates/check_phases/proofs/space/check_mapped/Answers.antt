@@ -98,3 +98,6 @@ returns-clause-kept g c = λ m e.
     absurd (never_bad (layout c.args.geo.now) (m Image) c.args.g c.args.agf.now c.in_ok-mapped.field-0 c.in-Bad.block c.in-Bad.fault (c.requires.head m e)
     (subst (λ (t : TreeAt). IsReading (tree_of (layout c.args.geo.now) (m Image) t.group rmap_form t.root t.levels) (Ok c.in_ok-mapped.field-0)) c.rmap_tree-tree.ensures (c.in_ok-mapped.ensures.exact m e))
     c.in-Bad.is (c.requires.readable m e))
+
+pub returns-clause-added : goal.returns-clause-added
+returns-clause-added g c = added.as_given_up c.args.g c.in-Bad.block c.args.tally.now c.give_up_both.new.tally c.give_up_both.result c.give_up_both.ensures.added
