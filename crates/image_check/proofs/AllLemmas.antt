@@ -1,7 +1,6 @@
 -- A phase over all groups, and how it ends before its first unit.
 use Rattle.std.proofs.Common.{◌≡◌, ℕ, zero, suc, ◌+◌, ◌-◌, ◌<◌, ◌≤◌, Bool, List, [], ◌∷◌, length, Option, Result, Err, refl, ap, subst, ◌∙◌, arith}
 use Rattle.std.specs.Prelude.{flat_map}
-use Rattle.std.specs.Global.{Vec}
 use Rattle.check_phases.proofs.CheckLemmas.{cut_checks, full_checks}
 use Rattle.check_phases.specs.Checks.{ChecksPhase}
 use Rattle.check_phases.specs.Phases.{Inodes, Mappings, Phase, group_events, group_passes, lacks_nothing, phase_events, phase_passes, unit_event}
@@ -16,6 +15,7 @@ use Rattle.fs_state.specs.Kinds.{Image}
 use Rattle.fs_state.specs.State.{State}
 use Rattle.geom.specs.Layout.{Layout}
 use Rattle.inode_pass.specs.Units.{opened_state}
+use Rattle.inode_pass.specs.declared.note.GroupInodes.{GroupInodes}
 use Rattle.quiet_check.specs.Entries.{entries_after}
 use Rattle.space_check.specs.Events.{most_entries}
 use Rattle.space_check.specs.Progress.{Begins, IsOutside}
@@ -23,8 +23,7 @@ use Rattle.space_check.specs.declared.halt.Halt.{Halt}
 use Rattle.unit_plan.specs.declared.claims.ClaimSet.{ClaimSet}
 use Rattle.image_check.proofs.FallenLemmas.{fallen_is}
 use Rattle.image_check.proofs.PieceLemmas.{set_is}
-use Rattle.image_check.specs.Checked.{AllPass, IsFirstFallen}
-use Rattle.image_check.specs.Chunks.{AreListsOf}
+use Rattle.image_check.specs.Checked.{IsFirstFallen}
 use Rattle.image_check.specs.Mappings.{AreReady}
 
 pub of_whole : {T : Type 0} (a : State) (phase : Phase) (lacks : ℕ → Option Place) (part : Part) (n : ℕ) (x y : Tally) (r : Result T Halt) → part.from ≡ 0 → part.to ≡ n → ChecksPhase a phase lacks part.from (part.to - part.from) x y r → ChecksPhase a phase lacks 0 n x y r
@@ -56,10 +55,7 @@ passes_long a n = singles_long _ 0 n
 pub fallen_said : (at : Layout) (image : Image) (ps : List Bool) (o : Option ℕ) → ps ≡ phase_passes (opened_state at image) Inodes lacks_nothing 0 at.agcount → IsFirstFallen ps at.agcount o → o ≡ inode_fallen (opened_state at image)
 fallen_said at image ps o same is = fallen_is ps at.agcount o (ap (λ (bs : List Bool). length bs) same ∙ passes_long (opened_state at image) at.agcount) is ∙ ap (first_fallen_from 0) same
 
--- ---- lists and sets
+-- ---- what was kept of the inodes, and sets
 
-pub are_chunks : (at : Layout) (image : Image) (lists : List (Vec ℕ)) → AreListsOf at image at.agcount lists → AllPass at image → AreChunks (opened_state at image) lists
-are_chunks at image lists are pass g lt = are g lt (pass g lt)
-
-pub are_ready : (at : Layout) (image : Image) (lists : List (Vec ℕ)) (sets : List ClaimSet) → AreChunks (opened_state at image) lists → AreForkClaims (opened_state at image) sets → AreReady at image lists sets
-are_ready at image lists sets chunks claims g lt = record { none_bad = claims.none; chunked = chunks g lt; forks = set_is (opened_state at image) g sets claims }
+pub are_ready : (at : Layout) (image : Image) (inodes : List GroupInodes) (sets : List ClaimSet) → AreChunks (opened_state at image) inodes → AreForkClaims (opened_state at image) sets → AreReady at image inodes sets
+are_ready at image inodes sets chunks claims g lt = record { none_bad = claims.none; chunked = chunks g lt; forks = set_is (opened_state at image) g sets claims }

@@ -1,11 +1,10 @@
 pub mod AllLemmas
-pub mod ChunkLemmas
 pub mod DecidedLemmas
 pub mod EndLemmas
 pub mod FallenLemmas
 pub mod ForkLemmas
+pub mod InodesLemmas
 pub mod KeptUnitsLemmas
-pub mod ListLemmas
 pub mod MapLemmas
 pub mod PieceLemmas
 pub mod ReadLemmas

@@ -21,10 +21,3 @@ module _ (at : Layout) (g : ℕ) (us : List ℕ) where
 
   pub are_small : HasFitting at → LieIn at g us → All (λ u. u < 2 ^ 26) us
   are_small fit h = small_all (group_len_of at g) us (group_short at g fit) h
-
-lie_all : (len : ℕ) (us : List ℕ) → AreInside len us → All (λ u. 8 * u + 7 < len) us
-lie_all len [] h = All-nil (λ (u : ℕ). 8 * u + 7 < len)
-lie_all len (u ∷ us) h = All-cons (λ (x : ℕ). 8 * x + 7 < len) u us (let le = h.0 in omega (arith, le)) (lie_all len us h.1)
-
-pub lie_in : (at : Layout) (g : ℕ) (us : List ℕ) → AreInside (group_len_of at g) us → LieIn at g us
-lie_in at g us h = lie_all (group_len_of at g) us h

@@ -1,7 +1,6 @@
 -- What the pass over the forks put for a group is what the plan of its reverse mappings takes.
 use Rattle.std.proofs.Common.{◌≡◌, ℕ, List, [], ◌∷◌, ◌++◌, map, refl, sym, subst, ◌∙◌, Option, Some, None}
 use Rattle.std.specs.Prelude.{flat_map}
-use Rattle.std.specs.Global.{Vec}
 use Rattle.std.specs.List.Sorted.{IsPermutation}
 use Rattle.std.proofs.lemmas.List.Sorted.{IsPermutation-refl}
 use Rattle.dinode_core.specs.declared.mapping.Fork.{Fork}
@@ -15,6 +14,7 @@ use Rattle.fs_derive.specs.Claims.{fork_of}
 use Rattle.fs_state.specs.Kinds.{Image}
 use Rattle.fs_state.specs.State.{State}
 use Rattle.geom.specs.Layout.{Layout, split_of}
+use Rattle.inode_pass.specs.declared.note.GroupInodes.{GroupInodes}
 use Rattle.mapping_check.specs.Mapped.{HasForks}
 use Rattle.unit_plan.specs.Group.{fork_pieces, piece_at, pieces_of_inode, tree_piece_at, tree_pieces}
 use Rattle.unit_plan.specs.Group.{mapping_pieces as planned_mappings}
@@ -60,6 +60,6 @@ module _ (a : State) (g : ℕ) where
   pub set_is : (sets : List ClaimSet) → AreForkClaims a sets → IsPermutation (pieces_at sets g) (fork_pieces a g (inodes a))
   set_is sets claims = subst (λ (ps : List Piece). IsPermutation (pieces_at sets g) ps) (claims.each g ∙ pieces_are) (IsPermutation-refl (pieces_at sets g))
 
--- a group's list and set, where the set is still as it was
-pub ready_here : (at : Layout) (image : Image) (g : ℕ) (lists : List (Vec ℕ)) (old now : List ClaimSet) → pieces_at now g ≡ pieces_at old g → IsReady at image lists old g → IsReady at image lists now g
-ready_here at image g lists old now same ready = subst (λ (ps : List Piece). HasForks at image g (units_at lists g) ps) (sym same) ready
+-- a group's chunks and set, where the set is still as it was
+pub ready_here : (at : Layout) (image : Image) (g : ℕ) (inodes : List GroupInodes) (old now : List ClaimSet) → pieces_at now g ≡ pieces_at old g → IsReady at image inodes old g → IsReady at image inodes now g
+ready_here at image g inodes old now same ready = subst (λ (ps : List Piece). HasForks at image g (units_at inodes g) ps) (sym same) ready

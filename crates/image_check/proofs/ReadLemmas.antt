@@ -7,8 +7,8 @@ use Rattle.check_phases.proofs.KeptLemmas.{begun_here, cut_kept}
 use Rattle.check_phases.specs.Kept.{KeepsEvents, StopsKept, begun_of, come, group_kept, kept_event, phase_kept}
 use Rattle.check_phases.specs.Phases.{Mappings, lacks_inodes, lacks_nothing}
 use Rattle.check_phases.specs.declared.tally.Tally.{Tally}
-use Rattle.fork_pass.specs.Counted.{forks_most, units_most}
-use Rattle.fs_derive.specs.Chunks.{chunks}
+use Rattle.fork_pass.specs.Counted.{forks_most, notes_most}
+use Rattle.fork_pass.specs.Passed.{AreChunks, AreNotes, notes_at}
 use Rattle.fs_derive.specs.Lists.{numbers}
 use Rattle.fs_derive.specs.Session.{Place}
 use Rattle.fs_model.specs.declared.entry.Entry.{Entry}
@@ -17,15 +17,17 @@ use Rattle.fs_model.specs.declared.unit.Unit.TheVariants as units
 use Rattle.fs_state.specs.Kinds.{Image}
 use Rattle.fs_state.specs.State.{State}
 use Rattle.geom.specs.Layout.{Layout}
-use Rattle.group_trees.specs.Counted.{kind_most, trees_most}
-use Rattle.ino_recs.specs.Chunks.{ino_form}
+use Rattle.group_trees.specs.Counted.{trees_most}
+use Rattle.inode_pass.specs.Notes.{notes_of}
 use Rattle.inode_pass.specs.Units.{opened_state}
+use Rattle.inode_pass.specs.declared.note.ForkNote.{ForkNote}
+use Rattle.inode_pass.specs.declared.note.GroupInodes.{GroupInodes}
 use Rattle.quiet_check.specs.Entries.{entries_after}
 use Rattle.space_check.specs.Events.{Event, Moment, entries_of, most_entries, reads_of}
 use Rattle.space_check.specs.Groups.{event}
 use Rattle.space_check.specs.declared.halt.Halt.{Halt}
 use Rattle.image_check.specs.Kept.{all_kept, mappings_kept, trees_only}
-use Rattle.image_check.specs.Reads.{chunks_most, forks_first, mappings_most, most_read}
+use Rattle.image_check.specs.Reads.{forks_first, mappings_most, most_read, notes_in}
 
 fold_same : (f h : ℕ → ℕ) (z k n : ℕ) → ((g : ℕ) → k ≤ g → g < k + n → f g ≡ h g) → fold (λ (a x : ℕ). a + f x) z (numbers k n) ≡ fold (λ (a x : ℕ). a + h x) z (numbers k n)
 fold_same f h z k zero same = refl
@@ -37,43 +39,17 @@ sum_same : (f h : ℕ → ℕ) (n : ℕ) → ((g : ℕ) → g < n → f g ≡ h 
 sum_same f h n same = fold_same f h 0 0 n (λ g le lt. same g (omega (arith, lt)))
 
 module _ (at : Layout) (image : Image) where
-  -- ---- the inode btrees of all groups, and all forks
+  -- ---- all forks, by what was kept of the inodes
 
-  one_group : (g : ℕ) → chunks_most at image (suc g) ≡ chunks_most at image g + kind_most ino_form at image g
-  unfolding chunks_most
-  one_group g = refl
-
-  grows : (m k : ℕ) → chunks_most at image m ≤ chunks_most at image (m + k)
-  grows m zero = let e : m ≡ m + 0 = omega arith in subst (λ n. chunks_most at image m ≤ chunks_most at image n) e (omega arith)
-  grows m (suc k) =
-      let e : suc (m + k) ≡ m + suc k = omega arith in
-      subst (λ n. chunks_most at image m ≤ chunks_most at image n) e (omega (arith, grows m k, one_group (m + k)))
-
-  pub no_group : chunks_most at image 0 ≡ 0
-  unfolding chunks_most
-  no_group = refl
-
-  pub next_group : (g reads reads' reads'' : ℕ) → reads' ≤ reads + chunks_most at image g → reads'' ≤ reads' + kind_most ino_form at image g → reads'' ≤ reads + chunks_most at image (g + 1)
-  next_group g reads reads' reads'' so one = let e : suc g ≡ g + 1 = omega arith in subst (λ n. reads'' ≤ reads + chunks_most at image n) e (omega (arith, so, one, one_group g))
-
-  pub last_group : (g n reads reads' reads'' : ℕ) → g < n → reads' ≤ reads + chunks_most at image g → reads'' ≤ reads' + kind_most ino_form at image g → reads'' ≤ reads + chunks_most at image n
-  last_group g n reads reads' reads'' lt so one =
-      let e : suc g + (n - suc g) ≡ n = omega (arith, lt) in
-      let more = subst (λ k. chunks_most at image (suc g) ≤ chunks_most at image k) e (grows (suc g) (n - suc g)) in
-      omega (arith, so, one, one_group g, more)
-
-  pub forks_same : (us vs : ℕ → List ℕ) → ((g : ℕ) → g < at.agcount → us g ≡ vs g) → forks_most at image us ≡ forks_most at image vs
+  forks_same : (ms ns : ℕ → List ForkNote) → ((g : ℕ) → g < at.agcount → ms g ≡ ns g) → forks_most at image ms ≡ forks_most at image ns
   unfolding forks_most
-  forks_same us vs same = sum_same (λ g. units_most at image g (us g)) (λ g. units_most at image g (vs g)) at.agcount (λ g lt. ap (units_most at image g) (same g lt))
+  forks_same ms ns same = sum_same (λ g. notes_most at image g (ms g)) (λ g. notes_most at image g (ns g)) at.agcount (λ g lt. ap (notes_most at image g) (same g lt))
 
-  -- all that is read before
-  pub forks_read : (us : ℕ → List ℕ) (first reads reads' : ℕ) → ((g : ℕ) → g < at.agcount → us g ≡ chunks (opened_state at image) g) → reads ≤ first + chunks_most at image at.agcount → reads' ≤ reads + forks_most at image us → reads' ≤ first + forks_first at image
+  pub forks_read : (inodes : List GroupInodes) (before after : ℕ) → AreChunks (opened_state at image) inodes → AreNotes at image inodes → after ≤ before + forks_most at image (notes_at inodes) → after ≤ before + forks_first at image
   unfolding forks_first
-  forks_read us first reads reads' same before read = omega (arith, before, read, forks_same us (chunks (opened_state at image)) same)
-
-  chunks_within : chunks_most at image at.agcount ≤ forks_first at image
-  unfolding forks_first
-  chunks_within = omega arith
+  forks_read inodes before after chunked noted read =
+      let same = forks_same (notes_at inodes) (notes_in at image) (λ g lt. noted g lt ∙ ap (notes_of at image g) (chunked g lt)) in
+      omega (arith, read, same)
 
   -- ---- the first unit, with all that is read before
 
@@ -155,7 +131,3 @@ module _ (at : Layout) (image : Image) where
   pub all_behind : {T : Type 0} (t u : Tally) (first mid reads : ℕ) (result : Result T Halt) → 1 ≤ at.agcount → length t.journal.entries.items < most_entries → mid ≤ first + forks_first at image
       → KeepsEvents (mappings_kept at 0 at.agcount image) (come t mid) (come u reads) result → KeepsEvents (all_kept at None image) (come t first) (come u reads) result
   all_behind t u first mid reads result some room before h = with_forks at.agcount t u first mid reads result some room before h
-
-  -- the btrees of inodes are within that
-  pub lists_within : (first reads : ℕ) → reads ≤ first + chunks_most at image at.agcount → reads ≤ first + forks_first at image
-  lists_within first reads read = omega (arith, read, chunks_within at image)

@@ -1,6 +1,5 @@
 -- How many blocks are read at most for reverse mappings, and for all units, where the device tells its content.
 use Rattle.std.specs.Prelude.{◌≡◌, ◌≤◌, ℕ, ◌+◌, ◌-◌, List, [], ◌∷◌, Option, None, Some, Result}
-use Rattle.std.specs.Global.{Vec}
 use Rattle.blk_device.specs.Contents.{Contents}
 use Rattle.blk_device.specs.declared.device.Region.TheVariants as regions
 use Rattle.check_phases.specs.Kept.{KeepsEvents, KeepsTold, come, kept_event, phase_kept}
@@ -8,7 +7,6 @@ use Rattle.check_phases.specs.Phases.{Mappings, lacks_inodes, lacks_nothing}
 use Rattle.check_phases.specs.Session.{check_events}
 use Rattle.check_phases.specs.declared.part.Part.{Part}
 use Rattle.check_phases.specs.declared.tally.Tally.{Tally}
-use Rattle.fork_pass.specs.Passed.{units_at}
 use Rattle.fs_derive.specs.Session.{unit_order}
 use Rattle.fs_model.specs.declared.entry.Entry.{Entry}
 use Rattle.fs_model.specs.declared.unit.Unit.{Unit as ScrubUnit}
@@ -17,6 +15,7 @@ use Rattle.fs_state.specs.Kinds.{Image}
 use Rattle.geom.specs.Layout.{Layout}
 use Rattle.group_trees.specs.Counted.{trees_most}
 use Rattle.inode_pass.specs.Units.{opened_state}
+use Rattle.inode_pass.specs.declared.note.GroupInodes.{GroupInodes}
 use Rattle.mapping_check.specs.Mapped.{HasForks}
 use Rattle.space_check.specs.Events.{Event}
 use Rattle.space_check.specs.declared.halt.Halt.{Halt}
@@ -24,7 +23,7 @@ use Rattle.unit_plan.specs.Sets.{pieces_of}
 use Rattle.unit_plan.specs.declared.claims.ClaimSet.{ClaimSet}
 use Rattle.image_check.specs.Image.{ReadsForEvents, bounded, image_events}
 use Rattle.image_check.specs.Mappings.{IsReady}
-use Rattle.image_check.specs.Reads.{chunks_most, most_read}
+use Rattle.image_check.specs.Reads.{most_read}
 
 -- ---- reverse mappings, once all forks were read
 
@@ -40,10 +39,10 @@ abbrev pub KeepsClaims : {T : Type 0} → Layout → Option Contents → ℕ →
 KeepsClaims at told g us set before reads after reads' result =
     (c : Contents) → told ≡ Some c → HasForks at (c regions.Image) g us (pieces_of set) → KeepsEvents (mapping_kept at (c regions.Image) g ∷ []) (come before reads) (come after reads') result
 
--- where that holds of the group's list and set
-abbrev pub KeepsReady : {T : Type 0} → Layout → Option Contents → ℕ → List (Vec ℕ) → List ClaimSet → Tally → ℕ → Tally → ℕ → Result T Halt → Type 0
-KeepsReady at told g lists sets before reads after reads' result =
-    (c : Contents) → told ≡ Some c → IsReady at (c regions.Image) lists sets g → KeepsEvents (mapping_kept at (c regions.Image) g ∷ []) (come before reads) (come after reads') result
+-- where that holds of the group's chunks and set
+abbrev pub KeepsReady : {T : Type 0} → Layout → Option Contents → ℕ → List GroupInodes → List ClaimSet → Tally → ℕ → Tally → ℕ → Result T Halt → Type 0
+KeepsReady at told g inodes sets before reads after reads' result =
+    (c : Contents) → told ≡ Some c → IsReady at (c regions.Image) inodes sets g → KeepsEvents (mapping_kept at (c regions.Image) g ∷ []) (come before reads) (come after reads') result
 
 -- those of n groups from group g on
 abbrev pub mappings_kept : Layout → (g n : ℕ) → Image → List Event
@@ -60,11 +59,6 @@ all_kept at fallen image = phase_kept (most_read at image) (opened_state at imag
 
 abbrev pub KeepsAll : {T : Type 0} → Layout → Option Contents → Option ℕ → Tally → ℕ → Tally → ℕ → Result T Halt → Type 0
 KeepsAll at told fallen before reads after reads' result = KeepsTold told (all_kept at fallen) before reads after reads' result
-
--- none fell, and the inode btrees of all groups were read before, behind so many blocks
-abbrev pub KeepsLists : {T : Type 0} → Layout → Option Contents → Tally → ℕ → Tally → ℕ → Result T Halt → Type 0
-KeepsLists at told before reads after reads' result = (c : Contents) → told ≡ Some c
-    → (first : ℕ) → reads ≤ first + chunks_most at (c regions.Image) at.agcount → KeepsEvents (all_kept at None (c regions.Image)) (come before first) (come after reads') result
 
 -- ---- all units
 

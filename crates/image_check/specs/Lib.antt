@@ -1,6 +1,6 @@
 pub mod Checked
-pub mod Chunks
 pub mod Image
+pub mod Inodes
 pub mod Kept
 pub mod Mappings
 pub mod Reads

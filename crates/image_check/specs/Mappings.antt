@@ -1,6 +1,5 @@
 -- How the reverse mappings of groups are checked, once the forks of all inodes were read.
 use Rattle.std.specs.Prelude.{ℕ, ◌+◌, ◌*◌, ◌-◌, ◌<◌, All, List, Option, None, Result}
-use Rattle.std.specs.Global.{Vec}
 use Rattle.check_phases.specs.Checks.{ChecksPhase, ChecksUnit}
 use Rattle.check_phases.specs.Phases.{Mappings, lacks_nothing}
 use Rattle.check_phases.specs.declared.part.Part.{Part}
@@ -13,6 +12,7 @@ use Rattle.fs_state.specs.Kinds.{Image}
 use Rattle.fs_state.specs.State.{State}
 use Rattle.geom.specs.Layout.{Layout, group_len_of}
 use Rattle.inode_pass.specs.Units.{opened_state}
+use Rattle.inode_pass.specs.declared.note.GroupInodes.{GroupInodes}
 use Rattle.mapping_check.specs.Mapped.{HasForks}
 use Rattle.space_check.specs.declared.halt.Halt.{Halt}
 use Rattle.unit_plan.specs.Sets.{pieces_of}
@@ -22,10 +22,6 @@ use Rattle.unit_plan.specs.declared.claims.ClaimSet.{ClaimSet}
 abbrev pub LieIn : Layout → ℕ → List ℕ → Type 0
 LieIn at g us = All (λ u. 8 * u + 7 < group_len_of at g) us
 
--- so do the units in the lists of the first n groups
-abbrev pub ListsLie : Layout → ℕ → List (Vec ℕ) → Type 0
-ListsLie at n lists = (g : ℕ) → g < n → LieIn at g (units_at lists g)
-
 -- the reverse mappings of a group, by the state that the image stands for right after it was opened
 abbrev pub ChecksMapping : {T : Type 0} → Layout → Image → ℕ → (before after : Tally) → Result T Halt → Type 0
 ChecksMapping at image g before after result = ChecksUnit (opened_state at image) None g units.Rmap before after result
@@ -34,17 +30,17 @@ ChecksMapping at image g before after result = ChecksUnit (opened_state at image
 abbrev pub MappingsDone : {T : Type 0} → Layout → Image → ℕ → List ℕ → ClaimSet → (before after : Tally) → Result T Halt → Type 0
 MappingsDone at image g us set before after result = HasForks at image g us (pieces_of set) → ChecksMapping at image g before after result
 
--- that holds of a group's list and set
-abbrev pub IsReady : Layout → Image → List (Vec ℕ) → List ClaimSet → ℕ → Type 0
-IsReady at image lists sets g = HasForks at image g (units_at lists g) (pieces_at sets g)
+-- that holds of a group's chunks and set
+abbrev pub IsReady : Layout → Image → List GroupInodes → List ClaimSet → ℕ → Type 0
+IsReady at image inodes sets g = HasForks at image g (units_at inodes g) (pieces_at sets g)
 
 -- where it does, the group's reverse mappings are checked
-abbrev pub ReadyDone : {T : Type 0} → Layout → Image → List (Vec ℕ) → List ClaimSet → ℕ → (before after : Tally) → Result T Halt → Type 0
-ReadyDone at image lists sets g before after result = IsReady at image lists sets g → ChecksMapping at image g before after result
+abbrev pub ReadyDone : {T : Type 0} → Layout → Image → List GroupInodes → List ClaimSet → ℕ → (before after : Tally) → Result T Halt → Type 0
+ReadyDone at image inodes sets g before after result = IsReady at image inodes sets g → ChecksMapping at image g before after result
 
 -- and of those of each group
-abbrev pub AreReady : Layout → Image → List (Vec ℕ) → List ClaimSet → Type 0
-AreReady at image lists sets = (g : ℕ) → g < at.agcount → IsReady at image lists sets g
+abbrev pub AreReady : Layout → Image → List GroupInodes → List ClaimSet → Type 0
+AreReady at image inodes sets = (g : ℕ) → g < at.agcount → IsReady at image inodes sets g
 
 -- the reverse mappings of these groups, each skipped where it lacks a unit
 abbrev pub ChecksPart : {T : Type 0} → State → (ℕ → Option Place) → Part → (before after : Tally) → Result T Halt → Type 0

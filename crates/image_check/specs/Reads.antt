@@ -1,5 +1,5 @@
 -- How many blocks does the check of a unit read at most?
-use Rattle.std.specs.Prelude.{ℕ, zero, suc, ◌+◌, ◌==◌, if◌then◌else◌}
+use Rattle.std.specs.Prelude.{ℕ, ◌+◌, ◌==◌, if◌then◌else◌, List}
 use Rattle.check_phases.specs.Kept.{most_in}
 use Rattle.fork_pass.specs.Counted.{forks_most}
 use Rattle.fs_derive.specs.Chunks.{chunks}
@@ -7,19 +7,19 @@ use Rattle.fs_model.specs.declared.unit.Unit.{Unit as ScrubUnit}
 use Rattle.fs_model.specs.declared.unit.Unit.TheVariants as units
 use Rattle.fs_state.specs.Kinds.{Image}
 use Rattle.geom.specs.Layout.{Layout}
-use Rattle.group_trees.specs.Counted.{kind_most, trees_most}
-use Rattle.ino_recs.specs.Chunks.{ino_form}
+use Rattle.group_trees.specs.Counted.{trees_most}
+use Rattle.inode_pass.specs.Notes.{notes_of}
 use Rattle.inode_pass.specs.Units.{opened_state}
+use Rattle.inode_pass.specs.declared.note.ForkNote.{ForkNote}
 
 module _ (at : Layout) (image : Image) where
-  -- the inode btrees of the first n groups, for their chunks
-  unfoldable pub chunks_most : ℕ → ℕ
-  chunks_most zero = 0
-  chunks_most (suc n) = chunks_most n + kind_most ino_form at image n
+  -- what the cores of a group's chunks show of the forks
+  abbrev pub notes_in : ℕ → List ForkNote
+  notes_in g = notes_of at image g (chunks (opened_state at image) g)
 
-  -- Before any reverse mappings are judged? The inode btrees of all groups, and the forks of all inodes.
+  -- Before any reverse mappings are judged? The forks that the cores don't show, and the blocks of their inodes.
   unfoldable pub forks_first : ℕ
-  forks_first = chunks_most at.agcount + forks_most at image (chunks (opened_state at image))
+  forks_first = forks_most at image notes_in
 
   -- Reverse mappings? The six btrees of the group; with those of the first group all that is read before.
   unfoldable pub mappings_most : ℕ → ℕ

@@ -33,6 +33,7 @@ fn check_into<D: Device, L: Ledger, W: Watch>(
     requires room { geo.now.dblocks ≤ D.blocks dev.old Image }
     requires empty { tally.old.journal.entries.items ≡ [] }
     requires begun { tally.old.passed.items ≡ [] }
+    requires fresh { tally.old.inodes.items ≡ [] }
     ensures exact { (c : Contents) → D.content dev.old ≡ Some c → MeetsEnd (image_checked (layout geo.now) (c Image)) tally.new.journal.entries.items result }
     ensures session { EndsInSession geo.now.agcount tally.new.journal.entries.items result }
     ensures kept { KeepsImage (layout geo.now) (D.content dev.old) steps.old.reads steps.new.reads tally.new.journal.entries.items }

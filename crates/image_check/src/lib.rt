@@ -3,17 +3,13 @@
 #![tactic(auto)]
 
 mod check;
-mod chunks;
 mod image;
-mod lists;
 mod mappings;
 mod parts;
 mod sets;
 
 pub use check::check_image;
-pub use chunks::read_chunks;
 pub use image::check_units;
-pub use lists::all_chunks;
 pub use mappings::{check_mapping_part, check_mappings};
 pub use parts::{give_up_part, skip_part};
 pub use sets::take_set;

@@ -25,6 +25,7 @@ use check_watch::{Phase, Watch};
 use fs_model::Unit;
 use geom::Geometry;
 use group_trees::GroupHeads;
+use inode_pass::GroupInodes;
 use mapping_check::judge_mappings;
 use quiet_check::Judged;
 use space_check::Halt;
@@ -94,7 +95,7 @@ fn check_claims_of<D: Device, L: Ledger>(
     dev: &mut D,
     geo: &Geometry,
     heads: &[GroupHeads],
-    lists: &[Vec<u32>],
+    inodes: &[GroupInodes],
     g: u32,
     sets: &mut [ClaimSet],
     tally: &mut Tally,
@@ -105,19 +106,19 @@ fn check_claims_of<D: Device, L: Ledger>(
     requires all { length heads.now ≡ geo.now.agcount }
     requires accepted { AreAccepted (layout geo.now) 0 heads.now }
     requires heads { (c : Contents) → D.content dev.old ≡ Some c → AreHeads (layout geo.now) (c Image) 0 heads.now }
-    requires lists { length lists.now ≡ geo.now.agcount }
-    requires inside { LieInGroups (layout geo.now) lists.now }
+    requires inodes { length inodes.now ≡ geo.now.agcount }
+    requires inside { LieInGroups (layout geo.now) inodes.now }
     requires sets { length sets.old ≡ geo.now.agcount }
-    ensures exact { (c : Contents) → D.content dev.old ≡ Some c → ReadyDone (layout geo.now) (c Image) lists.now sets.old g tally.old tally.new result }
+    ensures exact { (c : Contents) → D.content dev.old ≡ Some c → ReadyDone (layout geo.now) (c Image) inodes.now sets.old g tally.old tally.new result }
     ensures added { AddsPart (IsMappingPart g) tally.old tally.new result }
-    ensures kept { KeepsReady (layout geo.now) (D.content dev.old) g lists.now sets.old tally.old steps.old.reads tally.new steps.new.reads result }
+    ensures kept { KeepsReady (layout geo.now) (D.content dev.old) g inodes.now sets.old tally.old steps.old.reads tally.new steps.new.reads result }
     ensures others { (h : ℕ) → g < h → pieces_at sets.new h ≡ pieces_at sets.old h }
     ensures groups { length sets.new ≡ length sets.old }
     ensures reading { OnlyRead D.Device dev.old dev.new steps.old steps.new }
     ensures cause { HasCause is_failed (D.faults dev.old) (D.faults dev.new) result }
 {
     let set = take_set(alloc, sets, g);
-    let chunks = lists[g as usize].as_slice();
+    let chunks = inodes[g as usize].chunks.as_slice();
     check_mappings(
         alloc,
         dev,
@@ -132,7 +133,7 @@ fn check_claims_of<D: Device, L: Ledger>(
 }
 
 /// Checks the reverse mappings of these groups in order, where the inodes of all groups passed and no
-/// fork is bad: `lists` are the chunks of each group, and `sets` what all forks claim in it, which is
+/// fork is bad: `inodes` has the chunks of each group, and `sets` what all forks claim in it, which is
 /// given back group by group. A journal that is full, a device that failed and want of memory end it,
 /// each unit with all its entries or none (XFS Online Fsck Design, "Cross-Referencing Space Metadata").
 pub fn check_mapping_part<D: Device, L: Ledger, W: Watch>(
@@ -140,7 +141,7 @@ pub fn check_mapping_part<D: Device, L: Ledger, W: Watch>(
     dev: &mut D,
     geo: &Geometry,
     heads: &[GroupHeads],
-    lists: &[Vec<u32>],
+    inodes: &[GroupInodes],
     part: Part,
     sets: &mut [ClaimSet],
     tally: &mut Tally,
@@ -153,10 +154,10 @@ pub fn check_mapping_part<D: Device, L: Ledger, W: Watch>(
     requires all { length heads.now ≡ geo.now.agcount }
     requires accepted { AreAccepted (layout geo.now) 0 heads.now }
     requires heads { (c : Contents) → D.content dev.old ≡ Some c → AreHeads (layout geo.now) (c Image) 0 heads.now }
-    requires lists { length lists.now ≡ geo.now.agcount }
-    requires inside { LieInGroups (layout geo.now) lists.now }
+    requires inodes { length inodes.now ≡ geo.now.agcount }
+    requires inside { LieInGroups (layout geo.now) inodes.now }
     requires sets { length sets.old ≡ geo.now.agcount }
-    requires ready { (c : Contents) → D.content dev.old ≡ Some c → AreReady (layout geo.now) (c Image) lists.now sets.old }
+    requires ready { (c : Contents) → D.content dev.old ≡ Some c → AreReady (layout geo.now) (c Image) inodes.now sets.old }
     ensures exact { (c : Contents) → D.content dev.old ≡ Some c → ChecksMappings (layout geo.now) (c Image) part tally.old tally.new result }
     ensures added { AddsParts IsMappingPart part tally.old tally.new result }
     ensures kept { KeepsMappings (layout geo.now) (D.content dev.old) part tally.old steps.old.reads tally.new steps.new.reads result }
@@ -165,7 +166,7 @@ pub fn check_mapping_part<D: Device, L: Ledger, W: Watch>(
 {
     watch.begin(Phase::Mappings, groups_in(part));
     for g in part.from..part.to {
-        check_claims_of(alloc, dev, geo, heads, lists, g, sets, tally, steps)?;
+        check_claims_of(alloc, dev, geo, heads, inodes, g, sets, tally, steps)?;
         watch.pass(1);
     }
     Ok(())

@@ -16,7 +16,7 @@ pub check_mapping_part-requires-clause-sets : goal.check_mapping_part-requires-c
 check_mapping_part-requires-clause-sets g c = ap (λ (x : List ClaimSet). length x) c.deref_mut.ensures.value ∙ c.requires.sets
 
 pub check_mapping_part-requires-clause-ready : goal.check_mapping_part-requires-clause-ready
-check_mapping_part-requires-clause-ready g c = λ m e. subst (λ (x : List ClaimSet). AreReady (layout c.args.geo.now) (m Image) c.args.lists.now x) (sym c.deref_mut.ensures.value) (c.requires.ready m e)
+check_mapping_part-requires-clause-ready g c = λ m e. subst (λ (x : List ClaimSet). AreReady (layout c.args.geo.now) (m Image) c.args.inodes.now x) (sym c.deref_mut.ensures.value) (c.requires.ready m e)
 
 pub returns-clause-exact : goal.returns-clause-exact
 returns-clause-exact g c = λ m e.

@@ -1,9 +1,8 @@
-use Rattle.std.proofs.Common.{ℕ, List, ap, arith, subst, sym, ◌∙◌}
-use Rattle.std.specs.Global.{Vec}
+use Rattle.std.proofs.Common.{ℕ, List, arith, subst, sym, ◌∙◌}
 use Rattle.blk_device.specs.declared.device.Region.TheVariants.{Image}
 use Rattle.check_phases.proofs.PartLemmas.{accepted_among, heads_among}
 use Rattle.check_phases.specs.Checks.{IsHeadsOf}
-use Rattle.fork_pass.proofs.PassLemmas.{list_at}
+use Rattle.fork_pass.proofs.KeptLemmas.{units_there}
 use Rattle.fork_pass.specs.Passed.{units_at}
 use Rattle.geom.specs.Layout.{group_len_of}
 use Rattle.geom.specs.Places.{layout}
@@ -23,18 +22,18 @@ check_mappings-requires-clause-heads g c = λ m e. subst (λ (h : GroupHeads). I
 
 pub check_mappings-requires-clause-chunks : goal.check_mappings-requires-clause-chunks
 check_mappings-requires-clause-chunks g c =
-    subst (LieIn (layout c.args.geo.now) c.args.g) (list_at c.args.lists.now c.args.g c.index-lists-g.result (omega (arith, c.requires.lists, c.requires.group)) ∙ ap (λ (v : Vec ℕ). v.items) (sym c.index-lists-g.is) ∙ sym c.as_slice-chunks.ensures.value) (c.requires.inside c.args.g c.requires.group)
+    subst (LieIn (layout c.args.geo.now) c.args.g) (units_there c.args.inodes.now c.args.g c.index-inodes-g.result (omega (arith, c.requires.inodes, c.requires.group)) ∙ sym c.as_slice-chunks.ensures.value) (c.requires.inside c.args.g c.requires.group)
 
 pub returns-clause-exact : goal.returns-clause-exact
 returns-clause-exact g c = λ m e ready.
     c.check_mappings.ensures.exact m e
     (subst (λ (us : List ℕ). HasForks (layout c.args.geo.now) (m Image) c.args.g us (pieces_of c.take_set-set.result))
-    (list_at c.args.lists.now c.args.g c.index-lists-g.result (omega (arith, c.requires.lists, c.requires.group)) ∙ ap (λ (v : Vec ℕ). v.items) (sym c.index-lists-g.is) ∙ sym c.as_slice-chunks.ensures.value)
-    (subst (λ (ps : List Piece). HasForks (layout c.args.geo.now) (m Image) c.args.g (units_at c.args.lists.now c.args.g) ps) (sym c.take_set-set.ensures.taken) ready))
+    (units_there c.args.inodes.now c.args.g c.index-inodes-g.result (omega (arith, c.requires.inodes, c.requires.group)) ∙ sym c.as_slice-chunks.ensures.value)
+    (subst (λ (ps : List Piece). HasForks (layout c.args.geo.now) (m Image) c.args.g (units_at c.args.inodes.now c.args.g) ps) (sym c.take_set-set.ensures.taken) ready))
 
 pub returns-clause-kept : goal.returns-clause-kept
 returns-clause-kept g c = λ m e ready.
     c.check_mappings.ensures.kept m e
     (subst (λ (us : List ℕ). HasForks (layout c.args.geo.now) (m Image) c.args.g us (pieces_of c.take_set-set.result))
-    (list_at c.args.lists.now c.args.g c.index-lists-g.result (omega (arith, c.requires.lists, c.requires.group)) ∙ ap (λ (v : Vec ℕ). v.items) (sym c.index-lists-g.is) ∙ sym c.as_slice-chunks.ensures.value)
-    (subst (λ (ps : List Piece). HasForks (layout c.args.geo.now) (m Image) c.args.g (units_at c.args.lists.now c.args.g) ps) (sym c.take_set-set.ensures.taken) ready))
+    (units_there c.args.inodes.now c.args.g c.index-inodes-g.result (omega (arith, c.requires.inodes, c.requires.group)) ∙ sym c.as_slice-chunks.ensures.value)
+    (subst (λ (ps : List Piece). HasForks (layout c.args.geo.now) (m Image) c.args.g (units_at c.args.inodes.now c.args.g) ps) (sym c.take_set-set.ensures.taken) ready))

@@ -32,11 +32,11 @@ check_claims_of-requires-clause-heads g c = λ m e. c.requires.heads m (sym c.lo
 
 pub loop-g-preserved : goal.loop-g-preserved
 loop-g-preserved g c = record {
-  exact = λ m e. part_goes_on (opened_state (layout c.args.geo.now) (m Image)) Mappings lacks_nothing c.args.part.from c.loop-g.g c.args.tally.now c.loop-g.tally c.check_claims_of.new.tally c.loop-g.auto.g (c.loop-g.invariant.exact m e) (c.in_ok-check_claims_of.ensures.exact m (c.loop-g.invariant.reading.same ∙ e) (ready_here (layout c.args.geo.now) (m Image) c.loop-g.g c.args.lists.now c.args.sets.now c.loop-g.sets (c.loop-g.invariant.others c.loop-g.g (omega arith)) (c.requires.ready m e c.loop-g.g (let lt = c.loop-g-test.true in let le = c.requires.part in omega (arith, lt, le)))));
+  exact = λ m e. part_goes_on (opened_state (layout c.args.geo.now) (m Image)) Mappings lacks_nothing c.args.part.from c.loop-g.g c.args.tally.now c.loop-g.tally c.check_claims_of.new.tally c.loop-g.auto.g (c.loop-g.invariant.exact m e) (c.in_ok-check_claims_of.ensures.exact m (c.loop-g.invariant.reading.same ∙ e) (ready_here (layout c.args.geo.now) (m Image) c.loop-g.g c.args.inodes.now c.args.sets.now c.loop-g.sets (c.loop-g.invariant.others c.loop-g.g (omega arith)) (c.requires.ready m e c.loop-g.g (let lt = c.loop-g-test.true in let le = c.requires.part in omega (arith, lt, le)))));
   added = groups_go_on IsMappingPart c.args.part.from c.loop-g.g c.args.tally.now c.loop-g.tally c.check_claims_of.new.tally c.loop-g.auto.g c.loop-g.invariant.added c.in_ok-check_claims_of.ensures.added;
   others = λ h le. c.in_ok-check_claims_of.ensures.others h (omega (arith, le)) ∙ c.loop-g.invariant.others h (omega (arith, le));
   groups = c.in_ok-check_claims_of.ensures.groups ∙ c.loop-g.invariant.groups;
-  kept = keep_on (trees_only (layout c.args.geo.now)) (layout c.args.geo.now) (g.D.Device.content c.args.dev.now) Mappings lacks_nothing c.args.part.from c.loop-g.g c.args.tally.now c.loop-g.tally c.check_claims_of.new.tally c.args.steps.now.reads c.loop-g.steps.reads c.check_claims_of.new.steps.reads (g.D.Device.content c.loop-g.dev) c.loop-g.invariant.reading.same c.loop-g.auto.g c.loop-g.invariant.kept (λ m e. c.in_ok-check_claims_of.ensures.kept m e (ready_here (layout c.args.geo.now) (m Image) c.loop-g.g c.args.lists.now c.args.sets.now c.loop-g.sets (c.loop-g.invariant.others c.loop-g.g (omega arith)) (c.requires.ready m (sym c.loop-g.invariant.reading.same ∙ e) c.loop-g.g (let lt = c.loop-g-test.true in let le = c.requires.part in omega (arith, lt, le)))));
+  kept = keep_on (trees_only (layout c.args.geo.now)) (layout c.args.geo.now) (g.D.Device.content c.args.dev.now) Mappings lacks_nothing c.args.part.from c.loop-g.g c.args.tally.now c.loop-g.tally c.check_claims_of.new.tally c.args.steps.now.reads c.loop-g.steps.reads c.check_claims_of.new.steps.reads (g.D.Device.content c.loop-g.dev) c.loop-g.invariant.reading.same c.loop-g.auto.g c.loop-g.invariant.kept (λ m e. c.in_ok-check_claims_of.ensures.kept m e (ready_here (layout c.args.geo.now) (m Image) c.loop-g.g c.args.inodes.now c.args.sets.now c.loop-g.sets (c.loop-g.invariant.others c.loop-g.g (omega arith)) (c.requires.ready m (sym c.loop-g.invariant.reading.same ∙ e) c.loop-g.g (let lt = c.loop-g-test.true in let le = c.requires.part in omega (arith, lt, le)))));
   reading = read_on g.D.Device g.met.D.Device.only_now g.met.D.Device.counts_now c.args.dev.now c.loop-g.dev c.check_claims_of.new.dev c.args.steps.now c.loop-g.steps c.check_claims_of.new.steps c.loop-g.invariant.reading c.in_ok-check_claims_of.ensures.reading;
   calm = c.in_ok-check_claims_of.ensures.cause ∙ c.loop-g.invariant.calm;
 }
@@ -45,7 +45,7 @@ pub returns-in_err-check_claims_of-clause-exact : goal.returns-in_err-check_clai
 returns-in_err-check_claims_of-clause-exact g c = λ m e.
     let a = opened_state (layout c.args.geo.now) (m Image) in
     with_err {T = Unit {0}} (λ r. ChecksPhase a Mappings lacks_nothing c.args.part.from (c.args.part.to - c.args.part.from) c.args.tally.now c.check_claims_of.new.tally r) c.in_err-check_claims_of.field-0.0 c.from_residual.result c.from_residual.ensures
-    (part_stops a Mappings lacks_nothing c.args.part.from c.args.part.to c.loop-g.g c.args.tally.now c.loop-g.tally c.check_claims_of.new.tally c.in_err-check_claims_of.field-0.0 c.loop-g.auto.g c.loop-g-test.true (c.loop-g.invariant.exact m e) (c.in_err-check_claims_of.ensures.exact m (c.loop-g.invariant.reading.same ∙ e) (ready_here (layout c.args.geo.now) (m Image) c.loop-g.g c.args.lists.now c.args.sets.now c.loop-g.sets (c.loop-g.invariant.others c.loop-g.g (omega arith)) (c.requires.ready m e c.loop-g.g (let lt = c.loop-g-test.true in let le = c.requires.part in omega (arith, lt, le))))))
+    (part_stops a Mappings lacks_nothing c.args.part.from c.args.part.to c.loop-g.g c.args.tally.now c.loop-g.tally c.check_claims_of.new.tally c.in_err-check_claims_of.field-0.0 c.loop-g.auto.g c.loop-g-test.true (c.loop-g.invariant.exact m e) (c.in_err-check_claims_of.ensures.exact m (c.loop-g.invariant.reading.same ∙ e) (ready_here (layout c.args.geo.now) (m Image) c.loop-g.g c.args.inodes.now c.args.sets.now c.loop-g.sets (c.loop-g.invariant.others c.loop-g.g (omega arith)) (c.requires.ready m e c.loop-g.g (let lt = c.loop-g-test.true in let le = c.requires.part in omega (arith, lt, le))))))
 
 pub returns-in_err-check_claims_of-clause-reading : goal.returns-in_err-check_claims_of-clause-reading
 returns-in_err-check_claims_of-clause-reading g c =
@@ -74,7 +74,7 @@ returns-clause-added g c =
 pub returns-in_err-check_claims_of-clause-kept : goal.returns-in_err-check_claims_of-clause-kept
 returns-in_err-check_claims_of-clause-kept g c =
     with_err {T = Unit {0}} (λ r. KeepsMappings (layout c.args.geo.now) (g.D.Device.content c.args.dev.now) c.args.part c.args.tally.now c.args.steps.now.reads c.check_claims_of.new.tally c.check_claims_of.new.steps.reads r) c.in_err-check_claims_of.field-0.0 c.from_residual.result c.from_residual.ensures
-    (keep_stop (trees_only (layout c.args.geo.now)) (layout c.args.geo.now) (g.D.Device.content c.args.dev.now) Mappings lacks_nothing c.args.part.from c.args.part.to c.loop-g.g c.args.tally.now c.loop-g.tally c.check_claims_of.new.tally c.args.steps.now.reads c.loop-g.steps.reads c.check_claims_of.new.steps.reads c.in_err-check_claims_of.field-0.0 (g.D.Device.content c.loop-g.dev) c.loop-g.invariant.reading.same c.loop-g.auto.g c.loop-g-test.true c.loop-g.invariant.kept (λ m e. c.in_err-check_claims_of.ensures.kept m e (ready_here (layout c.args.geo.now) (m Image) c.loop-g.g c.args.lists.now c.args.sets.now c.loop-g.sets (c.loop-g.invariant.others c.loop-g.g (omega arith)) (c.requires.ready m (sym c.loop-g.invariant.reading.same ∙ e) c.loop-g.g (let lt = c.loop-g-test.true in let le = c.requires.part in omega (arith, lt, le))))))
+    (keep_stop (trees_only (layout c.args.geo.now)) (layout c.args.geo.now) (g.D.Device.content c.args.dev.now) Mappings lacks_nothing c.args.part.from c.args.part.to c.loop-g.g c.args.tally.now c.loop-g.tally c.check_claims_of.new.tally c.args.steps.now.reads c.loop-g.steps.reads c.check_claims_of.new.steps.reads c.in_err-check_claims_of.field-0.0 (g.D.Device.content c.loop-g.dev) c.loop-g.invariant.reading.same c.loop-g.auto.g c.loop-g-test.true c.loop-g.invariant.kept (λ m e. c.in_err-check_claims_of.ensures.kept m e (ready_here (layout c.args.geo.now) (m Image) c.loop-g.g c.args.inodes.now c.args.sets.now c.loop-g.sets (c.loop-g.invariant.others c.loop-g.g (omega arith)) (c.requires.ready m (sym c.loop-g.invariant.reading.same ∙ e) c.loop-g.g (let lt = c.loop-g-test.true in let le = c.requires.part in omega (arith, lt, le))))))
 
 pub returns-clause-kept : goal.returns-clause-kept
 returns-clause-kept g c =
