@@ -15,7 +15,7 @@ use Rattle.fs_state.specs.State.{State}
 use Rattle.geom.specs.Layout.{Layout}
 use Rattle.inode_pass.specs.Units.{opened_state}
 use Rattle.quiet_check.specs.Entries.{unit_entries}
-use Rattle.space_check.specs.Checked.{Checked, Filled, HaltsInHeads, Judged, MeetsHalt, RefusedHead, bad_head_from, journal_of, looked_at, looks, recorded}
+use Rattle.space_check.specs.Checked.{Checked, Filled, HaltsInHeads, Judged, RefusedHead, bad_head_from, journal_of, looked_at, looks, recorded}
 use Rattle.space_check.specs.Events.{Does, Event, HasRoom, Moment, AreDone, StopsIn, entries_of, most_entries}
 use Rattle.space_check.specs.Session.{come_to}
 use Rattle.space_check.specs.declared.halt.Halt.{Halt}

@@ -1,20 +1,19 @@
 -- Blocks that the check of all units reads, and that of a whole image, by what its phases read.
-use Rattle.std.proofs.Common.{◌≡◌, ℕ, zero, suc, ◌+◌, ◌-◌, ◌<◌, ◌≤◌, Bool, List, [], ◌∷◌, ◌++◌, length, map, Option, None, Some, Result, Ok, Err, refl, sym, ◌∙◌, ap, subst, append_assoc, arith}
+use Rattle.std.proofs.Common.{◌≡◌, ℕ, zero, suc, ◌+◌, ◌-◌, ◌<◌, Bool, List, [], ◌∷◌, ◌++◌, length, map, Option, None, Some, Result, Ok, Err, refl, sym, ◌∙◌, ap, subst, append_assoc, arith}
 use Rattle.std.specs.Prelude.{flat_map}
 use Rattle.std.proofs.lemmas.List.{append-nil}
 use Rattle.ag_headers.specs.declared.fault.HeadFault.{HeadFault}
 use Rattle.blk_device.specs.Contents.{Contents}
-use Rattle.blk_device.specs.declared.device.Region.TheVariants as regions
 use Rattle.check_phases.proofs.KeptLemmas.{as_kept, begun_here, stops_early, then_keeps}
 use Rattle.check_phases.proofs.OrderLemmas.{phases_in_order}
 use Rattle.check_phases.proofs.PhaseLemmas.{phases_are_session}
 use Rattle.check_phases.specs.Kept.{AreKept, KeepsEvents, KeepsTold, StopsKept, come, group_kept, most_in, phase_kept}
-use Rattle.check_phases.specs.Phases.{Inodes, Mappings, Phase, Space, group_events, lacks_inodes, lacks_mappings, lacks_nothing, phase_events, places, unit_event, units_in}
-use Rattle.check_phases.specs.Session.{check_events, inode_fallen, mappings_passed, phases_events}
+use Rattle.check_phases.specs.Phases.{Inodes, Mappings, Phase, Space, group_events, lacks_inodes, lacks_mappings, lacks_nothing, phase_events, places, units_in}
+use Rattle.check_phases.specs.Session.{inode_fallen, mappings_passed}
 use Rattle.check_phases.specs.declared.part.Part.{Part}
 use Rattle.check_phases.specs.declared.tally.Tally.{Tally}
 use Rattle.fs_derive.specs.Lists.{numbers}
-use Rattle.fs_derive.specs.Session.{Place, unit_order}
+use Rattle.fs_derive.specs.Session.{Place}
 use Rattle.fs_model.specs.declared.entry.Entry.{Entry}
 use Rattle.fs_model.specs.declared.unit.Head.{Head}
 use Rattle.fs_model.specs.declared.unit.Unit.{Unit as ScrubUnit}
@@ -25,7 +24,7 @@ use Rattle.geom.specs.Layout.{Layout}
 use Rattle.inode_pass.specs.Units.{opened_state}
 use Rattle.quiet_check.specs.Entries.{entries_after}
 use Rattle.space_check.specs.Checked.{HaltsInHeads, bad_head_from, look, looked_at, looks}
-use Rattle.space_check.specs.Events.{Event, Moment, entries_of, moment, most_entries, reads_of}
+use Rattle.space_check.specs.Events.{Event, Moment, entries_of, moment, reads_of}
 use Rattle.space_check.specs.Groups.{event}
 use Rattle.space_check.specs.declared.halt.Halt.{Halt}
 use Rattle.space_check.specs.declared.halt.Halt.TheVariants as halts

@@ -1,18 +1,17 @@
 -- Blocks that are read before reverse mappings are judged, and for them.
-use Rattle.std.proofs.Common.{◌≡◌, ℕ, zero, suc, ◌+◌, ◌-◌, ◌<◌, ◌≤◌, Bool, false, List, [], ◌∷◌, ◌++◌, length, Option, None, Result, Ok, Err, refl, sym, ◌∙◌, ap, subst, arith, inl, inr}
+use Rattle.std.proofs.Common.{◌≡◌, ℕ, zero, suc, ◌+◌, ◌<◌, ◌≤◌, Bool, false, List, [], ◌∷◌, ◌++◌, length, Option, None, Result, Ok, Err, refl, sym, ◌∙◌, ap, subst, arith, inl, inr}
 use Rattle.std.specs.Prelude.{◌==◌, flat_map, fold, if◌then◌else◌, sum_by}
 use Rattle.std.proofs.lemmas.Bool.{cases_Bool, eqb-true}
 use Rattle.std.proofs.lemmas.List.{append-nil}
 use Rattle.check_phases.proofs.KeptLemmas.{begun_here, cut_kept}
-use Rattle.check_phases.specs.Kept.{KeepsEvents, StopsKept, begun_of, come, group_kept, kept_event, phase_kept}
-use Rattle.check_phases.specs.Phases.{Mappings, lacks_inodes, lacks_nothing}
+use Rattle.check_phases.specs.Kept.{KeepsEvents, StopsKept, begun_of, come, group_kept, phase_kept}
+use Rattle.check_phases.specs.Phases.{Mappings, lacks_nothing}
 use Rattle.check_phases.specs.declared.tally.Tally.{Tally}
 use Rattle.fork_pass.specs.Counted.{forks_most, notes_most}
 use Rattle.fork_pass.specs.Passed.{AreChunks, AreNotes, notes_at}
 use Rattle.fs_derive.specs.Lists.{numbers}
 use Rattle.fs_derive.specs.Session.{Place}
 use Rattle.fs_model.specs.declared.entry.Entry.{Entry}
-use Rattle.fs_model.specs.declared.unit.Unit.{Unit as ScrubUnit}
 use Rattle.fs_model.specs.declared.unit.Unit.TheVariants as units
 use Rattle.fs_state.specs.Kinds.{Image}
 use Rattle.fs_state.specs.State.{State}
@@ -23,7 +22,7 @@ use Rattle.inode_pass.specs.Units.{opened_state}
 use Rattle.inode_pass.specs.declared.note.ForkNote.{ForkNote}
 use Rattle.inode_pass.specs.declared.note.GroupInodes.{GroupInodes}
 use Rattle.quiet_check.specs.Entries.{entries_after}
-use Rattle.space_check.specs.Events.{Event, Moment, entries_of, most_entries, reads_of}
+use Rattle.space_check.specs.Events.{Event, entries_of, most_entries, reads_of}
 use Rattle.space_check.specs.Groups.{event}
 use Rattle.space_check.specs.declared.halt.Halt.{Halt}
 use Rattle.image_check.specs.Kept.{all_kept, mappings_kept, trees_only}

@@ -1,8 +1,7 @@
 -- Each journal of a whole check is a session's, or a front of one.
 use Rattle.std.proofs.Common.{◌≡◌, ℕ, ◌-◌, ◌<◌, ◌≤◌, List, [], length, Result, Ok, Err, refl, sym, subst, arith, lit<}
 use Rattle.check_phases.proofs.AddedLemmas.{any_judged, groups_begun, groups_stop, of_all, unit_cut}
-use Rattle.check_phases.specs.Parts.{AddsPart, AreParts, IsInodePart}
-use Rattle.check_phases.specs.declared.part.Part.{Part}
+use Rattle.check_phases.specs.Parts.{IsInodePart}
 use Rattle.check_phases.specs.declared.tally.Tally.{Tally}
 use Rattle.fs_model.specs.declared.entry.Entry.{Entry}
 use Rattle.fs_model.specs.declared.unit.Unit.TheVariants as units

@@ -1,5 +1,5 @@
 -- What a check of all units adds, by what its phases add, whatever the device tells.
-use Rattle.std.proofs.Common.{◌≡◌, ℕ, ◌-◌, ◌<◌, ◌≤◌, Bool, List, [], ◌∷◌, ◌++◌, length, Option, Some, None, Result, Ok, Err, inl, inr, refl, sym, ap, append_assoc, arith}
+use Rattle.std.proofs.Common.{◌≡◌, ℕ, ◌-◌, ◌<◌, ◌≤◌, Bool, List, [], ◌∷◌, ◌++◌, length, Option, Some, None, Result, Ok, Err, inl, refl, sym, ap, append_assoc, arith}
 use Rattle.std.specs.Prelude.{IfSome}
 use Rattle.check_phases.proofs.AddedLemmas.{any_judged, any_space_part, groups_begun, groups_stop, of_all, some_parts, stops_before, then_added, unit_cut, unit_full}
 use Rattle.check_phases.specs.Parts.{AddsPart, AreParts, IsInodePart, IsSpacePart, skipped_event}

@@ -1,6 +1,6 @@
 -- What a check of a whole image does and how it ends, as its bytes decide it: the heads of all groups first, and then all
 -- units of all groups in the order of a session.
-use Rattle.std.specs.Prelude.{◌≡◌, ◌≤◌, ℕ, ◌+◌, List, [], ◌∷◌, ◌++◌, length, Option, Some, None, Result, Ok, Err}
+use Rattle.std.specs.Prelude.{◌≡◌, ◌≤◌, ℕ, ◌+◌, List, [], ◌∷◌, ◌++◌, Some, None, Result, Ok, Err}
 use Rattle.std.specs.Global.{Vec}
 pub use Rattle.check_phases.specs.Kept.{begun_of}
 use Rattle.check_phases.specs.Session.{check_events}

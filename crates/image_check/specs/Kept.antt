@@ -1,5 +1,5 @@
 -- How many blocks are read at most for reverse mappings, and for all units, where the device tells its content.
-use Rattle.std.specs.Prelude.{◌≡◌, ◌≤◌, ℕ, ◌+◌, ◌-◌, List, [], ◌∷◌, Option, None, Some, Result}
+use Rattle.std.specs.Prelude.{◌≡◌, ℕ, ◌-◌, List, [], ◌∷◌, Option, None, Some, Result}
 use Rattle.blk_device.specs.Contents.{Contents}
 use Rattle.blk_device.specs.declared.device.Region.TheVariants as regions
 use Rattle.check_phases.specs.Kept.{KeepsEvents, KeepsTold, come, kept_event, phase_kept}

@@ -1,4 +1,4 @@
-use Rattle.std.proofs.Common.{◌∙◌, sym}
+use Rattle.std.proofs.Common.{◌∙◌}
 use Rattle.blk_device.specs.ReadingLaws.{cause_on, read_on}
 use Rattle.blk_device.specs.declared.device.Region.TheVariants.{Image}
 use Rattle.geom.specs.Places.{layout}

@@ -8,7 +8,6 @@ use Rattle.image_check.proofs.AllLemmas.{of_whole}
 use Rattle.image_check.specs.Mappings.{AreReady}
 use Rattle.check_phases.proofs.AddedLemmas.{of_all}
 use Rattle.image_check.specs.Units.{IsMappingPart}
-use Rattle.check_phases.specs.Kept.{KeepsTold}
 use Rattle.image_check.proofs.KeptUnitsLemmas.{mappings_of_whole}
 use Rattle.image_check.proofs.image.check_by_sets.Goals as goal
 
