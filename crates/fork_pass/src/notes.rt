@@ -42,6 +42,14 @@ fn inodes_shown(units: &[u32], notes: &[ForkNote]) -> u64 {
     shown
 }
 
+// Tells of them at once, where there are any.
+fn tell_shown<W: Watch>(units: &[u32], notes: &[ForkNote], watch: &mut W) {
+    let shown = inodes_shown(units, notes);
+    if shown > 0 {
+        watch.pass(shown);
+    }
+}
+
 // Takes the notes of group `g` out of what was kept of all groups, and leaves none there.
 fn take_notes(alloc: Global, inodes: &mut [GroupInodes], g: u32) -> Vec<ForkNote>
     requires { g < length inodes.old }
@@ -151,6 +159,6 @@ pub fn pass_group<D: Device, L: Ledger, W: Watch>(
 {
     let notes = take_notes(alloc, inodes, g);
     let units = inodes[g as usize].chunks.as_slice();
-    watch.pass(inodes_shown(units, notes.as_slice()));
+    tell_shown(units, notes.as_slice(), watch);
     pass_notes(alloc, dev, geo, g, notes.as_slice(), sets, steps, watch)
 }

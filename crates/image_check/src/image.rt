@@ -223,9 +223,9 @@ fn check_all_mappings<D: Device, L: Ledger, W: Watch>(
 /// Checks all units of all groups, whose heads were accepted, in the order of a session: the inodes of
 /// every group, then the reverse mappings of every group, then free space and reference counts group by
 /// group, each with its faults and its verdict, given up with the first evidence, or skipped for the
-/// first unit that it needs and that didn't pass. Every fork is read once. A journal that is full, a
-/// device that failed and want of memory end it, each unit with all its entries or none
-/// (XFS Online Fsck Design, "Metadata Scrubbing").
+/// first unit that it needs and that didn't pass. A block of inodes is read again only where one of them
+/// has a fork that its core doesn't show. A journal that is full, a device that failed and want of memory
+/// end it, each unit with all its entries or none (XFS Online Fsck Design, "Metadata Scrubbing").
 pub fn check_units<D: Device, L: Ledger, W: Watch>(
     alloc: Global,
     dev: &mut D,
