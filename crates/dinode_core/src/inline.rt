@@ -1,4 +1,4 @@
-ghost use Rattle.std.specs.Prelude.{◌≡◌, ◌*◌, ◌≤◌, ◌<◌, ℕ, List, [], length, IfOk, None, false};
+ghost use Rattle.std.specs.Prelude.{◌≡◌, ◌*◌, ◌≤◌, ◌<◌, ℕ, List, [], length, None, OnOk, false};
 ghost use Rattle.byte_fields.specs.FirstFailing.{DecodesOr};
 ghost use Rattle.geom.specs.Layout.{split_of};
 ghost use Rattle.geom.specs.Places.{layout};
@@ -111,37 +111,39 @@ fn is_in_extents(core: &Core3, fork: Fork) -> bool
     }
 }
 
-// So many mappings, one behind the other.
+// So many mappings, one behind the other, in place of what the list held.
 #[tactic(auto, using(crate::proofs::InlineLemmas::one_more, crate::proofs::InlineLemmas::none_left))]
-fn read_mappings(alloc: Global, area: &[u8], count: usize) -> Result<Vec<Mapping>, AllocError>
+fn read_mappings(area: &[u8], count: usize, into: &mut Vec<Mapping>) -> Result<(), AllocError>
     requires { 16 * count ≤ length area.now }
-    ensures { IfOk result (λ v. v.items ≡ mappings_in count area.now) }
+    ensures { OnOk result (into.new.items ≡ mappings_in count area.now) }
 {
-    let mut found = Vec::new(alloc);
+    into.clear();
     let mut rest = area;
     let mut left = count;
     while left > 0 {
-        found.push(unpack_front(rest))?;
+        into.push(unpack_front(rest))?;
         let (_, tail) = rest.split_at(16);
         rest = tail;
         left -= 1;
     }
-    Ok(found)
+    Ok(())
 }
 
 #[tactic(auto, using(crate::proofs::InlineLemmas::room_enough), unfolding(crate::specs::Inline::inline_mappings))]
-fn mappings_of(alloc: Global, core: &Core3, fork: Fork) -> Result<Vec<Mapping>, AllocError>
+fn mappings_of(core: &Core3, fork: Fork, into: &mut Vec<Mapping>) -> Result<(), AllocError>
     requires { form_fault_of core.now fork ≡ None }
-    ensures { IfOk result (λ v. v.items ≡ inline_mappings core.now fork) }
+    ensures { OnOk result (into.new.items ≡ inline_mappings core.now fork) }
 {
     if is_fork_absent(core, fork) {
-        return Ok(Vec::new(alloc));
+        into.clear();
+        return Ok(());
     }
     if !is_in_extents(core, fork) {
-        return Ok(Vec::new(alloc));
+        into.clear();
+        return Ok(());
     }
     let count = mapping_count(core, fork) as usize;
-    read_mappings(alloc, fork_area(core, fork), count)
+    read_mappings(fork_area(core, fork), count, into)
 }
 
 #[tactic(auto, unfolding(crate::specs::Inline::rises))]
@@ -226,12 +228,35 @@ pub fn first_bad(geo: &Geometry, fork: Fork, mappings: &[Mapping]) -> Option<For
     None
 }
 
-/// What the inode itself shows of a fork. In extents format its mappings, in their order; an empty
-/// list for a fork in device or local format and for one that isn't there. In btree format the form
-/// alone is judged, with the root's level and its number of keys, and the list is empty: the mappings
-/// stand in blocks. An error is the first fault that is met so.
+/// What the inode itself shows of a fork, in place of what the list held. In extents format its
+/// mappings, in their order; no mapping for a fork in device or local format and for one that isn't
+/// there. In btree format the form alone is judged, with the root's level and its number of keys: the
+/// mappings stand in blocks. An error is the first fault that is met so, and then the list may be any.
 /// (XFS Algorithms and Data Structures, "Data Fork" and "Attribute Fork".)
 #[tactic(auto, unfolding(crate::specs::Inline::inline_fault))]
+pub fn inline_fork_into(
+    core: &Core3,
+    fork: Fork,
+    geo: &Geometry,
+    into: &mut Vec<Mapping>,
+) -> Result<(), ForkError>
+    ensures { DecodesOr Refuses (inline_fault (layout geo.now) core.now fork)
+        (λ _. into.new.items ≡ inline_mappings core.now fork) result }
+{
+    if let Some(fault) = form_fault(core, fork) {
+        return Err(ForkError::Fault(fault));
+    }
+    let Ok(_) = mappings_of(core, fork, into) else {
+        return Err(ForkError::Memory);
+    };
+    if let Some(fault) = first_bad(geo, fork, into) {
+        return Err(ForkError::Fault(fault));
+    }
+    Ok(())
+}
+
+/// The same as [`inline_fork_into`], in a list of its own.
+/// (XFS Algorithms and Data Structures, "Data Fork" and "Attribute Fork".)
 pub fn inline_fork(
     alloc: Global,
     core: &Core3,
@@ -241,15 +266,8 @@ pub fn inline_fork(
     ensures { DecodesOr Refuses (inline_fault (layout geo.now) core.now fork)
         (λ v. v.items ≡ inline_mappings core.now fork) result }
 {
-    if let Some(fault) = form_fault(core, fork) {
-        return Err(ForkError::Fault(fault));
-    }
-    let Ok(mappings) = mappings_of(alloc, core, fork) else {
-        return Err(ForkError::Memory);
-    };
-    if let Some(fault) = first_bad(geo, fork, &mappings) {
-        return Err(ForkError::Fault(fault));
-    }
+    let mut mappings = Vec::new(alloc);
+    inline_fork_into(core, fork, geo, &mut mappings)?;
     Ok(mappings)
 }
 

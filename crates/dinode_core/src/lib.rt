@@ -12,7 +12,7 @@ mod shape;
 
 pub use decode::{decode_core, read_core};
 pub use encode::{encode_core, writes_back};
-pub use inline::{first_bad, inline_fork, inline_is_whole, is_in_btree};
+pub use inline::{first_bad, inline_fork, inline_fork_into, inline_is_whole, is_in_btree};
 pub use inode::{Core3, CoreFault};
 pub use laws::{bad_fork_stays_bad, fork_has_own_parts, good_fork_stays};
 pub use mapping::{Fork, ForkError, ForkFault, Mapping};

@@ -24,7 +24,7 @@ use Rattle.run_sets.specs.declared.run.Run.{Run}
 use Rattle.index_derive.specs.Inodes.{mask_in}
 use Rattle.inode_pass.specs.Cores.{core_or_fault, decoded}
 use Rattle.inode_pass.specs.Notes.{AreFit, IsFit, block_notes, blocks_notes, both_notes, core_notes, fork_notes, joined_notes, notes_by, notes_if, notes_or_block, shows, slot_notes, unit_notes}
-use Rattle.inode_pass.specs.Noting.{AreNoted, IsNoted, kept_notes, notes_in}
+use Rattle.inode_pass.specs.Noting.{AreNoted, IsForkNoted, IsNoted, kept_notes, notes_in}
 use Rattle.inode_pass.specs.Units.{opened_state, units_in}
 use Rattle.inode_pass.specs.declared.note.ForkNote.{ForkNote}
 use Rattle.inode_pass.specs.declared.note.ForkNote.TheVariants.{Mapping as MappingNote, Block as BlockNote}
@@ -56,22 +56,33 @@ one_unshown at core Attr hidden = rw hidden (never (shows at core Data) (fork_no
   never true notes = refl
   never false notes = refl
 
-pub unshown : (at : Layout) (core : Core3) (f : Fork) (old : List ForkNote) → shows at core f ≡ false → IsNoted old old (core_notes at core) false
-unshown at core f old hidden = subst (λ (o : Option (List ForkNote)). IsNoted old old o false) (sym (one_unshown at core f hidden)) (refl, refl)
+-- the data fork isn't shown
+pub data_unshown : (at : Layout) (core : Core3) (old now : List ForkNote) → IsForkNoted at core Data old now false → IsNoted old now (core_notes at core) false
+data_unshown at core old now so = subst (λ (o : Option (List ForkNote)). IsNoted old now o false) (sym (one_unshown at core Data so.0)) (refl, so.1)
+
+-- the attribute fork isn't shown, and what the data fork shows is taken back
+pub attr_unshown : (at : Layout) (core : Core3) (before : ℕ) (old now behind new : List ForkNote) → before ≡ length old → IsForkNoted at core Data old now true → IsForkNoted at core Attr now behind false → new ≡ take before behind → IsNoted old new (core_notes at core) false
+attr_unshown at core before old now behind new long file so cut =
+    subst (λ (o : Option (List ForkNote)). IsNoted old new o false) (sym (one_unshown at core Attr so.0)) (
+      refl,
+      cut ∙ ap (λ (n : ℕ). take n behind) long ∙ ap (take (length old)) (so.1 ∙ file.1) ∙ take-append_seam old (fork_notes core Data),
+    )
 
 both_is : (at : Layout) (core : Core3) → shows at core Data ≡ true → shows at core Attr ≡ true → core_notes at core ≡ Some (fork_notes core Data ++ fork_notes core Attr)
 unfolding core_notes
 both_is at core file attributes = rw (file, attributes) refl
 
--- the mappings of the one fork were put behind the old notes, and those of the other behind them
-pub both_shown : (at : Layout) (core : Core3) (file attributes : List Mapping) (old now new : List ForkNote) → shows at core Data ≡ true → file ≡ inline_mappings core Data → shows at core Attr ≡ true → attributes ≡ inline_mappings core Attr → now ≡ old ++ map (λ m. MappingNote core.ino Data m) file → new ≡ now ++ map (λ m. MappingNote core.ino Attr m) attributes → IsNoted old new (core_notes at core) true
-both_shown at core file attributes old now new d file_is a attributes_is first behind =
-    subst (λ (o : Option (List ForkNote)). IsNoted old new o true) (sym (both_is at core d a)) (
+-- the notes of the one fork were put behind the old ones, and those of the other behind them
+pub both_shown : (at : Layout) (core : Core3) (old now new : List ForkNote) → IsForkNoted at core Data old now true → IsForkNoted at core Attr now new true → IsNoted old new (core_notes at core) true
+both_shown at core old now new file attributes =
+    subst (λ (o : Option (List ForkNote)). IsNoted old new o true) (sym (both_is at core file.0 attributes.0)) (
       refl,
-      behind ∙ ap (λ (ms : List Mapping). now ++ map (λ m. MappingNote core.ino Attr m) ms) attributes_is
-          ∙ ap (λ (xs : List ForkNote). xs ++ fork_notes core Attr) (first ∙ ap (λ (ms : List Mapping). old ++ map (λ m. MappingNote core.ino Data m) ms) file_is)
-          ∙ append_assoc old (fork_notes core Data) (fork_notes core Attr),
+      attributes.1 ∙ ap (λ (xs : List ForkNote). xs ++ fork_notes core Attr) file.1 ∙ append_assoc old (fork_notes core Data) (fork_notes core Attr),
     )
+
+-- a fork is shown, and its mappings were put
+pub fork_put : (at : Layout) (core : Core3) (f : Fork) (mappings : List Mapping) (old now : List ForkNote) → (shows at core f ≡ true) × (mappings ≡ inline_mappings core f) → now ≡ old ++ map (λ m. MappingNote core.ino f m) mappings → IsForkNoted at core f old now true
+fork_put at core f mappings old now shown put = (shown.0, put ∙ ap (λ (ms : List Mapping). old ++ map (λ m. MappingNote core.ino f m) ms) shown.1)
 
 -- ---- the inodes of a block
 

@@ -1,5 +1,4 @@
 -- How the notes grow as the inodes of a block are looked at.
-use Rattle.std.specs.Global.{Vec}
 use Rattle.std.specs.Prelude.{◌≡◌, ℕ, Bool, true, false, List, ◌++◌, length, take, Option, Some, None, Result, Ok, Err}
 use Rattle.dinode_core.specs.Inline.{inline_mappings}
 use Rattle.dinode_core.specs.declared.inode.Core3.{Core3}
@@ -7,13 +6,18 @@ use Rattle.dinode_core.specs.declared.inode.CoreFault.{CoreFault}
 use Rattle.dinode_core.specs.declared.mapping.Fork.{Fork}
 use Rattle.dinode_core.specs.declared.mapping.Mapping.{Mapping}
 use Rattle.geom.specs.Layout.{Layout}
-use Rattle.inode_pass.specs.Notes.{notes_by, shows}
+use Rattle.inode_pass.specs.Notes.{fork_notes, notes_by, shows}
 use Rattle.inode_pass.specs.declared.note.ForkNote.{ForkNote}
 
--- the mappings of a fork that the inode shows, or none of one that it doesn't show
-abbrev pub IsShown : Layout → Core3 → Fork → Option (Vec Mapping) → Type 0
-IsShown at core f (Some mappings) = (shows at core f ≡ true) × (mappings.items ≡ inline_mappings core f)
-IsShown at core f None = shows at core f ≡ false
+-- whether the inode shows a fork, and then these are its mappings
+abbrev pub IsShown : Layout → Core3 → Fork → List Mapping → Bool → Type 0
+IsShown at core f mappings true = (shows at core f ≡ true) × (mappings ≡ inline_mappings core f)
+IsShown at core f mappings false = shows at core f ≡ false
+
+-- the notes of a fork that the inode shows were put, and else nothing
+abbrev pub IsForkNoted : Layout → Core3 → Fork → List ForkNote → List ForkNote → Bool → Type 0
+IsForkNoted at core f old now true = (shows at core f ≡ true) × (now ≡ old ++ fork_notes core f)
+IsForkNoted at core f old now false = (shows at core f ≡ false) × (now ≡ old)
 
 -- what a decoded core shows
 abbrev pub notes_in : Layout → Result Core3 CoreFault → Option (List ForkNote)

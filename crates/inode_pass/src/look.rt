@@ -9,9 +9,9 @@ ghost use Rattle.inode_pass.specs.declared.note.ForkNote.TheVariants.{Block as B
 use crate::note::ForkNote;
 use crate::shown::note_slot;
 use byte_fields::Block;
-use dinode_core::{Core3, CoreFault, decode_core};
+use dinode_core::{Core3, CoreFault, Mapping, decode_core};
 use geom::{Geometry, InodePlace};
-use std::alloc::{AllocError, Global};
+use std::alloc::AllocError;
 
 // The inodes of a block.
 const BLOCK_INODES: u32 = 8;
@@ -69,14 +69,15 @@ fn put_block(
 }
 
 /// Puts down what the eight cores of a group's block say, in their order, and what they show of their
-/// inodes' forks (XFS Algorithms and Data Structures, "On-disk Inode").
+/// inodes' forks. The room is lent for the mappings of one fork
+/// (XFS Algorithms and Data Structures, "On-disk Inode").
 pub fn look_block(
-    alloc: Global,
     block: &Block,
     geo: &Geometry,
     g: u32,
     b: u32,
     looks: &mut Vec<Result<u16, CoreFault>>,
+    room: &mut Vec<Mapping>,
     notes: &mut Vec<ForkNote>,
 ) -> Result<(), AllocError>
     requires { HasBlock geo.now g b }
@@ -87,7 +88,7 @@ pub fn look_block(
     let mut shown = true;
     for slot in 0..BLOCK_INODES {
         let core = core_at(block, geo, g, b, slot);
-        shown = note_slot(alloc, geo, &core, shown, notes)?;
+        shown = note_slot(geo, &core, shown, room, notes)?;
         looks.push(mode_of(&core))?;
     }
     put_block(b, shown, before, notes)?;

@@ -1,30 +1,30 @@
 ghost use Rattle.std.specs.Prelude.{◌≡◌, ◌++◌, true, false, map, IfOk, OnOk};
 ghost use Rattle.geom.specs.Places.{layout};
 ghost use Rattle.inode_pass.specs.Notes.{core_notes};
-ghost use Rattle.inode_pass.specs.Noting.{IsNoted, IsShown, notes_in};
+ghost use Rattle.inode_pass.specs.Noting.{IsForkNoted, IsNoted, IsShown, notes_in};
 ghost use Rattle.inode_pass.specs.declared.note.ForkNote.TheVariants.{Mapping as MappingNote};
 
 use crate::note::ForkNote;
-use dinode_core::{Core3, CoreFault, Fork, ForkError, Mapping, inline_fork, is_in_btree};
+use dinode_core::{Core3, CoreFault, Fork, ForkError, Mapping, inline_fork_into, is_in_btree};
 use geom::Geometry;
-use std::alloc::{AllocError, Global};
+use std::alloc::AllocError;
 
-// The mappings of a fork that the inode shows the whole of; none where its blocks are to be read.
+// Whether the inode shows the whole of a fork; then its mappings stand in the room, which is lent.
 #[tactic(auto, using(crate::proofs::NoteLemmas::tree_unshown, crate::proofs::NoteLemmas::fault_unshown, crate::proofs::NoteLemmas::whole_shown))]
-fn shown_fork(
-    alloc: Global,
+fn shows_fork(
     core: &Core3,
     fork: Fork,
     geo: &Geometry,
-) -> Result<Option<Vec<Mapping>>, AllocError>
-    ensures { IfOk result (IsShown (layout geo.now) core.now fork) }
+    room: &mut Vec<Mapping>,
+) -> Result<bool, AllocError>
+    ensures { IfOk result (IsShown (layout geo.now) core.now fork room.new.items) }
 {
     if is_in_btree(core, fork) {
-        return Ok(None);
+        return Ok(false);
     }
-    match inline_fork(alloc, core, fork, geo) {
-        Ok(mappings) => Ok(Some(mappings)),
-        Err(ForkError::Fault(_)) => Ok(None),
+    match inline_fork_into(core, fork, geo, room) {
+        Ok(_) => Ok(true),
+        Err(ForkError::Fault(_)) => Ok(false),
         Err(ForkError::Memory) => Err(AllocError),
     }
 }
@@ -48,33 +48,51 @@ fn put_mappings(
     Ok(())
 }
 
-// Puts down the mappings of both forks of an inode that shows both, and tells whether it does.
-fn note_core(
-    alloc: Global,
+// Puts down the mappings of a fork that the inode shows the whole of, and tells whether it does.
+fn note_fork(
     geo: &Geometry,
     core: &Core3,
+    fork: Fork,
+    room: &mut Vec<Mapping>,
+    notes: &mut Vec<ForkNote>,
+) -> Result<bool, AllocError>
+    ensures { IfOk result (λ now. IsForkNoted (layout geo.now) core.now fork notes.old.items notes.new.items now) }
+{
+    if !shows_fork(core, fork, geo, room)? {
+        return Ok(false);
+    }
+    put_mappings(core.ino, fork, room, notes)?;
+    Ok(true)
+}
+
+// Puts down the mappings of both forks of an inode that shows both, and tells whether it does.
+fn note_core(
+    geo: &Geometry,
+    core: &Core3,
+    room: &mut Vec<Mapping>,
     notes: &mut Vec<ForkNote>,
 ) -> Result<bool, AllocError>
     ensures { IfOk result (IsNoted notes.old.items notes.new.items (core_notes (layout geo.now) core.now)) }
 {
-    let Some(file) = shown_fork(alloc, core, Fork::Data, geo)? else {
+    let before = notes.len();
+    if !note_fork(geo, core, Fork::Data, room, notes)? {
         return Ok(false);
-    };
-    let Some(attributes) = shown_fork(alloc, core, Fork::Attr, geo)? else {
+    }
+    if !note_fork(geo, core, Fork::Attr, room, notes)? {
+        // What the data fork shows goes too: the inode is read for both.
+        notes.truncate(before);
         return Ok(false);
-    };
-    put_mappings(core.ino, Fork::Data, &file, notes)?;
-    put_mappings(core.ino, Fork::Attr, &attributes, notes)?;
+    }
     Ok(true)
 }
 
 /// Puts down what one more core of a block shows of its inode's forks, where those before it show theirs,
-/// and tells whether all do so far (XFS Algorithms and Data Structures, "Data Fork").
+/// and tells whether all do so far. The room is lent for the mappings of one fork (XFS Algorithms and Data Structures, "Data Fork").
 pub fn note_slot(
-    alloc: Global,
     geo: &Geometry,
     core: &Result<Core3, CoreFault>,
     shown: bool,
+    room: &mut Vec<Mapping>,
     notes: &mut Vec<ForkNote>,
 ) -> Result<bool, AllocError>
     ensures left { IfOk result (λ now. shown ≡ false → (now ≡ false) × (notes.new.items ≡ notes.old.items)) }
@@ -91,5 +109,5 @@ pub fn note_slot(
     if core.mode == 0 {
         return Ok(true);
     }
-    note_core(alloc, geo, core, notes)
+    note_core(geo, core, room, notes)
 }

@@ -17,7 +17,7 @@ use crate::note::ForkNote;
 use crate::stop::PassStop;
 use blk_device::Device;
 use byte_fields::{Block, Steps};
-use dinode_core::CoreFault;
+use dinode_core::{CoreFault, Mapping};
 use fs_model::Evidence;
 use geom::Geometry;
 use index_derive::{UnitCores, free_mask};
@@ -42,13 +42,13 @@ pub struct UnitSeen {
 
 // Puts down what the cores of one block of a group say and show, which is read into a block that is lent.
 fn look_read<D: Device, L: Ledger>(
-    alloc: Global,
     dev: &mut D,
     geo: &Geometry,
     g: u32,
     b: u32,
     block: &mut Block,
     looks: &mut Vec<Result<u16, CoreFault>>,
+    room: &mut Vec<Mapping>,
     notes: &mut Vec<ForkNote>,
     steps: &mut Steps<L>,
 ) -> Result<(), PassStop>
@@ -65,7 +65,7 @@ fn look_read<D: Device, L: Ledger>(
 {
     let at = geo.device_block(g, b);
     read_block(dev, at, block, steps)?;
-    look_block(alloc, block, geo, g, b, looks, notes)?;
+    look_block(block, geo, g, b, looks, room, notes)?;
     Ok(())
 }
 
@@ -91,10 +91,14 @@ fn look_unit<D: Device, L: Ledger>(
     ensures few { steps.new.reads ≤ steps.old.reads + 8 }
 {
     let mut looks = Vec::with_capacity(alloc, UNIT_INODES)?;
+    // One list for the mappings of all forks, one after the other.
+    let mut room = Vec::new(alloc);
     let mut block = Block::zeroed();
     for j in 0..UNIT_BLOCKS {
         let b = UNIT_BLOCKS * unit + j;
-        look_read(alloc, dev, geo, g, b, &mut block, &mut looks, notes, steps)?;
+        look_read(
+            dev, geo, g, b, &mut block, &mut looks, &mut room, notes, steps,
+        )?;
     }
     Ok(looks)
 }

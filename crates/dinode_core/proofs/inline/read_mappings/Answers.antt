@@ -9,8 +9,8 @@ loop-left-preserved c =
     let unpacked = c.unpack_front.ensures.exact in
     record {
       room = omega arith;
-      all = rw (pushed, unpacked, back) (one_more c.loop-left.found.items c.loop-left.left c.loop-left.rest.now c.args.area.now c.args.count c.loop-left-test.true c.loop-left.invariant.all);
+      all = rw (pushed, unpacked, back) (one_more c.loop-left.into.items c.loop-left.left c.loop-left.rest.now c.args.area.now c.args.count c.loop-left-test.true c.loop-left.invariant.all);
     }
 
 pub returns : goal.returns
-returns c = none_left c.loop-left.found.items c.loop-left.left c.loop-left.rest.now c.args.area.now c.args.count (omega arith) c.loop-left.invariant.all
+returns c = none_left c.loop-left.into.items c.loop-left.left c.loop-left.rest.now c.args.area.now c.args.count (omega arith) c.loop-left.invariant.all

@@ -6,7 +6,7 @@ use Rattle.dinode_core.proofs.inline.read_mappings.Given as goal
 abbrev pub invariant-loop-left : goal.invariant-loop-left
 invariant-loop-left l = record {
   room : 16 * l.left ≤ length l.rest;
-  all : l.found.items ++ mappings_in l.left l.rest ≡ mappings_in l.count l.area;
+  all : l.into.items ++ mappings_in l.left l.rest ≡ mappings_in l.count l.area;
 }
 
 abbrev pub decreases-loop-left : goal.decreases-loop-left

@@ -1,23 +1,22 @@
 use Rattle.std.proofs.Common.{◌∙◌}
-use Rattle.dinode_core.specs.declared.mapping.Fork.TheVariants.{Data, Attr}
 use Rattle.geom.specs.Places.{layout}
-use Rattle.inode_pass.proofs.NoteLemmas.{both_shown, unshown}
+use Rattle.inode_pass.proofs.NoteLemmas.{attr_unshown, both_shown, data_unshown}
 use Rattle.inode_pass.proofs.shown.note_core.Goals as goal
 
-pub returns-in_default : goal.returns-in_default
-returns-in_default c =
-    let hidden = rw c.in_default.is at c.in_ok-file.ensures in
-    unshown (layout c.args.geo.now) c.args.core.now Data c.args.notes.now.items hidden
+pub returns-then-not-branch : goal.returns-then-not-branch
+returns-then-not-branch c =
+    let file = rw c.if-not-branch.true at c.in_ok-note_fork.ensures in
+    data_unshown (layout c.args.geo.now) c.args.core.now c.args.notes.now.items c.note_fork.new.notes.items file
 
-pub returns-in_default-2 : goal.returns-in_default-2
-returns-in_default-2 c =
-    let hidden = rw c.in_default-2.is at c.in_ok-attributes.ensures in
-    unshown (layout c.args.geo.now) c.args.core.now Attr c.args.notes.now.items hidden
+pub returns-then-not-branch-2 : goal.returns-then-not-branch-2
+returns-then-not-branch-2 c =
+    let file = rw c.if-not-branch.false at c.in_ok-note_fork.ensures in
+    let attributes = rw c.if-not-branch-2.true at c.in_ok-note_fork-2.ensures in
+    attr_unshown (layout c.args.geo.now) c.args.core.now c.len-before.result c.args.notes.now.items c.note_fork.new.notes.items c.note_fork-2.new.notes.items c.truncate.new.self.items
+    (c.len-before.ensures ∙ c.args.notes.now.ok.0) file attributes c.truncate.ensures.items
 
 pub returns : goal.returns
 returns c =
-    let file = rw c.in-Some.is at c.in_ok-file.ensures in
-    let attributes = rw c.in-Some-2.is at c.in_ok-attributes.ensures in
-    both_shown (layout c.args.geo.now) c.args.core.now c.deref.result.now c.deref-2.result.now c.args.notes.now.items c.put_mappings.new.notes.items c.put_mappings-2.new.notes.items
-    file.0 (c.deref.ensures.value ∙ file.1) attributes.0 (c.deref-2.ensures.value ∙ attributes.1)
-    c.in_ok-put_mappings.ensures c.in_ok-put_mappings-2.ensures
+    let file = rw c.if-not-branch.false at c.in_ok-note_fork.ensures in
+    let attributes = rw c.if-not-branch-2.false at c.in_ok-note_fork-2.ensures in
+    both_shown (layout c.args.geo.now) c.args.core.now c.args.notes.now.items c.note_fork.new.notes.items c.note_fork-2.new.notes.items file attributes
