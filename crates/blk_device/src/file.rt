@@ -4,7 +4,7 @@ ghost use Rattle.blk_device.specs.Window.{block_in};
 use crate::counted::answer;
 use crate::device::{Device, DeviceFailed, Region};
 use crate::tally::block_or_zeros;
-use crate::window::Window;
+use crate::window::{READ_AHEAD_BLOCKS, Window};
 use byte_fields::Block;
 use std::alloc::Global;
 use std::collections::BTreeMap;
@@ -135,6 +135,12 @@ fn read_ahead<F: Read + Seek + Drop>(image: &mut ImageFile<F>, at: u64, end: u64
     }
 }
 
+// Whether the blocks behind this one are worth reading with it: it was asked for in its order, or a
+// chunk of inodes may begin here, whose blocks are asked for one after the other.
+fn begins_run<F: Drop>(image: &ImageFile<F>, at: u64) -> bool {
+    image.next == Some(at) || at % READ_AHEAD_BLOCKS as u64 == 0
+}
+
 // Reads a block of the image, out of the window if it is there. Blocks that are asked for in their
 // order are read at once; where that fails, this one is read alone, since what ails a block behind
 // it is no fault of this one.
@@ -146,12 +152,12 @@ fn read_image<F: Read + Seek + Drop>(
 ) -> bool
     ensures held { IfSome (block_in image.old.window at) (λ bytes. (result ≡ true) × (into.new.bytes ≡ bytes)) }
 {
-    let is_next = image.next == Some(at);
+    let is_run = begins_run(image, at);
     image.next = at.checked_add(1);
     if image.window.get(at, into) {
         return true;
     }
-    if is_next {
+    if is_run {
         read_ahead(image, at, end);
     }
     image.window.get(at, into) || read_block(&mut image.placed, at, into)
