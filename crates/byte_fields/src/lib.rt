@@ -3,10 +3,12 @@
 
 mod block;
 mod checksum;
+mod far_tables;
 mod fields;
 mod plain;
 mod steps;
 mod tables;
+mod words;
 
 pub use block::Block;
 pub use checksum::{crc32c, is_summed, sum_at};

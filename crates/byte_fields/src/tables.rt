@@ -5,9 +5,10 @@
 ghost use Rattle.std.specs.Prelude.{◌≡◌, IsTrue};
 ghost use Rattle.byte_fields.specs.Tables.{after_zeros, is_table};
 
+/// The entry of this byte in the table for `N` bytes.
 #[inline]
 #[tactic(auto, using(crate::proofs::TableLemmas::entry))]
-fn entry<const N: usize>(table: &[u32; 256], byte: u8) -> u32
+pub fn entry<const N: usize>(table: &[u32; 256], byte: u8) -> u32
     requires { IsTrue (is_table N table.now) }
     ensures { result ≡ after_zeros N byte }
 {
