@@ -53,6 +53,9 @@ past_sixteen w lt = by_bytes 12 w lt
 pub past_sixty_four : (w : ℕ) → w < 2 ^ 32 → after_zeros 64 w ≡ bit_xor (bit_xor (after_zeros 64 (w % 256)) (after_zeros 63 (w / 256 % 256))) (bit_xor (after_zeros 62 (w / 65536 % 256)) (after_zeros 61 (w / 16777216)))
 past_sixty_four w lt = by_bytes 60 w lt
 
+pub past_one_twenty_eight : (w : ℕ) → w < 2 ^ 32 → after_zeros 128 w ≡ bit_xor (bit_xor (after_zeros 128 (w % 256)) (after_zeros 127 (w / 256 % 256))) (bit_xor (after_zeros 126 (w / 65536 % 256)) (after_zeros 125 (w / 16777216)))
+past_one_twenty_eight w lt = by_bytes 124 w lt
+
 -- the bytes of a word, the lowest first
 word_of : (a b d e : ℕ) → a < 256 → b < 256 → d < 256 → e < 256 → after_zeros 4 (a + b * 256 + (d + e * 256) * 65536) ≡ after_bytes 0 (a ∷ b ∷ d ∷ e ∷ [])
 word_of a b d e la lb ld le =
@@ -124,10 +127,29 @@ after_sixteen c v w x y xs len ev ew ex ey =
     next_word 8 4 w xs (omega (arith, len)) ew ∙ ap (bit_xor (after_zeros 12 w)) third in
     front_word 12 c v xs len ev ∙ ap (bit_xor (after_zeros 16 (bit_xor c v))) second
 
--- 64 bytes of zero
+-- bytes of zero
 pub after_empty : (c : ℕ) (xs : List ℕ) → length xs ≡ 64 → xs ≡ replicate (length xs) 0 → after_bytes c xs ≡ after_zeros 64 c
 after_empty c xs len none =
     ap (after_bytes c) (none ∙ ap (λ (k : ℕ). replicate k 0) len) ∙ zeros-are 64 c
+
+all_empty : (c : ℕ) (xs : List ℕ) → xs ≡ replicate (length xs) 0 → after_bytes c xs ≡ after_zeros (length xs) c
+all_empty c xs none = ap (after_bytes c) none ∙ zeros-are (length xs) c
+
+-- 128 bytes of zero, in two pieces
+pub after_broad : (c : ℕ) (xs : List ℕ) → length xs ≡ 128 → take 64 xs ≡ replicate (length (take 64 xs)) 0 → drop 64 xs ≡ replicate (length (drop 64 xs)) 0 → after_bytes c xs ≡ after_zeros 128 c
+after_broad c xs len front back =
+    let short : length (take 64 xs) ≡ 64 = length-take-le 64 xs (omega (arith, len)) in
+    let long : length (drop 64 xs) ≡ 64 = length-drop 64 xs ∙ omega (arith, len) in
+    let first : after_bytes c (take 64 xs) ≡ after_zeros 64 c = after_empty c (take 64 xs) short front in
+    let second : after_bytes (after_zeros 64 c) (drop 64 xs) ≡ after_zeros 64 (after_zeros 64 c) =
+    all_empty (after_zeros 64 c) (drop 64 xs) back ∙ ap (λ (k : ℕ). after_zeros k (after_zeros 64 c)) long in
+    sym (after_bytes_split c 64 xs) ∙ (ap (λ (m : ℕ). after_bytes m (drop 64 xs)) first ∙ (second ∙ zeros-on 64 64 c))
+
+-- four steps of 16 bytes
+pub in_quarters : (c : ℕ) (xs : List ℕ) → after_bytes (after_bytes (after_bytes (after_bytes c (take 16 (take 32 xs))) (drop 16 (take 32 xs))) (take 16 (drop 32 xs))) (drop 16 (drop 32 xs)) ≡ after_bytes c xs
+in_quarters c xs =
+    ap (λ (m : ℕ). after_bytes (after_bytes m (take 16 (drop 32 xs))) (drop 16 (drop 32 xs))) (after_bytes_split c 16 (take 32 xs))
+    ∙ (after_bytes_split (after_bytes c (take 32 xs)) 16 (drop 32 xs) ∙ after_bytes_split c 32 xs)
 
 -- the bytes before the sum, four of zero in its place, and the bytes behind it
 pub sum_in_parts : (c at : ℕ) (xs : List ℕ) → after_bytes (after_zeros 4 (after_bytes c (take at xs))) (drop 4 (drop at xs)) ≡ after_bytes c (blanked xs at)

@@ -1,4 +1,4 @@
-ghost use Rattle.std.specs.Prelude.{◌≡◌, ◌+◌, ◌≤◌, length, replicate, IsTrue};
+ghost use Rattle.std.specs.Prelude.{◌≡◌, ◌+◌, ◌%◌, ◌≤◌, length, replicate, IsTrue};
 ghost use Rattle.byte_fields.specs.Checksum.{after_byte, after_bytes, checksum, blanked, has_sum};
 
 use crate::fields::get_sum;
@@ -6,6 +6,8 @@ use crate::{tables, words};
 
 // How many bytes are looked at together for whether all are zero.
 const WIDE: usize = 64;
+
+const BROAD: usize = 128;
 
 // One byte: the high bits move down, and what the low byte leaves is laid over them.
 #[tactic(auto, using(crate::proofs::TableLemmas::by_table))]
@@ -92,7 +94,8 @@ fn is_empty(bytes: &[u8]) -> bool
 }
 
 // 64 bytes: most of an inode's, and many of a short list's, are zero.
-#[tactic(auto, using(crate::proofs::WordLemmas::after_empty))]
+#[inline]
+#[tactic(auto, using(crate::proofs::WordLemmas::after_empty, crate::proofs::WordLemmas::in_quarters))]
 fn next_wide(rest: u32, wide: &[u8]) -> u32
     requires { length wide.now ≡ 64 }
     ensures { result ≡ after_bytes rest wide.now }
@@ -100,10 +103,15 @@ fn next_wide(rest: u32, wide: &[u8]) -> u32
     if is_empty(wide) {
         return words::past_sixty_four(rest);
     }
-    next_sixteens(rest, wide)
+    let (front, back) = wide.split_at(32);
+    let (first, second) = front.split_at(16);
+    let (third, fourth) = back.split_at(16);
+    let rest = next_sixteen(next_sixteen(rest, first), second);
+    next_sixteen(next_sixteen(rest, third), fourth)
 }
 
-fn next_bytes(first: u32, bytes: &[u8]) -> u32
+fn next_wides(first: u32, bytes: &[u8]) -> u32
+    requires { length bytes.now % 64 ≡ 0 }
     ensures { result ≡ after_bytes first bytes.now }
 {
     let mut rest = first;
@@ -113,7 +121,44 @@ fn next_bytes(first: u32, bytes: &[u8]) -> u32
         rest = next_wide(rest, wide);
         left = tail;
     }
-    next_sixteens(rest, left)
+    rest
+}
+
+// 128 bytes, as each quarter of an inode.
+#[tactic(auto, using(crate::proofs::WordLemmas::after_broad))]
+fn next_broad(rest: u32, broad: &[u8]) -> u32
+    requires { length broad.now ≡ 128 }
+    ensures { result ≡ after_bytes rest broad.now }
+{
+    let (front, back) = broad.split_at(WIDE);
+    if is_empty(front) && is_empty(back) {
+        return words::past_one_twenty_eight(rest);
+    }
+    next_wides(rest, broad)
+}
+
+fn next_broads(first: u32, bytes: &[u8]) -> u32
+    requires { length bytes.now % 128 ≡ 0 }
+    ensures { result ≡ after_bytes first bytes.now }
+{
+    let mut rest = first;
+    let mut left = bytes;
+    while left.len() >= BROAD {
+        let (broad, tail) = left.split_at(BROAD);
+        rest = next_broad(rest, broad);
+        left = tail;
+    }
+    rest
+}
+
+// The short pieces stand in front: zeros are mostly at the end, so they fill whole pieces.
+#[tactic(auto, using(crate::proofs::ChecksumLemmas::after_bytes_split))]
+fn next_bytes(first: u32, bytes: &[u8]) -> u32
+    ensures { result ≡ after_bytes first bytes.now }
+{
+    let (short, long) = bytes.split_at(bytes.len() % WIDE);
+    let (wides, broads) = long.split_at(long.len() % BROAD);
+    next_broads(next_wides(next_sixteens(first, short), wides), broads)
 }
 
 /// The CRC-32C of the bytes: Castagnoli polynomial, from all ones, complemented

@@ -5,6 +5,7 @@ mod block;
 mod checksum;
 mod far_tables;
 mod fields;
+mod near_tables;
 mod plain;
 mod steps;
 mod tables;

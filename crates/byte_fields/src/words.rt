@@ -3,7 +3,7 @@ ghost use Rattle.std.specs.Prelude.{◌≡◌, ◌+◌, ◌≤◌, length, take,
 ghost use Rattle.byte_fields.specs.Checksum.{after_bytes};
 ghost use Rattle.byte_fields.specs.Tables.{after_zeros};
 
-use crate::{far_tables, tables};
+use crate::tables;
 
 /// The four bytes at offset `at` as a word. They leave behind them what four bytes of zero
 /// make of it.
@@ -50,10 +50,10 @@ pub fn past_eight(word: u32) -> u32
 pub fn past_twelve(word: u32) -> u32
     ensures { result ≡ after_zeros 12 word }
 {
-    let low = far_tables::after_twelve((word % 256) as u8)
-        ^ far_tables::after_eleven((word / 256 % 256) as u8);
-    let high = far_tables::after_ten((word / 65536 % 256) as u8)
-        ^ far_tables::after_nine((word / 16777216) as u8);
+    let low = tables::after_twelve((word % 256) as u8)
+        ^ tables::after_eleven((word / 256 % 256) as u8);
+    let high = tables::after_ten((word / 65536 % 256) as u8)
+        ^ tables::after_nine((word / 16777216) as u8);
     low ^ high
 }
 
@@ -63,10 +63,10 @@ pub fn past_twelve(word: u32) -> u32
 pub fn past_sixteen(word: u32) -> u32
     ensures { result ≡ after_zeros 16 word }
 {
-    let low = far_tables::after_sixteen((word % 256) as u8)
-        ^ far_tables::after_fifteen((word / 256 % 256) as u8);
-    let high = far_tables::after_fourteen((word / 65536 % 256) as u8)
-        ^ far_tables::after_thirteen((word / 16777216) as u8);
+    let low = tables::after_sixteen((word % 256) as u8)
+        ^ tables::after_fifteen((word / 256 % 256) as u8);
+    let high = tables::after_fourteen((word / 65536 % 256) as u8)
+        ^ tables::after_thirteen((word / 16777216) as u8);
     low ^ high
 }
 
@@ -80,5 +80,18 @@ pub fn past_sixty_four(word: u32) -> u32
         ^ tables::after_sixty_three((word / 256 % 256) as u8);
     let high = tables::after_sixty_two((word / 65536 % 256) as u8)
         ^ tables::after_sixty_one((word / 16777216) as u8);
+    low ^ high
+}
+
+/// What 128 bytes of zero make of this word.
+#[inline]
+#[tactic(auto, using(crate::proofs::WordLemmas::past_one_twenty_eight))]
+pub fn past_one_twenty_eight(word: u32) -> u32
+    ensures { result ≡ after_zeros 128 word }
+{
+    let low = tables::after_one_twenty_eight((word % 256) as u8)
+        ^ tables::after_one_twenty_seven((word / 256 % 256) as u8);
+    let high = tables::after_one_twenty_six((word / 65536 % 256) as u8)
+        ^ tables::after_one_twenty_five((word / 16777216) as u8);
     low ^ high
 }
