@@ -117,6 +117,12 @@ after_four c v xs len e =
     front_word 0 c v xs len e
     ∙ (ap (bit_xor (after_zeros 4 (bit_xor c v))) (after_bytes_end 0 4 xs (omega (arith, len))) ∙ xor_zero_r (after_zeros 4 (bit_xor c v)))
 
+pub after_eight : (c v w : ℕ) (xs : List ℕ) → length xs ≡ 8 → after_zeros 4 v ≡ after_bytes 0 (take 4 xs) → after_zeros 4 w ≡ after_bytes 0 (take 4 (drop 4 xs)) → after_bytes c xs ≡ bit_xor (after_zeros 8 (bit_xor c v)) (after_zeros 4 w)
+after_eight c v w xs len ev ew =
+    let last : after_bytes 0 (drop 4 xs) ≡ after_zeros 4 w =
+    next_word 0 4 w xs (omega (arith, len)) ew ∙ (ap (bit_xor (after_zeros 4 w)) (after_bytes_end 0 8 xs (omega (arith, len))) ∙ xor_zero_r (after_zeros 4 w)) in
+    front_word 4 c v xs len ev ∙ ap (bit_xor (after_zeros 8 (bit_xor c v))) last
+
 -- what 16 bytes give, each word of them by the tables of its place
 pub after_sixteen : (c v w x y : ℕ) (xs : List ℕ) → length xs ≡ 16 → after_zeros 4 v ≡ after_bytes 0 (take 4 xs) → after_zeros 4 w ≡ after_bytes 0 (take 4 (drop 4 xs)) → after_zeros 4 x ≡ after_bytes 0 (take 4 (drop 8 xs)) → after_zeros 4 y ≡ after_bytes 0 (take 4 (drop 12 xs)) → after_bytes c xs ≡ bit_xor (after_zeros 16 (bit_xor c v)) (bit_xor (after_zeros 12 w) (bit_xor (after_zeros 8 x) (after_zeros 4 y)))
 after_sixteen c v w x y xs len ev ew ex ey =

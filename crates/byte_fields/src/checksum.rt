@@ -38,6 +38,17 @@ fn next_four(rest: u32, four: &[u8]) -> u32
     words::past_four(rest ^ words::word_at(four, 0))
 }
 
+#[inline]
+#[tactic(auto, using(crate::proofs::WordLemmas::after_eight))]
+fn next_eight(rest: u32, eight: &[u8]) -> u32
+    requires { length eight.now ≡ 8 }
+    ensures { result ≡ after_bytes rest eight.now }
+{
+    let behind = words::past_four(words::word_at(eight, 4));
+    let front = words::past_eight(rest ^ words::word_at(eight, 0));
+    front ^ behind
+}
+
 // 16 bytes at once: the first four are laid over the remainder, and all are looked up, each in
 // the table of its place. What doesn't wait for the remainder is joined first, so that little is
 // left to do once it is there.
@@ -67,7 +78,17 @@ fn next_fours(first: u32, bytes: &[u8]) -> u32
     next_each(rest, left)
 }
 
-#[inline]
+// Less than 16 bytes.
+fn next_few(first: u32, bytes: &[u8]) -> u32
+    ensures { result ≡ after_bytes first bytes.now }
+{
+    if bytes.len() < 8 {
+        return next_fours(first, bytes);
+    }
+    let (eight, tail) = bytes.split_at(8);
+    next_fours(next_eight(first, eight), tail)
+}
+
 fn next_sixteens(first: u32, bytes: &[u8]) -> u32
     ensures { result ≡ after_bytes first bytes.now }
 {
@@ -78,7 +99,7 @@ fn next_sixteens(first: u32, bytes: &[u8]) -> u32
         rest = next_sixteen(rest, sixteen);
         left = tail;
     }
-    next_fours(rest, left)
+    next_few(rest, left)
 }
 
 // Whether all bytes are zero. No byte ends it, so that many are looked at with one instruction.
