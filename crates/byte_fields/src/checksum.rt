@@ -38,6 +38,7 @@ fn next_four(rest: u32, four: &[u8]) -> u32
     words::past_four(rest ^ words::word_at(four, 0))
 }
 
+// Eight bytes at once, in two words.
 #[inline]
 #[tactic(auto, using(crate::proofs::WordLemmas::after_eight))]
 fn next_eight(rest: u32, eight: &[u8]) -> u32
@@ -49,9 +50,9 @@ fn next_eight(rest: u32, eight: &[u8]) -> u32
     front ^ behind
 }
 
-// 16 bytes at once: the first four are laid over the remainder, and all are looked up, each in
-// the table of its place. What doesn't wait for the remainder is joined first, so that little is
-// left to do once it is there.
+// 16 bytes at once, in four words: the first is laid over the remainder, and each byte of all is
+// looked up in the table of its place. What doesn't wait for the remainder is joined first, so
+// that little is left to do once it is there.
 #[inline]
 #[tactic(auto, using(crate::proofs::WordLemmas::after_sixteen))]
 fn next_sixteen(rest: u32, sixteen: &[u8]) -> u32
@@ -131,6 +132,7 @@ fn next_wide(rest: u32, wide: &[u8]) -> u32
     next_sixteen(next_sixteen(rest, third), fourth)
 }
 
+// Pieces of 64 bytes, with none left over.
 fn next_wides(first: u32, bytes: &[u8]) -> u32
     requires { length bytes.now % 64 ≡ 0 }
     ensures { result ≡ after_bytes first bytes.now }
@@ -158,6 +160,7 @@ fn next_broad(rest: u32, broad: &[u8]) -> u32
     next_wides(rest, broad)
 }
 
+// Pieces of 128 bytes, with none left over.
 fn next_broads(first: u32, bytes: &[u8]) -> u32
     requires { length bytes.now % 128 ≡ 0 }
     ensures { result ≡ after_bytes first bytes.now }
