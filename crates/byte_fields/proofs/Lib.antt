@@ -3,3 +3,4 @@ pub mod ChecksumLemmas
 pub mod EmptyLemmas
 pub mod TableLemmas
 pub mod TestLemmas
+pub mod WordLemmas

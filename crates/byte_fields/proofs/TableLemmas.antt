@@ -1,4 +1,4 @@
--- Eight bytes at once: the remainder is linear, and a byte's part of it stands in a table.
+-- The remainder is linear, and a byte's part of it stands in a table.
 use Rattle.std.proofs.Common.{◌≡◌, ℕ, zero, suc, ◌+◌, ◌*◌, ◌/◌, ◌%◌, ◌^◌, ◌<◌, ◌⊎◌, inl, inr, Bool, true, false, ◌&&◌, add-zero, List, [], ◌∷◌, length, get_or, replicate, refl, sym, ◌∙◌, ap, arith}
 use Rattle.std.specs.Prelude.{IsTrue, eqb}
 use Rattle.std.proofs.Math.Nat.{pow-succ'}
@@ -48,7 +48,7 @@ add-bit k l =
       ]
     ]
 
-add-bits : (n k l : ℕ) → after_bits n (bit_xor k l) ≡ bit_xor (after_bits n k) (after_bits n l)
+pub add-bits : (n k l : ℕ) → after_bits n (bit_xor k l) ≡ bit_xor (after_bits n k) (after_bits n l)
 unfolding after_bits
 add-bits zero k l = refl
 add-bits (suc n) k l = ap (after_bits n) (add-bit k l) ∙ add-bits n (after_bit k) (after_bit l)
@@ -120,7 +120,7 @@ unfolding after_byte
 last-one r b = add-bits 8 r b
 
 -- four bytes take the place of all bits that stood before
-after-four : (c a b d e : ℕ) → c < 2 ^ 32 → after_bytes c (a ∷ b ∷ d ∷ e ∷ []) ≡ bit_xor (after_bits 8 (bit_xor (after_bits 8 (bit_xor (after_bits 8 (after_bits 8 (bit_xor (c % 256) a))) (after_bits 8 (bit_xor (c / 256 % 256) b)))) (after_bits 8 (bit_xor (c / 65536 % 256) d)))) (after_bits 8 (bit_xor (c / 16777216) e))
+pub after-four : (c a b d e : ℕ) → c < 2 ^ 32 → after_bytes c (a ∷ b ∷ d ∷ e ∷ []) ≡ bit_xor (after_bits 8 (bit_xor (after_bits 8 (bit_xor (after_bits 8 (after_bits 8 (bit_xor (c % 256) a))) (after_bits 8 (bit_xor (c / 256 % 256) b)))) (after_bits 8 (bit_xor (c / 65536 % 256) d)))) (after_bits 8 (bit_xor (c / 16777216) e))
 unfolding after_bytes
 after-four c a b d e lt =
     let t1 = after_bits 8 (bit_xor (c % 256) a) in
@@ -142,74 +142,33 @@ after-four c a b d e lt =
 add-eight : (k l : ℕ) → after_bits 8 (bit_xor k l) ≡ bit_xor (after_bits 8 k) (after_bits 8 l)
 add-eight k l = add-bits 8 k l
 
-spread : (a b c d e f g h : ℕ) → bit_xor (after_bits 8 (bit_xor (after_bits 8 (bit_xor (after_bits 8 (bit_xor (after_bits 8 (bit_xor (after_bits 8 (bit_xor (after_bits 8 (bit_xor (after_bits 8 (after_bits 8 a)) (after_bits 8 b))) (after_bits 8 c))) (after_bits 8 d))) (after_bits 8 e))) (after_bits 8 f))) (after_bits 8 g))) (after_bits 8 h) ≡ bit_xor (bit_xor (bit_xor (bit_xor (bit_xor (bit_xor (bit_xor (after_zeros 8 a) (after_zeros 7 b)) (after_zeros 6 c)) (after_zeros 5 d)) (after_zeros 4 e)) (after_zeros 3 f)) (after_zeros 2 g)) (after_zeros 1 h)
-unfolding after_zeros
-spread a b c d e f g h = simp add-eight
-
--- the four parts that wait for nothing stand in front, and the others in two pairs
-regroup : (a b c d e f g h : ℕ) → bit_xor (bit_xor (bit_xor (bit_xor (bit_xor (bit_xor (bit_xor a b) c) d) e) f) g) h ≡ bit_xor (bit_xor (bit_xor (bit_xor e f) g) h) (bit_xor (bit_xor a b) (bit_xor c d))
-regroup a b c d e f g h =
-    let w = bit_xor (bit_xor (bit_xor a b) c) d in
-    let to : bit_xor (bit_xor (bit_xor (bit_xor w e) f) g) h ≡ bit_xor w (bit_xor (bit_xor (bit_xor e f) g) h) =
-    ap (λ (m : ℕ). bit_xor (bit_xor m g) h) (xor_assoc w e f) ∙ (ap (λ (m : ℕ). bit_xor m h) (xor_assoc w (bit_xor e f) g) ∙ xor_assoc w (bit_xor (bit_xor e f) g) h) in
-    to ∙ (xor_comm w (bit_xor (bit_xor (bit_xor e f) g) h) ∙ ap (bit_xor (bit_xor (bit_xor (bit_xor e f) g) h)) (xor_assoc (bit_xor a b) c d))
-
--- what eight bytes give, each by the table of its place
-pub after_eight : (c : ℕ) (xs : List ℕ) → c < 2 ^ 32 → length xs ≡ 8 → after_bytes c xs ≡ bit_xor (bit_xor (bit_xor (bit_xor (after_zeros 4 (get_or xs 4 0)) (after_zeros 3 (get_or xs 5 0))) (after_zeros 2 (get_or xs 6 0))) (after_zeros 1 (get_or xs 7 0))) (bit_xor (bit_xor (after_zeros 8 (bit_xor (c % 256) (get_or xs 0 0))) (after_zeros 7 (bit_xor (c / 256 % 256) (get_or xs 1 0)))) (bit_xor (after_zeros 6 (bit_xor (c / 65536 % 256) (get_or xs 2 0))) (after_zeros 5 (bit_xor (c / 16777216) (get_or xs 3 0)))))
-unfolding after_bytes
-after_eight c (a ∷ b ∷ d ∷ e ∷ f ∷ g ∷ h ∷ i ∷ []) lt n =
-    rw (after-four c a b d e lt, last-one _ f, last-one _ g, last-one _ h, last-one _ i)
-    (spread (bit_xor (c % 256) a) (bit_xor (c / 256 % 256) b) (bit_xor (c / 65536 % 256) d) (bit_xor (c / 16777216) e) f g h i ∙ regroup (after_zeros 8 (bit_xor (c % 256) a)) (after_zeros 7 (bit_xor (c / 256 % 256) b)) (after_zeros 6 (bit_xor (c / 65536 % 256) d)) (after_zeros 5 (bit_xor (c / 16777216) e)) (after_zeros 4 f) (after_zeros 3 g) (after_zeros 2 h) (after_zeros 1 i))
-after_eight c (a ∷ b ∷ d ∷ e ∷ f ∷ g ∷ h ∷ i ∷ j ∷ xs) lt n = absurd (omega arith)
-after_eight c [] lt n = absurd cc
-after_eight c (a ∷ []) lt n = absurd cc
-after_eight c (a ∷ b ∷ []) lt n = absurd cc
-after_eight c (a ∷ b ∷ d ∷ []) lt n = absurd cc
-after_eight c (a ∷ b ∷ d ∷ e ∷ []) lt n = absurd cc
-after_eight c (a ∷ b ∷ d ∷ e ∷ f ∷ []) lt n = absurd cc
-after_eight c (a ∷ b ∷ d ∷ e ∷ f ∷ g ∷ []) lt n = absurd cc
-after_eight c (a ∷ b ∷ d ∷ e ∷ f ∷ g ∷ h ∷ []) lt n = absurd cc
-
 -- bytes of zero
-zeros-are : (n c : ℕ) → after_bytes c (replicate n 0) ≡ after_zeros n c
+pub zeros-are : (n c : ℕ) → after_bytes c (replicate n 0) ≡ after_zeros n c
 unfolding after_bytes after_byte after_zeros
 zeros-are zero c = refl
 zeros-are (suc n) c = ap (λ (m : ℕ). after_bytes (after_bits 8 m) (replicate n 0)) (xor_zero_r c) ∙ zeros-are n (after_bits 8 c)
 
-add-zeros : (n k l : ℕ) → after_zeros n (bit_xor k l) ≡ bit_xor (after_zeros n k) (after_zeros n l)
+pub add-zeros : (n k l : ℕ) → after_zeros n (bit_xor k l) ≡ bit_xor (after_zeros n k) (after_zeros n l)
 unfolding after_zeros
 add-zeros zero k l = refl
 add-zeros (suc n) k l = ap (after_zeros n) (add-bits 8 k l) ∙ add-zeros n (after_bits 8 k) (after_bits 8 l)
 
-zeros-on : (m n c : ℕ) → after_zeros n (after_zeros m c) ≡ after_zeros (m + n) c
+pub zeros-on : (m n c : ℕ) → after_zeros n (after_zeros m c) ≡ after_zeros (m + n) c
 unfolding after_zeros
 zeros-on zero n c = let e : n ≡ 0 + n = omega arith in ap (λ (k : ℕ). after_zeros k c) e
 zeros-on (suc m) n c = let e : suc (m + n) ≡ suc m + n = omega arith in zeros-on m n (after_bits 8 c) ∙ ap (λ (k : ℕ). after_zeros k c) e
 
-spread-four : (a b c d : ℕ) → bit_xor (after_bits 8 (bit_xor (after_bits 8 (bit_xor (after_bits 8 (after_bits 8 a)) (after_bits 8 b))) (after_bits 8 c))) (after_bits 8 d) ≡ bit_xor (bit_xor (bit_xor (after_zeros 4 a) (after_zeros 3 b)) (after_zeros 2 c)) (after_zeros 1 d)
+pub spread-four : (a b c d : ℕ) → bit_xor (after_bits 8 (bit_xor (after_bits 8 (bit_xor (after_bits 8 (after_bits 8 a)) (after_bits 8 b))) (after_bits 8 c))) (after_bits 8 d) ≡ bit_xor (bit_xor (bit_xor (after_zeros 4 a) (after_zeros 3 b)) (after_zeros 2 c)) (after_zeros 1 d)
 unfolding after_zeros
 spread-four a b c d = simp add-eight
 
 -- four bytes of zero take the place of the remainder, byte for byte
-four-empty : (c : ℕ) → c < 2 ^ 32 → after_zeros 4 c ≡ bit_xor (bit_xor (after_zeros 4 (c % 256)) (after_zeros 3 (c / 256 % 256))) (bit_xor (after_zeros 2 (c / 65536 % 256)) (after_zeros 1 (c / 16777216)))
+pub four-empty : (c : ℕ) → c < 2 ^ 32 → after_zeros 4 c ≡ bit_xor (bit_xor (after_zeros 4 (c % 256)) (after_zeros 3 (c / 256 % 256))) (bit_xor (after_zeros 2 (c / 65536 % 256)) (after_zeros 1 (c / 16777216)))
 four-empty c lt =
     let four : after_zeros 4 c ≡ bit_xor (after_bits 8 (bit_xor (after_bits 8 (bit_xor (after_bits 8 (after_bits 8 (c % 256))) (after_bits 8 (c / 256 % 256)))) (after_bits 8 (c / 65536 % 256)))) (after_bits 8 (c / 16777216)) =
     sym (zeros-are 4 c) ∙ (after-four c 0 0 0 0 lt
     ∙ (λ i. bit_xor (after_bits 8 (bit_xor (after_bits 8 (bit_xor (after_bits 8 (after_bits 8 (xor_zero_r (c % 256) i))) (after_bits 8 (xor_zero_r (c / 256 % 256) i)))) (after_bits 8 (xor_zero_r (c / 65536 % 256) i)))) (after_bits 8 (xor_zero_r (c / 16777216) i)))) in
     four ∙ (spread-four (c % 256) (c / 256 % 256) (c / 65536 % 256) (c / 16777216) ∙ xor_assoc (bit_xor (after_zeros 4 (c % 256)) (after_zeros 3 (c / 256 % 256))) (after_zeros 2 (c / 65536 % 256)) (after_zeros 1 (c / 16777216)))
-
--- what 64 bytes of zero give: each byte of the remainder by the table of its place
-pub after_empty : (c : ℕ) → c < 2 ^ 32 → after_bytes c (replicate 64 0) ≡ bit_xor (bit_xor (after_zeros 64 (c % 256)) (after_zeros 63 (c / 256 % 256))) (bit_xor (after_zeros 62 (c / 65536 % 256)) (after_zeros 61 (c / 16777216)))
-after_empty c lt =
-    let a = c % 256 in
-    let b = c / 256 % 256 in
-    let d = c / 65536 % 256 in
-    let e = c / 16777216 in
-    let low : after_zeros 60 (bit_xor (after_zeros 4 a) (after_zeros 3 b)) ≡ bit_xor (after_zeros 64 a) (after_zeros 63 b) =
-    add-zeros 60 (after_zeros 4 a) (after_zeros 3 b) ∙ (λ i. bit_xor (zeros-on 4 60 a i) (zeros-on 3 60 b i)) in
-    let high : after_zeros 60 (bit_xor (after_zeros 2 d) (after_zeros 1 e)) ≡ bit_xor (after_zeros 62 d) (after_zeros 61 e) =
-    add-zeros 60 (after_zeros 2 d) (after_zeros 1 e) ∙ (λ i. bit_xor (zeros-on 2 60 d i) (zeros-on 1 60 e i)) in
-    zeros-are 64 c ∙ (sym (zeros-on 4 60 c) ∙ (ap (after_zeros 60) (four-empty c lt) ∙ (add-zeros 60 (bit_xor (after_zeros 4 a) (after_zeros 3 b)) (bit_xor (after_zeros 2 d) (after_zeros 1 e)) ∙ (λ i. bit_xor (low i) (high i)))))
 
 split_and : (a b : Bool) → (a && b) ≡ true → (a ≡ true) × (b ≡ true)
 split_and true b h = (refl, h)

@@ -3,10 +3,13 @@
 
 mod block;
 mod checksum;
+mod far_tables;
 mod fields;
+mod near_tables;
 mod plain;
 mod steps;
 mod tables;
+mod words;
 
 pub use block::Block;
 pub use checksum::{crc32c, is_summed, sum_at};

@@ -1,6 +1,6 @@
 use Rattle.std.proofs.Common.{◌≡◌, length}
 use Rattle.byte_fields.specs.Checksum.{after_bytes}
-use Rattle.byte_fields.proofs.checksum.next_eights.Given as goal
+use Rattle.byte_fields.proofs.checksum.next_sixteens.Given as goal
 
 -- what is left to go through ends at the remainder of all
 abbrev pub invariant-loop-left : goal.invariant-loop-left
