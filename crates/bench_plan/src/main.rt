@@ -13,6 +13,7 @@ fn order_of(word: &str) -> io::Result<Order> {
     match word {
         "pieces" => Ok(Order::Scattered),
         "rising" => Ok(Order::Rising),
+        "straying" => Ok(Order::Straying),
         _ => Err(io::Error::new(
             io::ErrorKind::InvalidInput,
             "bench_plan knows no such word",
@@ -23,7 +24,7 @@ fn order_of(word: &str) -> io::Result<Order> {
 fn main(rt: HostRuntime) -> io::Result<()> {
     for word in std::env::args(&rt)?.skip(1) {
         let order = order_of(word.as_str())?;
-        for pieces in [10_000, 100_000, 1_000_000] {
+        for pieces in [2_400, 10_000, 100_000, 1_000_000] {
             let spent = measured(&rt, rt.alloc(), order, pieces)?;
             let put = spent.put;
             let overlap = spent.overlap;

@@ -17,6 +17,7 @@ const BLOCKS: u32 = 8;
 pub(crate) enum Order {
     Scattered,
     Rising,
+    Straying,
 }
 
 /// Nanoseconds for each piece.
@@ -32,11 +33,21 @@ fn each_since<R: Clock>(rt: &R, start: &Instant, pieces: u32) -> io::Result<u128
     Ok(start.elapsed(rt)?.as_nanos() / u128::from(pieces.max(1)))
 }
 
+// The same where each 32nd place comes behind all others.
+fn straying_place(i: u32, pieces: u32) -> u32 {
+    let rising = pieces - pieces / 32;
+    if i < rising {
+        return (i / 31).wrapping_mul(32).wrapping_add(i % 31);
+    }
+    (i - rising).wrapping_mul(32).wrapping_add(31)
+}
+
 // Whose place among the blocks piece `i` has.
 fn place_at(order: Order, i: u32, pieces: u32) -> u32 {
     match order {
         Order::Scattered => i.wrapping_mul(4093) % pieces.max(1),
         Order::Rising => i,
+        Order::Straying => straying_place(i, pieces),
     }
 }
 

@@ -2,6 +2,7 @@ use crate::lost::{of_old, unclaimed, unlisted};
 use crate::order::shown;
 use crate::piece::{Among, Memory, Piece};
 use crate::runs::OwnerRuns;
+use crate::sorting::sort_by_start;
 use crate::spare::{SpaceTrust, lowest_for, may_spare};
 use crate::sweep::{first_met, firsts_on};
 use fs_model::{Evidence, Unit};
@@ -58,7 +59,7 @@ impl ClaimSet {
         ensures exact { IsFirstOverlap among (pieces_of self.old) result }
         ensures kept { IsPermutation (pieces_of self.old) (pieces_of self.new) }
     {
-        self.pieces.sort_unstable_by_key(|piece| piece.run.start);
+        sort_by_start(&mut self.pieces);
         let pieces = self.pieces.as_slice();
         match first_met(pieces, among) {
             None => None,
@@ -84,7 +85,7 @@ impl ClaimSet {
         ensures exact { IsLowest (is_spare unit trust free.now mappings.now (pieces_of self.old)) result }
         ensures kept { IsPermutation (pieces_of self.old) (pieces_of self.new) }
     {
-        self.pieces.sort_unstable_by_key(|piece| piece.run.start);
+        sort_by_start(&mut self.pieces);
         if !may_spare(unit, trust) {
             return None;
         }
