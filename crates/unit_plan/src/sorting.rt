@@ -6,8 +6,8 @@ ghost use Rattle.unit_plan.specs.Rising.{RiseBetween};
 
 use crate::piece::Piece;
 
-// Pieces out of order are put in their places one by one where their square is at most so many times the
-// number of all: each takes the others along to its place.
+// Strays are taken to their places where their number times its root is at most so many times that of all
+// pieces: that many moves it takes.
 const WORTH: usize = 8;
 
 // The first of the pieces that rise up to the one at the place.
@@ -36,12 +36,24 @@ fn rise_to(pieces: &[Piece], at: usize) -> usize
     last
 }
 
-// How many of the pieces from a place on begin before the block, where they rise.
-fn how_many_before(pieces: &[Piece], from: usize, block: u32) -> usize
-    requires { from ≤ length pieces.now }
+// How many of the pieces of a part begin before the block, where they rise.
+fn how_many_before(pieces: &[Piece], from: usize, to: usize, block: u32) -> usize
+    requires { (from ≤ to) × (to ≤ length pieces.now) }
+    ensures { from + result ≤ to }
+{
+    pieces[from..to].partition_point(|piece| piece.run.start < block)
+}
+
+// How many of the pieces from the second place on begin before the one at the first: all where the places
+// are one.
+fn how_many_ahead(pieces: &[Piece], next: usize, from: usize) -> usize
+    requires { (next ≤ from) × (from ≤ length pieces.now) }
     ensures { from + result ≤ length pieces.now }
 {
-    pieces[from..].partition_point(|piece| piece.run.start < block)
+    if next == from {
+        return pieces.len() - from;
+    }
+    how_many_before(pieces, from, pieces.len(), pieces[next].run.start)
 }
 
 fn sort_first(pieces: &mut [Piece], count: usize)
@@ -61,33 +73,52 @@ fn exchange(pieces: &mut [Piece], from: usize, first: usize, second: usize)
     pieces[from..from + (first + second)].rotate_left(first);
 }
 
-// Takes the first pieces, which rise, to their places among those behind them, which rise too.
-fn merge_first(pieces: &mut [Piece], count: usize)
-    requires { count ≤ length pieces.old }
-    ensures { IsPermutation pieces.old pieces.new }
+// Takes so many pieces of a part, which rise, one by one to their places among those behind them.
+fn merge_each(pieces: &mut [Piece], from: usize, count: usize, to: usize)
+    requires { (from + count ≤ to) × (to ≤ length pieces.old) }
+    ensures long { length pieces.new ≡ length pieces.old }
+    ensures kept { IsPermutation pieces.old pieces.new }
 {
-    let mut at = 0;
+    let mut at = from;
     let mut left = count;
     while left > 0 {
-        let ahead = how_many_before(pieces, at + left, pieces[at].run.start);
+        let ahead = how_many_before(pieces, at + left, to, pieces[at].run.start);
         exchange(pieces, at, left, ahead);
         at += ahead + 1;
         left -= 1;
     }
 }
 
+// The same of the first of all pieces, which are taken along in bundles and then one by one.
+fn merge_first(pieces: &mut [Piece], count: usize, bundle: usize)
+    requires { (count ≤ length pieces.old) × (0 < bundle) }
+    ensures { IsPermutation pieces.old pieces.new }
+{
+    let mut at = 0;
+    let mut left = count;
+    while left > 0 {
+        let some = bundle.min(left);
+        let ahead = how_many_ahead(pieces, at + some, at + left);
+        exchange(pieces, at + some, left - some, ahead);
+        merge_each(pieces, at, some, at + some + ahead);
+        at += some + ahead;
+        left -= some;
+    }
+}
+
 // Brings the pieces near their order where few stray from the long row of them that ends before a place.
 fn gather(pieces: &mut [Piece], end: usize, strays: usize)
     requires end { end ≤ length pieces.old }
-    requires strays { (0 < strays) × (strays ≤ length pieces.old) }
+    requires strays { strays ≤ length pieces.old }
     ensures { IsPermutation pieces.old pieces.new }
 {
-    if strays / WORTH > pieces.len() / strays {
+    let bundle = strays.isqrt().max(1);
+    if strays / WORTH > pieces.len() / bundle {
         return;
     }
     pieces.rotate_left(end);
     sort_first(pieces, strays);
-    merge_first(pieces, strays);
+    merge_first(pieces, strays, bundle);
 }
 
 /// Sorts pieces by their first blocks. Where they rise already, or few of them stray from one long row,
