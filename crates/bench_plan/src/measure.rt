@@ -12,6 +12,14 @@ use unit_plan::{Among, ClaimSet, Memory, Piece, SpaceTrust};
 // The blocks of a piece.
 const BLOCKS: u32 = 8;
 
+/// In which order pieces are put.
+#[derive(Clone, Copy)]
+pub(crate) enum Order {
+    Scattered,
+    Rising,
+    Straying,
+}
+
 /// Nanoseconds for each piece.
 #[derive(Clone, Copy, Drop)]
 pub(crate) struct Times {
@@ -25,9 +33,26 @@ fn each_since<R: Clock>(rt: &R, start: &Instant, pieces: u32) -> io::Result<u128
     Ok(start.elapsed(rt)?.as_nanos() / u128::from(pieces.max(1)))
 }
 
-// Piece `i`, in an order that isn't that of its blocks.
-fn piece_at(i: u32, pieces: u32) -> Piece {
-    let place = i.wrapping_mul(4093) % pieces.max(1);
+// The same where each 32nd place comes behind all others.
+fn straying_place(i: u32, pieces: u32) -> u32 {
+    let rising = pieces - pieces / 32;
+    if i < rising {
+        return (i / 31).wrapping_mul(32).wrapping_add(i % 31);
+    }
+    (i - rising).wrapping_mul(32).wrapping_add(31)
+}
+
+// Whose place among the blocks piece `i` has.
+fn place_at(order: Order, i: u32, pieces: u32) -> u32 {
+    match order {
+        Order::Scattered => i.wrapping_mul(4093) % pieces.max(1),
+        Order::Rising => i,
+        Order::Straying => straying_place(i, pieces),
+    }
+}
+
+fn piece_at(order: Order, i: u32, pieces: u32) -> Piece {
+    let place = place_at(order, i, pieces);
     let ino = 128u64.saturating_add(u64::from(i % 1000));
     Piece {
         claim: Claim::Attr(ino),
@@ -40,10 +65,10 @@ fn piece_at(i: u32, pieces: u32) -> Piece {
     }
 }
 
-fn filled(alloc: Global, pieces: u32) -> Result<ClaimSet, Memory> {
+fn filled(alloc: Global, order: Order, pieces: u32) -> Result<ClaimSet, Memory> {
     let mut set = ClaimSet::new(alloc);
     for i in 0..pieces {
-        set.put(piece_at(i, pieces))?;
+        set.put(piece_at(order, i, pieces))?;
     }
     Ok(set)
 }
@@ -61,9 +86,14 @@ fn lowest_spare(set: &mut ClaimSet) -> Option<u32> {
     set.lowest_spare(Unit::Rmap, good, &free, &[])
 }
 
-pub(crate) fn measured<R: Clock>(rt: &R, alloc: Global, pieces: u32) -> io::Result<Times> {
+pub(crate) fn measured<R: Clock>(
+    rt: &R,
+    alloc: Global,
+    order: Order,
+    pieces: u32,
+) -> io::Result<Times> {
     let start = Instant::now(rt)?;
-    let Ok(mut set) = filled(alloc, pieces) else {
+    let Ok(mut set) = filled(alloc, order, pieces) else {
         return Err(io::Error::new(io::ErrorKind::OutOfMemory, "memory"));
     };
     let put = each_since(rt, &start, pieces)?;

@@ -31,7 +31,7 @@ use Rattle.unit_plan.specs.Joined.{ClaimOnce, StandInRow, has_key, how_many, key
 use Rattle.unit_plan.specs.Lost.{of_piece}
 use Rattle.unit_plan.proofs.Counting.{many, permuted}
 use Rattle.unit_plan.proofs.JoinLemmas.{map_long, mapped_at, nothing}
-use Rattle.unit_plan.proofs.RowLemmas.{pieces_row}
+use Rattle.unit_plan.proofs.RowLemmas.{pieces_row, row_rises}
 use denote.Ref.{Bor}
 
 -- a list in front of another, as far as it is long
@@ -165,8 +165,8 @@ module _ (old new : List Piece) (same : IsPermutation old new) (claims : ClaimOn
       apart_keys k (k + 1) d (key_of (get_or (map of_piece new) k d)) (omega arith) lt (has_own (get_or (map of_piece new) k d) (some k d (omega (arith, lt))))
       (ap (λ (x : Key). has_key x (get_or (map of_piece new) (k + 1) d)) e ∙ has_own (get_or (map of_piece new) (k + 1) d) (some (k + 1) d lt))))
 
-  pub pieces_are : NoneBefore new → ArePieces (map of_piece new)
-  pieces_are sorted = record { rising = rising sorted; rooms = rooms; apart = apart }
+  pieces_are : Rises is_before (map of_piece new) → ArePieces (map of_piece new)
+  pieces_are up = record { rising = up; rooms = rooms; apart = apart }
     where
       apart : (p q : RmapRec) → Contains (map of_piece new) p → Contains (map of_piece new) q → (t : Tuple) → IsOf p t → IsOf q t → p ≡ q
       apart p q c e t h k =
@@ -188,11 +188,11 @@ module _ (old new : List Piece) (same : IsPermutation old new) (claims : ClaimOn
       }
 
   -- what is left of the joined pieces are the runs
-  pub runs_are : (left : List RmapRec) → NoneBefore new → (ArePieces (map of_piece new) → left ≡ joined_pieces (map of_piece new)) → (ts : List Tuple) → AreTuplesOf ts (map of_piece old) → AreRuns ts left
-  runs_are left sorted is ts tuples =
-      let pieces = pieces_are sorted in
+  pub runs_are : (left : List RmapRec) → StandInRow (map of_piece new) → (ArePieces (map of_piece new) → left ≡ joined_pieces (map of_piece new)) → (ts : List Tuple) → AreTuplesOf ts (map of_piece old) → AreRuns ts left
+  runs_are left row is ts tuples =
+      let pieces = pieces_are (row_rises (map of_piece new) row) in
       subst (AreRuns ts) (sym (is pieces)) (pieces_exact ts (map of_piece new) pieces (tuples_are ts tuples))
 
   -- and they stand in a row before
   pub in_row : NoneBefore new → StandInRow (map of_piece new)
-  in_row sorted = let pieces = pieces_are sorted in pieces_row (map of_piece new) pieces.rising pieces.rooms
+  in_row sorted = pieces_row (map of_piece new) (rising sorted) rooms

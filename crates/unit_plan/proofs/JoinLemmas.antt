@@ -386,6 +386,18 @@ some_piece (x ∷ xs) k lt = x
 abbrev pub nothing : Piece
 nothing = record { claim = Heads; run = record { start = 0; count = 0 }; owner = 0; word = 0 }
 
+-- what comes before the record as far as a piece, and what doesn't from a piece on
+pub before_to : (ps : List Piece) (next : RmapRec) → Rises is_before (map of_piece ps) → (j : ℕ) → j < length ps → is_before (of_piece (get_or ps j nothing)) next ≡ true
+    → (k : ℕ) (d : RmapRec) → k < j + 1 → is_before (get_or (map of_piece ps) k d) next ≡ true
+before_to ps next rises j within is k d below =
+    ap (λ (r : RmapRec). is_before r next) (mapped_at ps k nothing d (omega (arith, within, below))) ∙ parted ps next rises k j nothing (omega (arith, below)) within is
+
+pub others_from : (ps : List Piece) (next : RmapRec) → Rises is_before (map of_piece ps) → (j : ℕ) → j < length ps → is_before (of_piece (get_or ps j nothing)) next ≡ false
+    → (k : ℕ) (d : RmapRec) → j ≤ k → k < length ps → is_before (get_or (map of_piece ps) k d) next ≡ false
+others_from ps next rises j within not_is k d low lt =
+    let here = ap (λ (r : RmapRec). is_before r next) (mapped_at ps k nothing d lt) in
+    false_by (is_before (get_or (map of_piece ps) k d) next) (λ is. false≢true (sym not_is ∙ parted ps next rises j k nothing low lt (sym here ∙ is)))
+
 abbrev pub with_blocks : ℕ → Piece → Piece
 with_blocks n p = record { claim = p.claim; run = record { start = p.run.start; count = n }; owner = p.owner; word = p.word }
 

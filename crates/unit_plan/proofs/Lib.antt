@@ -6,6 +6,7 @@ pub mod LawLemmas
 pub mod LostLemmas
 pub mod NeedLemmas
 pub mod OrderLemmas
+mod RisingLemmas
 mod RowLemmas
 pub mod SortedLemmas
 pub mod SpanLemmas

@@ -6,6 +6,7 @@ pub mod Lost
 pub mod Need
 pub mod Order
 pub mod Pieces
+pub mod Rising
 pub mod Sets
 pub mod Spare
 pub mod Spans

@@ -2,6 +2,7 @@ use crate::lost::{of_old, unclaimed, unlisted};
 use crate::order::shown;
 use crate::piece::{Among, Memory, Piece};
 use crate::runs::OwnerRuns;
+use crate::sorting::sort_by_start;
 use crate::spare::{SpaceTrust, lowest_for, may_spare};
 use crate::sweep::{first_met, firsts_on};
 use fs_model::{Evidence, Unit};
@@ -53,12 +54,13 @@ impl ClaimSet {
 
     /// The lowest block with two claims that can't stand together, and the first two claims on it
     /// in the claims' order; two claims can where both are written file data. It takes no memory.
-    /// The pieces are sorted in their place, and then walked along twice.
+    /// The pieces are sorted in their place, for little where they rise but for a few, and then
+    /// walked along twice.
     pub fn first_overlap(&mut self, among: Among) -> Option<Evidence>
         ensures exact { IsFirstOverlap among (pieces_of self.old) result }
         ensures kept { IsPermutation (pieces_of self.old) (pieces_of self.new) }
     {
-        self.pieces.sort_unstable_by_key(|piece| piece.run.start);
+        sort_by_start(&mut self.pieces);
         let pieces = self.pieces.as_slice();
         match first_met(pieces, among) {
             None => None,
@@ -84,7 +86,7 @@ impl ClaimSet {
         ensures exact { IsLowest (is_spare unit trust free.now mappings.now (pieces_of self.old)) result }
         ensures kept { IsPermutation (pieces_of self.old) (pieces_of self.new) }
     {
-        self.pieces.sort_unstable_by_key(|piece| piece.run.start);
+        sort_by_start(&mut self.pieces);
         if !may_spare(unit, trust) {
             return None;
         }
@@ -92,9 +94,10 @@ impl ClaimSet {
     }
 
     /// The maximal runs of all owners: what the reverse mapping btree of a group must hold whose claims
-    /// these are. The runs are made of the pieces in their places: it takes no memory, and beside the
-    /// sort it costs a binary search for each piece, however many blocks that has. Of pieces that claim
-    /// a block twice for one owner at one offset only the order of the answer is said
+    /// these are. The runs are made of the pieces in their places: it takes no memory, sorts pieces that
+    /// aren't in order yet, and finds the one that goes on behind a piece in steps that double, mostly in
+    /// one or two. Of pieces that claim a block twice for one owner at one offset only the order of the
+    /// answer is said
     /// (XFS Online Fsck Design, "Case Study: Rebuilding Reverse Mapping Records").
     pub fn into_runs(self) -> OwnerRuns
         ensures rising { Rises is_before (runs_of result) }

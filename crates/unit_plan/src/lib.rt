@@ -10,6 +10,7 @@ mod needs;
 mod order;
 mod piece;
 mod runs;
+mod sorting;
 mod spare;
 mod sweep;
 

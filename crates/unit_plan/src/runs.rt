@@ -1,12 +1,13 @@
 // The maximal runs of the owners, made of the pieces in their places.
 ghost use Rattle.std.specs.Prelude.{◌≡◌, ◌↔◌, ◌≢◌, ◌<◌, ◌≤◌, ◌+◌, ◌^◌, ℕ, true, false, All, Contains, IfSome, IsNone, IsTrue, List, Some, get_or, length, map};
+ghost use Rattle.std.specs.List.Sorted.{IsPermutation};
 ghost use Rattle.rmap_recs.specs.Rmap.{can_join as can_join_of};
 ghost use Rattle.rmap_recs.specs.Words.{word_goes_on};
 ghost use Rattle.rmap_recs.specs.declared.records.RmapRec.{RmapRec as GhostRec};
 ghost use Rattle.run_edits.specs.Edits.{is_before as is_before_of};
 ghost use Rattle.run_edits.specs.Pieces.{ArePieces, joined_pieces};
 ghost use Rattle.sblock.specs.Lists.{IsAhead, Rises};
-ghost use Rattle.unit_plan.specs.Joined.{AreJoinedFrom, Fits, StandInRow, counted, key_in_order};
+ghost use Rattle.unit_plan.specs.Joined.{AreJoinedFrom, ClaimOnce, Fits, StandInRow, counted, key_in_order};
 ghost use Rattle.unit_plan.specs.Lost.{of_piece};
 
 use crate::piece::Piece;
@@ -61,19 +62,71 @@ fn word_behind(run: &RmapRec) -> Option<u64>
     Some(run.word + u64::from(run.count))
 }
 
-// Where the piece stands that comes not before this record.
-fn place_of(pieces: &[Piece], next: &RmapRec) -> usize
-    requires { Rises is_before_of (map of_piece pieces.now) }
+// Where the first piece stands that doesn't come before this record, halving what lies between two
+// places: those in front of the first come before it, those from the second on don't.
+fn place_between(pieces: &[Piece], from: usize, to: usize, next: &RmapRec) -> usize
+    requires sorted { Rises is_before_of (map of_piece pieces.now) }
+    requires order { from ≤ to }
+    requires within { to ≤ length pieces.now }
+    requires before { (k : ℕ) (d : GhostRec) → k < from → is_before_of (get_or (map of_piece pieces.now) k d) next.now ≡ true }
+    requires others { (k : ℕ) (d : GhostRec) → to ≤ k → k < length pieces.now → is_before_of (get_or (map of_piece pieces.now) k d) next.now ≡ false }
     ensures within { result ≤ length pieces.now }
     ensures before { (k : ℕ) (d : GhostRec) → k < result → is_before_of (get_or (map of_piece pieces.now) k d) next.now ≡ true }
     ensures others { (k : ℕ) (d : GhostRec) → result ≤ k → k < length pieces.now → is_before_of (get_or (map of_piece pieces.now) k d) next.now ≡ false }
 {
-    pieces.partition_point(|other| is_before(other, next))
+    let mut low = from;
+    let mut high = to;
+    while low < high {
+        let middle = low + (high - low) / 2;
+        if is_before(&pieces[middle], next) {
+            low = middle + 1;
+        } else {
+            high = middle;
+        }
+    }
+    low
 }
 
-// The place of the piece that goes on behind the run, where there is one.
-fn place_behind(pieces: &[Piece], run: &RmapRec) -> Option<usize>
+// The same from one place on, by steps that double: they find a piece close by in one or two.
+fn place_from(pieces: &[Piece], from: usize, next: &RmapRec) -> usize
     requires sorted { Rises is_before_of (map of_piece pieces.now) }
+    requires within { from ≤ length pieces.now }
+    requires before { (k : ℕ) (d : GhostRec) → k < from → is_before_of (get_or (map of_piece pieces.now) k d) next.now ≡ true }
+    ensures within { result ≤ length pieces.now }
+    ensures before { (k : ℕ) (d : GhostRec) → k < result → is_before_of (get_or (map of_piece pieces.now) k d) next.now ≡ true }
+    ensures others { (k : ℕ) (d : GhostRec) → result ≤ k → k < length pieces.now → is_before_of (get_or (map of_piece pieces.now) k d) next.now ≡ false }
+{
+    let mut low = from;
+    let mut stride = 1;
+    while stride <= pieces.len() - low {
+        let last = low + stride - 1;
+        if !is_before(&pieces[last], next) {
+            return place_between(pieces, low, last, next);
+        }
+        low = last + 1;
+        stride = low - from;
+    }
+    place_between(pieces, low, pieces.len(), next)
+}
+
+// The same, looked for from the piece at the place on, where that comes before the record.
+fn place_near(pieces: &[Piece], at: usize, next: &RmapRec) -> usize
+    requires sorted { Rises is_before_of (map of_piece pieces.now) }
+    requires within { at < length pieces.now }
+    ensures within { result ≤ length pieces.now }
+    ensures before { (k : ℕ) (d : GhostRec) → k < result → is_before_of (get_or (map of_piece pieces.now) k d) next.now ≡ true }
+    ensures others { (k : ℕ) (d : GhostRec) → result ≤ k → k < length pieces.now → is_before_of (get_or (map of_piece pieces.now) k d) next.now ≡ false }
+{
+    if !is_before(&pieces[at], next) {
+        return place_between(pieces, 0, at, next);
+    }
+    place_from(pieces, at + 1, next)
+}
+
+// The place of the piece that goes on behind the run of the piece at a place, where there is one.
+fn place_behind(pieces: &[Piece], at: usize, run: &RmapRec) -> Option<usize>
+    requires sorted { Rises is_before_of (map of_piece pieces.now) }
+    requires within { at < length pieces.now }
     requires room { run.now.start + run.now.count < 2 ^ 32 }
     ensures found { IfSome result (λ i. (i < length pieces.now) × ((d : GhostRec) → can_join_of run.now (get_or (map of_piece pieces.now) i d) ≡ true)) }
     ensures none { IsNone result → (q : GhostRec) → Contains (map of_piece pieces.now) q → can_join_of run.now q ≡ false }
@@ -85,7 +138,7 @@ fn place_behind(pieces: &[Piece], run: &RmapRec) -> Option<usize>
         owner: run.owner,
         word,
     };
-    let place = place_of(pieces, &next);
+    let place = place_near(pieces, at, &next);
     if place < pieces.len() && run.can_join(&rec_of(&pieces[place])) {
         return Some(place);
     }
@@ -113,7 +166,7 @@ fn join_at(pieces: &mut [Piece], at: usize)
     ensures joined { (recs : List GhostRec) → ArePieces recs → AreJoinedFrom recs (at + 1) (map of_piece pieces.old) → AreJoinedFrom recs at (map of_piece pieces.new) }
 {
     let run = rec_of(&pieces[at]);
-    if let Some(behind) = place_behind(pieces, &run) {
+    if let Some(behind) = place_behind(pieces, at, &run) {
         let more = pieces[behind].run.count;
         set_count(pieces, at, run.count + more);
         set_count(pieces, behind, 0);
@@ -166,6 +219,19 @@ fn stand_in_row(pieces: &[Piece]) -> bool
     true
 }
 
+// Puts pieces in a row, and says whether they stand in one; they are sorted only where they don't yet.
+fn put_in_row(pieces: &mut Vec<Piece>) -> bool
+    ensures kept { IsPermutation pieces.old.items pieces.new.items }
+    ensures row { IsTrue result → StandInRow (map of_piece pieces.new.items) }
+    ensures once { ClaimOnce pieces.old.items → IsTrue result }
+{
+    if stand_in_row(pieces.as_slice()) {
+        return true;
+    }
+    pieces.sort_unstable_by_key(|piece| sort_key(piece));
+    stand_in_row(pieces.as_slice())
+}
+
 // Joins pieces that stand in a row, and leaves those that are left.
 fn joined(mut pieces: Vec<Piece>) -> Vec<Piece>
     requires { StandInRow (map of_piece pieces.items) }
@@ -193,8 +259,7 @@ impl OwnerRuns {
         ensures rising { Rises is_before (runs_of result) }
         ensures exact { ClaimOnce pieces.items → (ts : List Tuple) → AreTuplesOf ts (map of_piece pieces.items) → AreRuns ts (runs_of result) }
     {
-        pieces.sort_unstable_by_key(|piece| sort_key(piece));
-        if !stand_in_row(pieces.as_slice()) {
+        if !put_in_row(&mut pieces) {
             pieces.clear();
             return OwnerRuns { pieces };
         }
