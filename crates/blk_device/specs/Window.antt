@@ -1,5 +1,5 @@
 -- What a window of blocks that were read ahead holds.
-use Rattle.std.specs.Prelude.{◌≡◌, ℕ, ◌-◌, ◌*◌, ◌≤◌, nat_le, nat_lt, ◌&&◌, if◌then◌else◌, List, take, drop, Option, Some, None, IfSome, is_some, vec_len}
+use Rattle.std.specs.Prelude.{◌≡◌, ℕ, ◌+◌, ◌-◌, ◌*◌, ◌≤◌, nat_le, nat_lt, ◌&&◌, if◌then◌else◌, List, take, drop, Option, Some, None, IfSome, is_some, vec_len}
 use Rattle.blk_device.specs.declared.window.Window.{Window}
 
 -- the block of that number, of so many that stand one behind the other from the first on
@@ -21,3 +21,7 @@ HoldsOf at left w = (b : ℕ) → IfSome (block_in w b) (λ bytes. (at ≤ b) ×
 -- it holds the blocks from `at` on before `next`, and no other
 abbrev pub HoldsUpTo : ℕ → ℕ → Window → Type 0
 HoldsUpTo at next w = (b : ℕ) → is_some (block_in w b) ≡ (nat_le at b && nat_lt b next)
+
+-- the block of that number is the last one that it holds
+abbrev pub IsLastIn : Window → ℕ → Type 0
+IsLastIn w at = (w.first ≤ at) × (at + 1 ≡ w.first + w.held)

@@ -1,4 +1,4 @@
-ghost use Rattle.std.specs.Prelude.{◌≡◌, ℕ, None, IfSome, true, if◌then◌else◌};
+ghost use Rattle.std.specs.Prelude.{◌≡◌, ℕ, None, Some, IfSome, true, if◌then◌else◌};
 ghost use Rattle.blk_device.specs.Window.{block_in};
 
 use crate::counted::answer;
@@ -18,12 +18,13 @@ struct Placed<F: Drop> {
     place: Option<u64>,
 }
 
-// The image's file, with the blocks that were read of it at once, and the block behind the one that
-// was last asked for.
+// The image's file, with the blocks that were read of it at once, whether these were asked for to the
+// last one, and the block behind the one that was last asked for.
 #[derive(Drop)]
 struct ImageFile<F: Drop> {
     placed: Placed<F>,
     window: Window,
+    is_used_up: bool,
     next: Option<u64>,
 }
 
@@ -73,6 +74,7 @@ impl<F: Read + Write + Seek + OpenFile + Drop> FileDevice<F> {
         let image = ImageFile {
             placed: unplaced(image),
             window: Window::new(alloc),
+            is_used_up: true,
             next: None,
         };
         FileDevice {
@@ -126,19 +128,36 @@ fn write_block<F: Write + Seek + Drop>(file: &mut Placed<F>, at: u64, from: &Blo
     is_written
 }
 
-// Reads blocks of the image into its window, from this one on up to the end.
+// How many blocks there are from this one on to the next multiple of eight.
+fn blocks_ahead(at: u64) -> u64 {
+    READ_AHEAD_BLOCKS as u64 - at % READ_AHEAD_BLOCKS as u64
+}
+
+// Reads blocks of the image into its window, from this one on up to a multiple of eight or the end.
 fn read_ahead<F: Read + Seek + Drop>(image: &mut ImageFile<F>, at: u64, end: u64) {
     if image.window.has_room() && seek_to(&mut image.placed, at) {
-        let most = end.saturating_sub(at);
+        let most = blocks_ahead(at).min(end.saturating_sub(at));
         let stands = image.window.fill(&mut image.placed.file, at, most);
         image.placed.place = stands.and_then(place_of);
+        image.is_used_up = false;
     }
 }
 
 // Whether the blocks behind this one are worth reading with it: it was asked for in its order, or a
-// chunk of inodes may begin here, whose blocks are asked for one after the other.
+// chunk of inodes may begin here, whose blocks are asked for one after the other. Blocks of btrees lie
+// at such places too, so that is believed only where what was read at once last was asked for.
 fn begins_run<F: Drop>(image: &ImageFile<F>, at: u64) -> bool {
-    image.next == Some(at) || at % READ_AHEAD_BLOCKS as u64 == 0
+    let may_be_chunk = image.is_used_up && at % READ_AHEAD_BLOCKS as u64 == 0;
+    image.next == Some(at) || may_be_chunk
+}
+
+// Copies a block that was read ahead, if it was.
+fn copy_held<F: Drop>(image: &mut ImageFile<F>, at: u64, into: &mut Block) -> bool
+    ensures held { block_in image.old.window at ≡ (if result then Some into.new.bytes else None) }
+{
+    let is_held = image.window.get(at, into);
+    image.is_used_up |= is_held && image.window.ends_with(at);
+    is_held
 }
 
 // Reads a block of the image, out of the window if it is there. Blocks that are asked for in their
@@ -154,13 +173,13 @@ fn read_image<F: Read + Seek + Drop>(
 {
     let is_run = begins_run(image, at);
     image.next = at.checked_add(1);
-    if image.window.get(at, into) {
+    if copy_held(image, at, into) {
         return true;
     }
     if is_run {
         read_ahead(image, at, end);
     }
-    image.window.get(at, into) || read_block(&mut image.placed, at, into)
+    copy_held(image, at, into) || read_block(&mut image.placed, at, into)
 }
 
 // Writes a block of the image. Whatever the answer, the window may no longer be what the file holds.

@@ -1,5 +1,5 @@
 // Blocks of an image that were read at once.
-ghost use Rattle.std.specs.Prelude.{◌≡◌, ◌≤◌, ◌+◌, ◌*◌, ◌/◌, ◌-◌, ℕ, false, None, Some, IfSome, if◌then◌else◌, take, drop, length, nat_le, vec_len};
+ghost use Rattle.std.specs.Prelude.{◌≡◌, ◌≤◌, ◌+◌, ◌*◌, ◌/◌, ◌-◌, ◌↔◌, IsTrue, ℕ, false, None, Some, IfSome, if◌then◌else◌, take, drop, length, nat_le, vec_len};
 
 use byte_fields::Block;
 use std::alloc::Global;
@@ -19,7 +19,7 @@ pub struct Window {
 }
 
 impl Window {
-    ghost use Rattle.blk_device.specs.Window.{block_among, block_in, room_of, HoldsOf, HoldsUpTo};
+    ghost use Rattle.blk_device.specs.Window.{block_among, block_in, room_of, HoldsOf, HoldsUpTo, IsLastIn};
 
     /// Holds no block.
     pub fn new(alloc: Global) -> Self
@@ -46,6 +46,13 @@ impl Window {
         ensures { result ≡ nat_le 4096 (room_of self.now) }
     {
         self.bytes.len() >= 4096
+    }
+
+    /// Whether the block of that number is the last one that it holds.
+    pub fn ends_with(&self, at: u64) -> bool
+        ensures { IsTrue result ↔ IsLastIn self.now at }
+    {
+        at >= self.first && self.held > 0 && at - self.first == self.held - 1
     }
 
     /// Copies the block of that number, if it holds it.

@@ -84,18 +84,22 @@ fn uuid_in(bytes: &[u8]) -> [u8; 16]
     requires { length bytes.now ≡ 512 }
     ensures { result ≡ take 16 (drop 160 bytes.now) }
 {
-    let mut uuid = [0; 16];
-    uuid.copy_from_slice(&bytes[160..176]);
-    uuid
+    let (_, rest) = bytes.split_at(160);
+    let Some(uuid) = rest.first_chunk::<16>() else {
+        unreachable!();
+    };
+    *uuid
 }
 
 fn literal_in(bytes: &[u8]) -> [u8; 336]
     requires { length bytes.now ≡ 512 }
     ensures { result ≡ take 336 (drop 176 bytes.now) }
 {
-    let mut literal = [0; 336];
-    literal.copy_from_slice(&bytes[176..512]);
-    literal
+    let (_, rest) = bytes.split_at(176);
+    let Some(literal) = rest.first_chunk::<336>() else {
+        unreachable!();
+    };
+    *literal
 }
 
 /// What the fields of an inode's 512 bytes say, whatever they are: nothing is tested. It is for a core that

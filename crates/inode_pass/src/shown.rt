@@ -42,7 +42,12 @@ fn put_mappings(
         notes.push(ForkNote::Mapping {
             ino,
             fork,
-            mapping: *mapping,
+            mapping: Mapping {
+                offset: mapping.offset,
+                block: mapping.block,
+                count: mapping.count,
+                unwritten: mapping.unwritten,
+            },
         })?;
     }
     Ok(())

@@ -159,6 +159,40 @@ fn blocks_in_order_are_read_eight_at_once(rt: HostRuntime) -> Result<(), Fail> {
     Ok(())
 }
 
+// Blocks, and how often the system was called to read once each was asked for: block 8 is read alone,
+// since of the eight before it the first one only was asked for; block 0 again with those behind it,
+// since blocks 9 to 15 were all asked for.
+const CALLS: [(u64, u64); 11] = [
+    (0, 1),
+    (8, 2),
+    (9, 3),
+    (10, 3),
+    (11, 3),
+    (12, 3),
+    (13, 3),
+    (14, 3),
+    (15, 3),
+    (0, 4),
+    (1, 4),
+];
+
+#[test]
+fn blocks_behind_one_are_read_with_it_while_they_are_asked_for(
+    rt: HostRuntime,
+) -> Result<(), Fail> {
+    let asked = Cell::new(0);
+    let image = bad_file(&rt, "vain.image", 99, &asked).map_err(|_| "no image file")?;
+    let mut device = FileDevice::new(rt.alloc(), image, None, 16, 162);
+    let done = write_four(&mut device, 0, 1) && write_four(&mut device, 12, 13);
+    assert!(rt; done);
+    for (at, calls) in CALLS {
+        let number = number_at(&mut device, at);
+        assert!(rt; number.is_some() && asked.get() == calls, "block {at}");
+    }
+    fs::remove_file(&rt, "vain.image").map_err(|_| "not removed")?;
+    Ok(())
+}
+
 #[test]
 fn a_block_read_ahead_is_read_anew_once_written(rt: HostRuntime) -> Result<(), Fail> {
     let asked = Cell::new(0);

@@ -3,11 +3,21 @@
 //! it means that a unit was given up; on a terminal also how far a long check is.
 #![tactic(auto)]
 
+use std::alloc::Global;
 use std::io::{ErrorKind, IsTerminal};
 use std::process::ExitCode;
 use std::rt::Env;
 use std::{env, io};
 use xscrub::{FileHost, Finding, fsck_main, tell, tell_status};
+
+// So many bytes are asked for and given back before anything else.
+const KEPT_BYTES: usize = 8 << 20;
+
+// The C library hands what is freed back to the system piece by piece, and the lists of the next group take
+// new memory. Once it was given back as large a piece as this, it keeps as much for them.
+fn keep_freed_memory(alloc: Global) {
+    let _ = Vec::<u8>::with_capacity(alloc, KEPT_BYTES);
+}
 
 // The words of the command line, without the program's name.
 fn words_of<R: Env + AllocGlobal>(rt: &R) -> io::Result<Vec<String>> {
@@ -20,6 +30,7 @@ fn words_of<R: Env + AllocGlobal>(rt: &R) -> io::Result<Vec<String>> {
 
 fn main(rt: HostRuntime) -> ExitCode {
     let alloc = rt.alloc();
+    keep_freed_memory(alloc);
     let is_watched = rt.stderr().is_terminal();
     let mut host = FileHost::new(alloc, &rt, is_watched);
     let status = match words_of(&rt) {
