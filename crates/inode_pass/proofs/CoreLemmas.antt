@@ -3,41 +3,31 @@ use Rattle.std.proofs.Common.{◌≡◌, ℕ, zero, suc, ◌+◌, ◌*◌, ◌/�
 use Rattle.std.specs.Prelude.{flat_map, slice_index_or}
 use Rattle.std.proofs.lemmas.List.{append-nil}
 use Rattle.std.proofs.Math.Seq.{drop-cons}
-use Rattle.byte_fields.specs.FirstFailing.{Decodes}
 use Rattle.dinode_core.specs.Core.{core_fault, core_of}
-use Rattle.dinode_core.specs.declared.inode.Core3.{Core3}
 use Rattle.dinode_core.specs.declared.inode.CoreFault.{CoreFault}
 use Rattle.fs_derive.specs.Contradiction.{bad_core}
 use Rattle.fs_derive.specs.Lists.{numbers, first_of_all}
 use Rattle.fs_model.specs.declared.claim.Evidence.{Evidence}
 use Rattle.fs_model.specs.declared.claim.Evidence.TheVariants.{BadChunk}
-use Rattle.fs_state.specs.Inodes.{core_in, slot_in, whole_or}
+use Rattle.fs_state.specs.Inodes.{core_in, slot_in}
 use Rattle.fs_state.specs.Kinds.{Image}
 use Rattle.fs_state.specs.State.{CoreState, Broken, Whole}
 use Rattle.geom.specs.Layout.{Layout, device_block_of, inode_at}
+use Rattle.geom.specs.declared.geometry.InodePlace.{InodePlace}
 use Rattle.index_derive.specs.Inodes.{mode_of}
-use Rattle.inode_pass.specs.Cores.{block_looks, blocks_looks, broken_from, core_or_fault, decoded, look_in, mode_in, mode_seen}
+use Rattle.inode_pass.specs.Cores.{block_looks, blocks_looks, broken_from, look_in, look_of, mode_seen}
 
--- ---- a core that was decoded
+-- ---- the core of one inode
 
-one_answer : (fault : Option CoreFault) (core : Core3) (result : Result Core3 CoreFault) → Decodes fault (λ c. c ≡ core) result → result ≡ core_or_fault fault core
-one_answer fault core (Ok c) said = rw said.0 (ap Ok said.1)
-one_answer fault core (Err f) said = rw said refl
+-- one that doesn't verify
+pub look_bad : (at : Layout) (bytes own : List ℕ) (p : InodePlace) (ino : ℕ) (fault : CoreFault) → own ≡ slot_in bytes p.slot → ino ≡ inode_at at p.group p.block p.slot → Some fault ≡ core_fault own ino at.uuid → look_of at bytes p ≡ Err fault
+unfolding look_of core_in
+look_bad at bytes own p ino fault same number said = rw (sym same, sym number, sym said) refl
 
-pub decoded_so : (at : Layout) (ino : ℕ) (bytes own : List ℕ) (result : Result Core3 CoreFault) → own ≡ bytes → Decodes (core_fault own ino at.uuid) (λ c. c ≡ core_of own) result → result ≡ decoded at ino bytes
-unfolding decoded
-decoded_so at ino bytes own result same said =
-    one_answer (core_fault own ino at.uuid) (core_of own) result said
-    ∙ ap (λ (bs : List ℕ). core_or_fault (core_fault bs ino at.uuid) (core_of bs)) same
-
-mode_or : (fault : Option CoreFault) (core : Core3) → mode_in (core_or_fault fault core) ≡ look_in (whole_or fault core)
-mode_or (Some fault) core = refl
-mode_or None core = refl
-
--- its mode is what a state says of it
-pub mode_said : (at : Layout) (ino : ℕ) (bytes : List ℕ) → mode_in (decoded at ino bytes) ≡ look_in (core_in at ino bytes)
-unfolding decoded core_in
-mode_said at ino bytes = mode_or (core_fault bytes ino at.uuid) (core_of bytes)
+-- one that verifies
+pub look_good : (at : Layout) (bytes own : List ℕ) (p : InodePlace) (ino : ℕ) → own ≡ slot_in bytes p.slot → ino ≡ inode_at at p.group p.block p.slot → None ≡ core_fault own ino at.uuid → look_of at bytes p ≡ Ok (core_of own).mode
+unfolding look_of core_in
+look_good at bytes own p ino same number said = rw (sym same, sym number, sym said) refl
 
 -- ---- numbers in a row
 

@@ -20,11 +20,11 @@ use Rattle.fs_derive.specs.Lists.{numbers}
 use Rattle.fs_state.specs.Inodes.{slot_in}
 use Rattle.fs_state.specs.Kinds.{Image}
 use Rattle.geom.specs.Layout.{Layout, device_block_of, group_len_of, inode_at}
+use Rattle.geom.specs.declared.geometry.InodePlace.{InodePlace}
 use Rattle.run_sets.specs.declared.run.Run.{Run}
 use Rattle.index_derive.specs.Inodes.{mask_in}
-use Rattle.inode_pass.specs.Cores.{core_or_fault, decoded}
-use Rattle.inode_pass.specs.Notes.{AreFit, IsFit, block_notes, blocks_notes, both_notes, core_notes, fork_notes, joined_notes, notes_by, notes_if, notes_or_block, shows, slot_notes, unit_notes}
-use Rattle.inode_pass.specs.Noting.{AreNoted, IsForkNoted, IsNoted, kept_notes, notes_in}
+use Rattle.inode_pass.specs.Notes.{AreFit, IsFit, block_notes, blocks_notes, both_notes, core_notes, fork_notes, joined_notes, notes_at, notes_by, notes_if, notes_or_block, shows, slot_notes, unit_notes}
+use Rattle.inode_pass.specs.Noting.{AreNoted, IsForkNoted, IsNoted, kept_notes}
 use Rattle.inode_pass.specs.Units.{opened_state, units_in}
 use Rattle.inode_pass.specs.declared.note.ForkNote.{ForkNote}
 use Rattle.inode_pass.specs.declared.note.ForkNote.TheVariants.{Mapping as MappingNote, Block as BlockNote}
@@ -86,14 +86,15 @@ fork_put at core f mappings old now shown put = (shown.0, put ∙ ap (λ (ms : L
 
 -- ---- the inodes of a block
 
--- what a decoded core shows is what its bytes do
-by_decoded : (at : Layout) (fault : Option CoreFault) (core : Core3) → notes_in at (core_or_fault fault core) ≡ notes_by at fault core
-by_decoded at (Some fault) core = refl
-by_decoded at None core = refl
+-- a core that doesn't verify shows nothing
+pub slot_bad : (at : Layout) (bytes own : List ℕ) (p : InodePlace) (ino : ℕ) (fault : CoreFault) → own ≡ slot_in bytes p.slot → ino ≡ inode_at at p.group p.block p.slot → Some fault ≡ core_fault own ino at.uuid → notes_at at bytes p ≡ None
+unfolding notes_at slot_notes
+slot_bad at bytes own p ino fault same number said = rw (sym same, sym number, sym said) refl
 
-pub slot_said : (at : Layout) (ino : ℕ) (bytes : List ℕ) → notes_in at (decoded at ino bytes) ≡ slot_notes at ino bytes
-unfolding decoded slot_notes
-slot_said at ino bytes = by_decoded at (core_fault bytes ino at.uuid) (core_of bytes)
+-- one that verifies shows what its fields say
+pub slot_good : (at : Layout) (bytes own : List ℕ) (p : InodePlace) (ino : ℕ) → own ≡ slot_in bytes p.slot → ino ≡ inode_at at p.group p.block p.slot → None ≡ core_fault own ino at.uuid → notes_at at bytes p ≡ notes_by at None (core_of own)
+unfolding notes_at slot_notes
+slot_good at bytes own p ino same number said = rw (sym same, sym number, sym said) refl
 
 both_assoc : (x y z : Option (List ForkNote)) → both_notes x (both_notes y z) ≡ both_notes (both_notes x y) z
 both_assoc (Some a) (Some b) (Some c) = ap Some (sym (append_assoc a b c))

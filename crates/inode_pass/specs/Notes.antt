@@ -12,6 +12,7 @@ use Rattle.fs_derive.specs.Lists.{numbers}
 use Rattle.fs_state.specs.Inodes.{slot_in}
 use Rattle.fs_state.specs.Kinds.{Image}
 use Rattle.geom.specs.Layout.{Layout, device_block_of, group_len_of, inode_at}
+use Rattle.geom.specs.declared.geometry.InodePlace.{InodePlace}
 use Rattle.index_derive.specs.Inodes.{mask_in}
 use Rattle.inode_pass.specs.Units.{opened_state}
 use Rattle.inode_pass.specs.declared.note.ForkNote.{ForkNote}
@@ -38,6 +39,10 @@ notes_by at None core = if core.mode == 0 then Some [] else core_notes at core
 -- those of the inode with this number and these bytes
 unfoldable pub slot_notes : Layout → ℕ → List ℕ → Option (List ForkNote)
 slot_notes at ino bytes = notes_by at (core_fault bytes ino at.uuid) (core_of bytes)
+
+-- those of an inode in a group's block with these bytes
+unfoldable pub notes_at : Layout → List ℕ → InodePlace → Option (List ForkNote)
+notes_at at bytes p = slot_notes at (inode_at at p.group p.block p.slot) (slot_in bytes p.slot)
 
 abbrev pub both_notes : Option (List ForkNote) → Option (List ForkNote) → Option (List ForkNote)
 both_notes (Some notes) (Some more) = Some (notes ++ more)

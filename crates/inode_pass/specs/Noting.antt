@@ -1,12 +1,11 @@
 -- How the notes grow as the inodes of a block are looked at.
-use Rattle.std.specs.Prelude.{◌≡◌, ℕ, Bool, true, false, List, ◌++◌, length, take, Option, Some, None, Result, Ok, Err}
+use Rattle.std.specs.Prelude.{◌≡◌, ℕ, Bool, true, false, List, ◌++◌, length, take, Option, Some, None}
 use Rattle.dinode_core.specs.Inline.{inline_mappings}
 use Rattle.dinode_core.specs.declared.inode.Core3.{Core3}
-use Rattle.dinode_core.specs.declared.inode.CoreFault.{CoreFault}
 use Rattle.dinode_core.specs.declared.mapping.Fork.{Fork}
 use Rattle.dinode_core.specs.declared.mapping.Mapping.{Mapping}
 use Rattle.geom.specs.Layout.{Layout}
-use Rattle.inode_pass.specs.Notes.{fork_notes, notes_by, shows}
+use Rattle.inode_pass.specs.Notes.{fork_notes, shows}
 use Rattle.inode_pass.specs.declared.note.ForkNote.{ForkNote}
 
 -- whether the inode shows a fork, and then these are its mappings
@@ -18,11 +17,6 @@ IsShown at core f mappings false = shows at core f ≡ false
 abbrev pub IsForkNoted : Layout → Core3 → Fork → List ForkNote → List ForkNote → Bool → Type 0
 IsForkNoted at core f old now true = (shows at core f ≡ true) × (now ≡ old ++ fork_notes core f)
 IsForkNoted at core f old now false = (shows at core f ≡ false) × (now ≡ old)
-
--- what a decoded core shows
-abbrev pub notes_in : Layout → Result Core3 CoreFault → Option (List ForkNote)
-notes_in at (Ok core) = notes_by at None core
-notes_in at (Err fault) = None
 
 -- the notes of an inode were put where it shows its forks, and else nothing
 abbrev pub IsNoted : List ForkNote → List ForkNote → Option (List ForkNote) → Bool → Type 0

@@ -1,53 +1,70 @@
-ghost use Rattle.std.specs.Prelude.{◌≡◌, ◌<◌, ◌++◌, ◌∷◌, [], true, false, take, OnOk};
+ghost use Rattle.std.specs.Prelude.{◌≡◌, ◌<◌, ◌++◌, ◌∷◌, [], true, false, length, take, IfOk, OnOk};
+ghost use Rattle.dinode_core.specs.Core.{core_fault};
 ghost use Rattle.fs_state.specs.Inodes.{slot_in};
-ghost use Rattle.geom.specs.Layout.{inode_at};
-ghost use Rattle.geom.specs.Places.{HasBlock, layout};
-ghost use Rattle.inode_pass.specs.Cores.{block_looks, decoded, mode_in};
-ghost use Rattle.inode_pass.specs.Notes.{block_notes};
+ghost use Rattle.geom.specs.Places.{HasBlock, HasInode, layout};
+ghost use Rattle.inode_pass.specs.Cores.{block_looks, look_of};
+ghost use Rattle.inode_pass.specs.Notes.{block_notes, notes_at};
+ghost use Rattle.inode_pass.specs.Noting.{IsNoted};
 ghost use Rattle.inode_pass.specs.declared.note.ForkNote.TheVariants.{Block as BlockNote};
 
 use crate::note::ForkNote;
-use crate::shown::note_slot;
+use crate::shown::note_inode;
 use byte_fields::Block;
-use dinode_core::{Core3, CoreFault, Mapping, decode_core};
+use dinode_core::{CoreFault, Mapping, decode_core, read_core};
 use geom::{Geometry, InodePlace};
 use std::alloc::AllocError;
 
 // The inodes of a block.
-const BLOCK_INODES: u32 = 8;
+const BLOCK_INODES: u8 = 8;
 
-// The core of the inode with this number in a slot of its block, or why it doesn't verify.
-fn core_in(block: &Block, geo: &Geometry, ino: u64, slot: u32) -> Result<Core3, CoreFault>
+// The 512 bytes of the inode in a slot of its block.
+fn slot_of(block: &Block, slot: u8) -> &[u8]
     requires { slot < 8 }
-    ensures { result ≡ decoded (layout geo.now) ino (slot_in block.now.bytes slot) }
+    ensures bytes { result.now ≡ slot_in block.now.bytes slot }
+    ensures whole { length result.now ≡ 512 }
 {
-    let (_, rest) = block.bytes.split_at(512 * slot as usize);
+    let (_, rest) = block.bytes.split_at(512 * usize::from(slot));
     let (own, _) = rest.split_at(512);
-    decode_core(own, ino, &geo.uuid)
+    own
 }
 
-// The same of a slot of a group's block.
-fn core_at(block: &Block, geo: &Geometry, g: u32, b: u32, slot: u32) -> Result<Core3, CoreFault>
-    requires block { HasBlock geo.now g b }
-    requires slot { slot < 8 }
-    ensures { result ≡ decoded (layout geo.now) (inode_at (layout geo.now) g b slot) (slot_in block.now.bytes slot) }
+// Why the core of the inode with this number and these bytes doesn't verify, if it doesn't. Its fields are
+// read apart from that: a core that is handed on with its test would be copied, verified or not.
+fn fault_in(own: &[u8], geo: &Geometry, ino: u64) -> Option<CoreFault>
+    requires { length own.now ≡ 512 }
+    ensures { result ≡ core_fault own.now ino (layout geo.now).uuid }
 {
-    let ino = geo.inode_number(InodePlace {
-        group: g,
-        block: b,
-        slot: slot as u8,
-    });
-    core_in(block, geo, ino, slot)
-}
-
-// The mode of a core that verifies, or why it doesn't.
-fn mode_of(core: &Result<Core3, CoreFault>) -> Result<u16, CoreFault>
-    ensures { result ≡ mode_in core.now }
-{
-    match core {
-        Ok(core) => Ok(core.mode),
-        Err(fault) => Err(*fault),
+    match decode_core(own, ino, &geo.uuid) {
+        Ok(_) => None,
+        Err(fault) => Some(fault),
     }
+}
+
+// Puts down what the core of one inode of a block says, and what it shows of the inode's forks where those
+// before it show theirs; answers whether all do so far.
+#[tactic(auto, using(crate::proofs::CoreLemmas::look_bad, crate::proofs::CoreLemmas::look_good, crate::proofs::NoteLemmas::slot_bad, crate::proofs::NoteLemmas::slot_good))]
+fn look_slot(
+    block: &Block,
+    geo: &Geometry,
+    place: InodePlace,
+    shown: bool,
+    looks: &mut Vec<Result<u16, CoreFault>>,
+    room: &mut Vec<Mapping>,
+    notes: &mut Vec<ForkNote>,
+) -> Result<bool, AllocError>
+    requires { HasInode geo.now place }
+    ensures looked { OnOk result (looks.new.items ≡ looks.old.items ++ look_of (layout geo.now) block.now.bytes place ∷ []) }
+    ensures left { IfOk result (λ now. shown ≡ false → (now ≡ false) × (notes.new.items ≡ notes.old.items)) }
+    ensures noted { IfOk result (λ now. shown ≡ true → IsNoted notes.old.items notes.new.items (notes_at (layout geo.now) block.now.bytes place) now) }
+{
+    let own = slot_of(block, place.slot);
+    if let Some(fault) = fault_in(own, geo, geo.inode_number(place)) {
+        looks.push(Err(fault))?;
+        return Ok(false);
+    }
+    let core = read_core(own);
+    looks.push(Ok(core.mode))?;
+    note_inode(geo, &core, shown, room, notes)
 }
 
 // Puts the block down in place of what its inodes show, unless each shows its forks.
@@ -87,9 +104,12 @@ pub fn look_block(
     let before = notes.len();
     let mut shown = true;
     for slot in 0..BLOCK_INODES {
-        let core = core_at(block, geo, g, b, slot);
-        shown = note_slot(geo, &core, shown, room, notes)?;
-        looks.push(mode_of(&core))?;
+        let place = InodePlace {
+            group: g,
+            block: b,
+            slot,
+        };
+        shown = look_slot(block, geo, place, shown, looks, room, notes)?;
     }
     put_block(b, shown, before, notes)?;
     Ok(())

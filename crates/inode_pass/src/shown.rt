@@ -1,11 +1,11 @@
-ghost use Rattle.std.specs.Prelude.{◌≡◌, ◌++◌, true, false, map, IfOk, OnOk};
+ghost use Rattle.std.specs.Prelude.{◌≡◌, ◌++◌, true, false, map, None, IfOk, OnOk};
 ghost use Rattle.geom.specs.Places.{layout};
-ghost use Rattle.inode_pass.specs.Notes.{core_notes};
-ghost use Rattle.inode_pass.specs.Noting.{IsForkNoted, IsNoted, IsShown, notes_in};
+ghost use Rattle.inode_pass.specs.Notes.{core_notes, notes_by};
+ghost use Rattle.inode_pass.specs.Noting.{IsForkNoted, IsNoted, IsShown};
 ghost use Rattle.inode_pass.specs.declared.note.ForkNote.TheVariants.{Mapping as MappingNote};
 
 use crate::note::ForkNote;
-use dinode_core::{Core3, CoreFault, Fork, ForkError, Mapping, inline_fork_into, is_in_btree};
+use dinode_core::{Core3, Fork, ForkError, Mapping, inline_fork_into, is_in_btree};
 use geom::Geometry;
 use std::alloc::AllocError;
 
@@ -91,25 +91,23 @@ fn note_core(
     Ok(true)
 }
 
-/// Puts down what one more core of a block shows of its inode's forks, where those before it show theirs,
-/// and tells whether all do so far. The room is lent for the mappings of one fork (XFS Algorithms and Data Structures, "Data Fork").
-pub fn note_slot(
+/// Puts down what one more core that verifies shows of its inode's forks, where those before it in the
+/// block show theirs, and tells whether all do so far. The room is lent for the mappings of one fork
+/// (XFS Algorithms and Data Structures, "Data Fork").
+pub fn note_inode(
     geo: &Geometry,
-    core: &Result<Core3, CoreFault>,
+    core: &Core3,
     shown: bool,
     room: &mut Vec<Mapping>,
     notes: &mut Vec<ForkNote>,
 ) -> Result<bool, AllocError>
     ensures left { IfOk result (λ now. shown ≡ false → (now ≡ false) × (notes.new.items ≡ notes.old.items)) }
-    ensures noted { IfOk result (λ now. shown ≡ true → IsNoted notes.old.items notes.new.items (notes_in (layout geo.now) core.now) now) }
+    ensures noted { IfOk result (λ now. shown ≡ true → IsNoted notes.old.items notes.new.items (notes_by (layout geo.now) None core.now) now) }
 {
     // The block will be read for its forks, so no more of it is put down.
     if !shown {
         return Ok(false);
     }
-    let Ok(core) = core else {
-        return Ok(false);
-    };
     // A free inode has no forks.
     if core.mode == 0 {
         return Ok(true);

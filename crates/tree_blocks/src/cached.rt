@@ -43,11 +43,10 @@ impl<'d, 'c, 's, D: Device, L: Ledger> Blocks for Cached<'d, 'c, 's, D, L> {
 
     ghost follows_trans = { λ a b c. follows_on _ D.only_now D.counts_now a.dev b.dev c.dev a.cache b.cache c.cache a.steps b.steps c.steps };
 
-    fn load(&mut self, p: u32) -> Result<Block, WalkFault> {
-        let mut block = Block::zeroed();
+    fn load_into(&mut self, p: u32, into: &mut Block) -> Result<(), WalkFault> {
         self.steps.block_read();
         let at = self.site.first + u64::from(p);
-        self.cache.get(self.dev, at, &mut block)?;
-        Ok(block)
+        self.cache.get(self.dev, at, into)?;
+        Ok(())
     }
 }

@@ -1,4 +1,4 @@
-ghost use Rattle.std.specs.Prelude.{◌≡◌, List, ℕ, ◌+◌, ◌*◌, ◌^◌, ◌<◌, ◌==◌, IfOk, IfErr, Some, None};
+ghost use Rattle.std.specs.Prelude.{◌≡◌, List, ℕ, ◌+◌, ◌*◌, ◌^◌, ◌<◌, ◌==◌, IfErr, OnOk, Some, None};
 ghost use Rattle.tree_defs.specs.Tree.{order_fault, fault_here, noted};
 ghost use Rattle.tree_blocks.specs.Meets.{RefusesTold};
 ghost use Rattle.tree_blocks.specs.Calls.{Reads};
@@ -48,7 +48,8 @@ fn fault_in_place<K: RecKind>(
     sooner_of(own, sooner_of(sibling, order))
 }
 
-/// Reads block `p` of the group and tests it in its place; it is then the last one of its level.
+/// Reads block `p` of the group into one that is lent, and tests it in its place; it is then the last one
+/// of its level. Where it is refused the bytes may be any.
 #[tactic(auto, unfolding(tree_defs::specs::Tree::noted))]
 pub fn enter<K: RecKind, B: Blocks>(
     blocks: &mut B,
@@ -57,24 +58,25 @@ pub fn enter<K: RecKind, B: Blocks>(
     root: bool,
     p: u32,
     seen: &mut Seen<K::Rec>,
-) -> Result<Block, WalkFault>
+    block: &mut Block,
+) -> Result<(), WalkFault>
     requires low { level < 9 }
     requires inside { p < site.now.bounds.length }
     requires here { B.place blocks.old ≡ site.now }
-    ensures passes { IfOk result (λ block. fault_here K.form site.now (trail_of seen.old) level root p block.bytes ≡ None) }
-    ensures trail { IfOk result (λ block. trail_of seen.new ≡ noted (trail_of seen.old) level p block.bytes) }
-    ensures told { IfOk result (λ block. (m : ℕ → List ℕ) → B.told blocks.old ≡ Some m → block.bytes ≡ m p) }
+    ensures passes { OnOk result (fault_here K.form site.now (trail_of seen.old) level root p block.new.bytes ≡ None) }
+    ensures trail { OnOk result (trail_of seen.new ≡ noted (trail_of seen.old) level p block.new.bytes) }
+    ensures told { OnOk result ((m : ℕ → List ℕ) → B.told blocks.old ≡ Some m → block.new.bytes ≡ m p) }
     ensures refused { IfErr result (RefusesTold (B.told blocks.old) p (fault_here K.form site.now (trail_of seen.old) level root p)) }
     ensures reading { Reads B.Blocks blocks.old blocks.new }
     ensures cause { HasCause is_failed (B.faults blocks.old) (B.faults blocks.new) result }
     ensures one { B.count blocks.new ≡ B.count blocks.old + 1 }
 {
-    let block = blocks.load(p)?;
-    if let Some(fault) = fault_in_place::<K>(&block, seen, site, level, root, p) {
+    blocks.load_into(p, block)?;
+    if let Some(fault) = fault_in_place::<K>(block, seen, site, level, root, p) {
         return Err(WalkFault::Bad { block: p, fault });
     }
     seen.blocks.push(p)?;
     seen.before[level as usize] = p;
-    seen.next[level as usize] = right_of(&block);
-    Ok(block)
+    seen.next[level as usize] = right_of(block);
+    Ok(())
 }

@@ -20,7 +20,7 @@ use crate::leaf::take_leaf;
 use crate::seen::{Seen, fresh_seen, open_end_of};
 use blk_cache::BlkCache;
 use blk_device::Device;
-use byte_fields::{Steps, get_u32};
+use byte_fields::{Block, Steps, get_u32};
 use geom::Geometry;
 use sblock::{BlockFault, RecKind, Span, child_at, count_of, data_area, join_spans};
 use std::alloc::Global;
@@ -68,7 +68,8 @@ fn walk_node<K: RecKind, B: Blocks>(
     ensures cause { HasCause is_failed (B.faults blocks.old) (B.faults blocks.new) result }
     ensures each { OnOk result (B.count blocks.new + length seen.old.blocks.items ≡ B.count blocks.old + length seen.new.blocks.items) }
 {
-    let block = enter::<K, B>(blocks, site, level, root, p, seen)?;
+    let mut block = Block::zeroed();
+    enter::<K, B>(blocks, site, level, root, p, seen, &mut block)?;
     if level == 0 {
         return take_leaf::<K>(&block, &site.bounds, seen);
     }

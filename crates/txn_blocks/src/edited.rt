@@ -57,15 +57,15 @@ impl<'d, 'c, 's, 't, D: Device, L: Ledger> Blocks for Edited<'d, 'c, 's, 't, D, 
 
     ghost follows_trans = { λ a b c. lasts_on _ D.only_now D.counts_now a.dev b.dev c.dev a.cache b.cache c.cache a.steps b.steps c.steps a.txn b.txn c.txn };
 
-    fn load(&mut self, p: u32) -> Result<Block, WalkFault> {
+    fn load_into(&mut self, p: u32, into: &mut Block) -> Result<(), WalkFault> {
         self.steps.block_read();
         let at = self.site.first + u64::from(p);
         if let Some(block) = self.txn.joined(at) {
-            return Ok(block);
+            *into = block;
+            return Ok(());
         }
-        let mut block = Block::zeroed();
-        self.cache.get(self.dev, at, &mut block)?;
-        Ok(block)
+        self.cache.get(self.dev, at, into)?;
+        Ok(())
     }
 }
 
