@@ -23,3 +23,12 @@ pub record OnlyRead {D : Type 0} (g : Ghosts D) (old new : D) (before after : St
   pub counted : g.reads new + before.reads ≤ g.reads old + after.reads
   pub writes : after.writes ≡ before.writes
   pub moves : after.moves ≡ before.moves
+
+-- The device was told what will be read, and nothing else was asked of it: it tells the same, and a crash
+-- leaves what it might have left before.
+pub record OnlyTold {D : Type 0} (g : Ghosts D) (old new : D) : Type 0 where
+  pub same : g.content new ≡ g.content old
+  pub sizes : g.blocks new ≡ g.blocks old
+  pub faults : g.faults new ≡ g.faults old
+  pub reads : g.reads new ≡ g.reads old
+  pub crash : Keeps g EachBlock old new

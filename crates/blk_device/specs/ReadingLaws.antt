@@ -3,7 +3,7 @@ use Rattle.std.proofs.Common.{◌≡◌, ◌≤◌, ℕ, Bool, Result, refl, sub
 use Rattle.byte_fields.specs.Steps.{StepCount}
 use Rattle.blk_device.specs.Causes.{HasCause}
 use Rattle.blk_device.specs.Contents.{Contents}
-use Rattle.blk_device.specs.Reading.{EachBlock, Keeps, OnlyRead}
+use Rattle.blk_device.specs.Reading.{EachBlock, Keeps, OnlyRead, OnlyTold}
 use Rattle.blk_device.specs.declared.device.Device.{Ghosts}
 use Rattle.blk_device.specs.declared.device.Region.{Region}
 use Rattle.blk_device.specs.Moments.{then_keeps, no_call}
@@ -37,6 +37,33 @@ module _ {D : Type 0} (g : Ghosts D) (only_now : (d : D) (c : Contents) → g.ma
     writes = second.writes ∙ first.writes;
     moves = second.moves ∙ first.moves;
   }
+
+  pub told_self : (d : D) → OnlyTold g d d
+  told_self d = record { same = refl; sizes = refl; faults = refl; reads = refl; crash = keeps_self EachBlock d }
+
+  pub told_on : (old mid new : D) → OnlyTold g old mid → OnlyTold g mid new → OnlyTold g old new
+  told_on old mid new first second = record {
+    same = second.same ∙ first.same;
+    sizes = second.sizes ∙ first.sizes;
+    faults = second.faults ∙ first.faults;
+    reads = second.reads ∙ first.reads;
+    crash = keeps_on EachBlock old mid new first.crash second.crash;
+  }
+
+  -- a device that was told is one of which nothing was read
+  pub only_told : (old new : D) (steps : StepCount) → OnlyTold g old new → OnlyRead g old new steps steps
+  only_told old new steps told = record {
+    same = told.same;
+    sizes = told.sizes;
+    later = omega (arith, told.faults);
+    crash = told.crash;
+    counted = omega (arith, told.reads);
+    writes = refl;
+    moves = refl;
+  }
+
+  pub told_read : (old mid new : D) (before after : StepCount) → OnlyTold g old mid → OnlyRead g mid new before after → OnlyRead g old new before after
+  told_read old mid new before after told read = read_on old mid new before before after (only_told old mid before told) read
 
 -- an answer after a call that moved no count
 pub cause_on : {T E : Type 0} (is_devices : E → Bool) (before mid now : ℕ) (result : Result T E) → mid ≡ before → HasCause is_devices mid now result → HasCause is_devices before now result

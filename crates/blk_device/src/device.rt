@@ -63,6 +63,16 @@ pub trait Device {
         ensures cause { HasCause any_error (faults self.old) (faults self.new) result }
         ensures reads { reads self.new ≡ one_more (reads self.old) };
 
+    /// Tells that so many blocks from `at` on will be read, mostly in their order, so that a device that can
+    /// read ahead does. It changes nothing that the device tells, and needs no such blocks.
+    fn will_read(&mut self, region: Region, at: u64, count: u64)
+        ensures same { content self.new ≡ content self.old }
+        ensures crash { NoMore (may_hold_now self.old) (may_hold_now self.new) }
+        ensures time { Elapses (clock self.old) (clock self.new) (may_have_held_since self.old) (may_have_held_since self.new) (may_hold_now self.new) }
+        ensures sizes { blocks self.new ≡ blocks self.old }
+        ensures faults { faults self.new ≡ faults self.old }
+        ensures reads { reads self.new ≡ reads self.old };
+
     /// Writes a block. Until a sync of its region answers Ok, a crash may leave any bytes in it;
     /// at Failed its bytes may be any from now on. All other blocks stay.
     fn write(&mut self, region: Region, at: u64, from: &Block) -> Result<(), DeviceFailed>

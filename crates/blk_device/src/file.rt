@@ -1,6 +1,7 @@
 ghost use Rattle.std.specs.Prelude.{◌≡◌, ℕ, None, Some, IfSome, true, if◌then◌else◌};
 ghost use Rattle.blk_device.specs.Window.{block_in};
 
+use crate::ahead::ReadAhead;
 use crate::counted::answer;
 use crate::device::{Device, DeviceFailed, Region};
 use crate::tally::block_or_zeros;
@@ -10,6 +11,7 @@ use std::alloc::Global;
 use std::collections::BTreeMap;
 use std::fs::OpenFile;
 use std::io::{Read, Seek, SeekFrom, Write};
+use std::mem;
 
 // An open file, and the byte at which it stands, where that is known.
 #[derive(Drop)]
@@ -19,13 +21,14 @@ struct Placed<F: Drop> {
 }
 
 // The image's file, with the blocks that were read of it at once, whether these were asked for to the
-// last one, and the block behind the one that was last asked for.
+// last one, the block behind the one that was last asked for, and what another thread reads, if one does.
 #[derive(Drop)]
 struct ImageFile<F: Drop> {
     placed: Placed<F>,
     window: Window,
     is_used_up: bool,
     next: Option<u64>,
+    ahead: Option<ReadAhead>,
 }
 
 // Where the redo region lies: in a file, or in memory, where no file keeps it.
@@ -76,6 +79,7 @@ impl<F: Read + Write + Seek + OpenFile + Drop> FileDevice<F> {
             window: Window::new(alloc),
             is_used_up: true,
             next: None,
+            ahead: None,
         };
         FileDevice {
             image,
@@ -85,6 +89,19 @@ impl<F: Read + Write + Seek + OpenFile + Drop> FileDevice<F> {
             faults: 0,
             reads: 0,
         }
+    }
+
+    /// The same device, for which another thread reads ahead what `will_read` tells, until the image is
+    /// written.
+    pub fn with_ahead(self, ahead: Option<ReadAhead>) -> Self
+        ensures sizes { ⟦<FileDevice<F> as Device>⟧.blocks result ≡ ⟦<FileDevice<F> as Device>⟧.blocks self }
+        ensures any_crash { (c : Contents) → ⟦<FileDevice<F> as Device>⟧.may_hold_now result c }
+        ensures faults { ⟦<FileDevice<F> as Device>⟧.faults result ≡ ⟦<FileDevice<F> as Device>⟧.faults self }
+        ensures reads { ⟦<FileDevice<F> as Device>⟧.reads result ≡ ⟦<FileDevice<F> as Device>⟧.reads self }
+    {
+        let mut device = self;
+        device.image.ahead = ahead;
+        device
     }
 }
 
@@ -154,10 +171,36 @@ fn begins_run<F: Drop>(image: &ImageFile<F>, at: u64) -> bool {
 // Copies a block that was read ahead, if it was.
 fn copy_held<F: Drop>(image: &mut ImageFile<F>, at: u64, into: &mut Block) -> bool
     ensures held { block_in image.old.window at ≡ (if result then Some into.new.bytes else None) }
+    ensures window { image.new.window ≡ image.old.window }
 {
     let is_held = image.window.get(at, into);
     image.is_used_up |= is_held && image.window.ends_with(at);
     is_held
+}
+
+// Takes the window that holds a block from the thread that reads ahead, if it is there, in place of the
+// one before.
+fn take_ahead<F: Drop>(image: &mut ImageFile<F>, at: u64) {
+    let Some(ahead) = &mut image.ahead else {
+        return;
+    };
+    if let Some(window) = ahead.take(at) {
+        let before = mem::replace(&mut image.window, window);
+        ahead.give_back(before);
+        image.is_used_up = false;
+    }
+}
+
+// Copies a block that was read ahead, by this thread or by another one, if it was.
+fn copy_ahead<F: Drop>(image: &mut ImageFile<F>, at: u64, into: &mut Block) -> bool
+    ensures held { IfSome (block_in image.old.window at) (λ bytes. (result ≡ true) × (into.new.bytes ≡ bytes)) }
+    ensures taken { block_in image.new.window at ≡ (if result then Some into.new.bytes else None) }
+{
+    if copy_held(image, at, into) {
+        return true;
+    }
+    take_ahead(image, at);
+    copy_held(image, at, into)
 }
 
 // Reads a block of the image, out of the window if it is there. Blocks that are asked for in their
@@ -173,7 +216,7 @@ fn read_image<F: Read + Seek + Drop>(
 {
     let is_run = begins_run(image, at);
     image.next = at.checked_add(1);
-    if copy_held(image, at, into) {
+    if copy_ahead(image, at, into) {
         return true;
     }
     if is_run {
@@ -182,11 +225,14 @@ fn read_image<F: Read + Seek + Drop>(
     copy_held(image, at, into) || read_block(&mut image.placed, at, into)
 }
 
-// Writes a block of the image. Whatever the answer, the window may no longer be what the file holds.
+// Writes a block of the image. Whatever the answer, the window may no longer be what the file holds, nor
+// what another thread reads.
 fn write_image<F: Write + Seek + Drop>(image: &mut ImageFile<F>, at: u64, from: &Block) -> bool
-    ensures { (b : ℕ) → block_in image.new.window b ≡ None }
+    ensures held { (b : ℕ) → block_in image.new.window b ≡ None }
+    ensures ahead { image.new.ahead ≡ None }
 {
     image.window.empty();
+    image.ahead = None;
     write_block(&mut image.placed, at, from)
 }
 
@@ -259,6 +305,12 @@ impl<F: Read + Write + Seek + OpenFile + Drop> Device for FileDevice<F> {
             Region::Redo => read_redo(&mut self.redo, at, into),
         };
         answer(is_read, &mut self.faults)
+    }
+
+    fn will_read(&mut self, region: Region, at: u64, count: u64) {
+        if let (Region::Image, Some(ahead)) = (region, &mut self.image.ahead) {
+            ahead.tell(at, count);
+        }
     }
 
     fn write(&mut self, region: Region, at: u64, from: &Block) -> Result<(), DeviceFailed> {

@@ -119,6 +119,17 @@ impl Device for FuseDevice {
         }
     }
 
+    /// Changes nothing, and isn't counted: the device behind reads nothing ahead.
+    fn will_read(&mut self, _region: Region, _at: u64, _count: u64)
+        ensures same { Some (seen (behind self.new).log) ≡ Some (seen (behind self.old).log) }
+        ensures crash { NoMore (left_behind self.old) (left_behind self.new) }
+        ensures time { ElapsesBehind self.old self.new }
+        ensures sizes { size_of (behind self.new) ≡ size_of (behind self.old) }
+        ensures faults { self.new.faults ≡ self.old.faults }
+        ensures reads { self.new.reads ≡ self.old.reads }
+        ensures all { self.new ≡ self.old }
+    {}
+
     /// Fails where no call is left to pass on, or where the device behind fails. After it a crash
     /// may leave any bytes in the block, as after a write of the device behind.
     fn write(&mut self, region: Region, at: u64, from: &Block) -> Result<(), DeviceFailed>

@@ -1,6 +1,7 @@
 //! Devices of blocks with their crash model, and sources and sinks of bytes.
 #![tactic(auto)]
 
+mod ahead;
 mod counted;
 mod device;
 mod file;
@@ -14,6 +15,7 @@ mod tally;
 mod unsynced;
 mod window;
 
+pub use ahead::{ReadAhead, ReaderQueue, ReaderThread, reader_queue};
 pub use device::{Device, DeviceFailed, Region};
 pub use file::FileDevice;
 pub use fuse::FuseDevice;

@@ -268,6 +268,17 @@ impl Device for MemDevice {
         Ok(())
     }
 
+    /// Changes nothing: its blocks are in memory.
+    fn will_read(&mut self, _region: Region, _at: u64, _count: u64)
+        ensures same { Some (seen self.new.log) ≡ Some (seen self.old.log) }
+        ensures crash { NoMore (left_now self.old.log) (left_now self.new.log) }
+        ensures time { Elapses (moment self.old.log) (moment self.new.log) (left_since self.old.log) (left_since self.new.log) (left_now self.new.log) }
+        ensures sizes { size_of self.new ≡ size_of self.old }
+        ensures faults { self.new.faults ≡ self.old.faults }
+        ensures reads { self.new.reads ≡ self.old.reads }
+        ensures all { self.new ≡ self.old }
+    {}
+
     /// Fails where this call's number is one of those that fail, and where memory is refused.
     /// After it a crash may leave any bytes in the block, whether it answers Ok or Failed, unless
     /// there was no memory to keep that.

@@ -1,9 +1,11 @@
 // Blocks of an image that were read at once.
-ghost use Rattle.std.specs.Prelude.{◌≡◌, ◌≤◌, ◌+◌, ◌*◌, ◌/◌, ◌-◌, ◌↔◌, IsTrue, ℕ, false, None, Some, IfSome, if◌then◌else◌, take, drop, length, nat_le, vec_len};
+ghost use Rattle.std.specs.Prelude.{◌≡◌, ◌<◌, ◌≤◌, ◌+◌, ◌*◌, ◌/◌, ◌-◌, ◌↔◌, IsTrue, ℕ, false, None, Some, IfOk, IfSome, is_some, if◌then◌else◌, take, drop, length, nat_le, vec_len};
 
 use byte_fields::Block;
 use std::alloc::Global;
-use std::io::Read;
+use std::io;
+use std::io::{ErrorKind, Read};
+use std::os::unix::fs::FileExt;
 
 /// How many blocks are read at once, where blocks are asked for in their order.
 pub const READ_AHEAD_BLOCKS: usize = 8;
@@ -55,6 +57,20 @@ impl Window {
         at >= self.first && self.held > 0 && at - self.first == self.held - 1
     }
 
+    /// Whether it holds the block of that number.
+    pub fn holds(&self, at: u64) -> bool
+        ensures { result ≡ is_some (block_in self.now at) }
+    {
+        at >= self.first && at - self.first < self.held
+    }
+
+    /// Whether it was read from that block on or from one before.
+    pub fn begins_by(&self, at: u64) -> bool
+        ensures { IsTrue result ↔ (self.now.first ≤ at) }
+    {
+        self.first <= at
+    }
+
     /// Copies the block of that number, if it holds it.
     pub fn get(&self, at: u64, into: &mut Block) -> bool
         ensures held { block_in self.now at ≡ (if result then Some into.new.bytes else None) }
@@ -88,11 +104,29 @@ impl Window {
         self.keep(at, read)
     }
 
+    /// Reads blocks at once as `fill` does, from the file's block `at` on, wherever the file stands. Where
+    /// that fails it holds none.
+    pub fn fill_from<F: FileExt>(&mut self, file: &F, at: u64, most: u64)
+        ensures from { self.new.first ≡ at }
+        ensures within { (b : ℕ) → b < at → block_in self.new b ≡ None }
+        ensures behind { (b : ℕ) → at + most ≤ b → block_in self.new b ≡ None }
+        ensures room { room_of self.new ≡ room_of self.old }
+    {
+        self.first = at;
+        self.held = 0;
+        let room = self.bytes.len() / 4096;
+        let wanted = most.min(room as u64) * 4096;
+        if let Ok(read) = read_place(file, &mut self.bytes, wanted as usize, at) {
+            let _ = self.keep(at, read);
+        }
+    }
+
     // Holds the blocks that stand whole in the bytes that were read, from the block `at` on.
     // Answers the one behind them, if no byte is behind them.
     fn keep(&mut self, at: u64, read: usize) -> Option<u64>
         requires { read ≤ vec_len self.old.bytes }
         ensures bytes { self.new.bytes ≡ self.old.bytes }
+        ensures from { self.new.first ≡ at }
         ensures held { (b : ℕ) → block_in self.new b ≡ block_among at (read / 4096) self.old.bytes.items b }
         ensures next { IfSome result (λ next. (next ≡ at + read / 4096) × (read ≡ (next - at) * 4096)) }
     {
@@ -114,4 +148,16 @@ fn read_front<F: Read>(file: &mut F, bytes: &mut [u8], most: usize) -> Option<us
     ensures bytes { IfSome result (λ n. IfSome (F.remaining file.old) (λ left. take n bytes.new ≡ take n left)) }
 {
     file.read(&mut bytes[..most]).ok()
+}
+
+// One read of a file from a block on into the first bytes, at most so many. Answers how many came.
+fn read_place<F: FileExt>(file: &F, bytes: &mut [u8], most: usize, at: u64) -> io::Result<usize>
+    requires { most ≤ length bytes.old }
+    ensures len { length bytes.new ≡ length bytes.old }
+    ensures most { IfOk result (λ n. n ≤ most) }
+{
+    let Some(place) = at.checked_mul(4096) else {
+        return Err(ErrorKind::InvalidInput.into());
+    };
+    file.read_at(&mut bytes[..most], place)
 }

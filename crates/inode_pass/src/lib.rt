@@ -1,6 +1,7 @@
 //! One pass over the inodes of a group: the cores of the units that its btrees list.
 #![tactic(auto)]
 
+mod ahead;
 mod load;
 mod look;
 mod note;

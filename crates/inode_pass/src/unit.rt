@@ -24,9 +24,10 @@ use index_derive::{UnitCores, free_mask};
 use std::alloc::{AllocError, Global};
 use std::sync::ledger::Ledger;
 
-// The blocks of a unit, the inodes of a block, and those of a unit.
-const UNIT_BLOCKS: u32 = 8;
+/// The blocks of a unit of 64 inodes.
+pub const UNIT_BLOCKS: u32 = 8;
 
+// The inodes of a block, and those of a unit.
 const BLOCK_INODES: u32 = 8;
 
 const UNIT_INODES: usize = 64;

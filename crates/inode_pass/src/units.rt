@@ -11,6 +11,7 @@ ghost use Rattle.inode_pass.specs.Stops.{is_failed};
 ghost use Rattle.inode_pass.specs.Units.{AreSeen, unit_count, unit_numbers, units_in};
 ghost use Rattle.run_sets.specs.Runs.{EndWithin};
 
+use crate::ahead::{tell_first, tell_next};
 use crate::note::ForkNote;
 use crate::stop::PassStop;
 use crate::unit::{UnitSeen, see_unit};
@@ -79,7 +80,7 @@ fn see_run<D: Device, L: Ledger>(
 /// Reads the cores of these units of group `g`, which lie in the group: of each unit which inodes
 /// are free, where all 64 cores verify, and the first core that doesn't. Behind the notes it puts what
 /// the cores of each unit show of their inodes' forks, where all of them verify. Each block of inodes is
-/// read once. A device that failed and want of memory are the refusals
+/// read once, and the device is told of it before. A device that failed and want of memory are the refusals
 /// (XFS Online Fsck Design, "Case Study: Rebuilding the AG Inode Records").
 pub fn see_units<D: Device, L: Ledger>(
     alloc: Global,
@@ -101,8 +102,10 @@ pub fn see_units<D: Device, L: Ledger>(
     ensures cause { HasCause is_failed (D.faults dev.old) (D.faults dev.new) result }
     ensures few { steps.new.reads ≤ steps.old.reads + 8 * unit_count units.now }
 {
+    let mut told = tell_first(dev, geo, g, units);
     let mut seen = Vec::new(alloc);
     for run in units {
+        tell_next(dev, geo, g, units, &mut told);
         see_run(alloc, dev, geo, g, run, &mut seen, notes, steps)?;
     }
     Ok(seen)

@@ -6,7 +6,7 @@ use crate::advice::{NamedFile, explain, tell_failure};
 use crate::asked::{DeviceAsked, count_failed, count_fault, keep_request};
 use crate::host::{Host, OpenFault, Purpose, Watched};
 use crate::progress::Progress;
-use blk_device::{Device, FileDevice, Region, Sink, SinkFailed};
+use blk_device::{Device, FileDevice, ReadAhead, ReaderQueue, Region, Sink, SinkFailed};
 use redo_area::REDO_BLOCKS;
 use std::alloc::Global;
 use std::fs::{OpenFile, OpenOptions};
@@ -23,6 +23,7 @@ const BLOCK_BYTES: u64 = 4096;
 pub struct FileHost<'a, R: Files + Print + Eprint + Clock> {
     rt: &'a R,
     is_watched: bool,
+    readers: Option<ReaderQueue<R::File>>,
     asked: Vec<DeviceAsked>,
     sink_faults: u64,
     host_faults: u64,
@@ -41,10 +42,24 @@ impl<'a, R: Files + Print + Eprint + Clock> FileHost<'a, R> {
         FileHost {
             rt,
             is_watched,
+            readers: None,
             asked: Vec::new(alloc),
             sink_faults: 0,
             host_faults: 0,
             dev_faults: 0,
+        }
+    }
+
+    /// The same host, which hands each image that is only checked to a thread that reads ahead.
+    pub fn with_readers(self, readers: ReaderQueue<R::File>) -> Self
+        ensures asked { result.asked.items ≡ self.entry.asked.items }
+        ensures host { result.host_faults ≡ self.entry.host_faults }
+        ensures devices { result.dev_faults ≡ self.entry.dev_faults }
+        ensures sink { result.sink_faults ≡ self.entry.sink_faults }
+    {
+        FileHost {
+            readers: Some(readers),
+            ..self
         }
     }
 }
@@ -150,10 +165,26 @@ fn named<'a, R: Files + Eprint>(
     }
 }
 
-fn open_device<'a, R: Files + Eprint>(
+// Hands an image that was opened to be checked to a thread that reads it ahead, if there is one. For one
+// that is changed there is none: what was read ahead would no longer be what the file holds.
+fn begin_ahead<F: OpenFile + Drop>(
+    alloc: Global,
+    readers: &mut Option<ReaderQueue<F>>,
+    opened: &io::Result<F>,
+    purpose: Purpose,
+) -> Option<ReadAhead> {
+    match (purpose, readers, opened) {
+        (Purpose::Check, Some(queue), Ok(file)) => queue.begin(alloc, file.try_clone().ok()?),
+        _ => None,
+    }
+}
+
+// A device over an image that was opened, and over the redo file of that name.
+fn device_over<'a, R: Files + Eprint>(
     alloc: Global,
     rt: &'a R,
     image: &str,
+    opened: io::Result<R::File>,
     redo: Option<&str>,
     purpose: Purpose,
 ) -> io::Result<FileDevice<NamedFile<'a, R>>>
@@ -162,7 +193,7 @@ fn open_device<'a, R: Files + Eprint>(
     ensures fresh { IfOk result (λ d. ⟦<FileDevice<NamedFile<'a, R>> as Device>⟧.faults d ≡ 0) }
     ensures told { IfOk result (Lent ⟦<FileDevice<NamedFile<'a, R>> as Device>⟧ purpose false None (redo_asked (λ n. None) redo.entry)) }
 {
-    let mut image = named(alloc, rt, image, open_image(rt, image, purpose))?;
+    let mut image = named(alloc, rt, image, opened)?;
     let image_blocks = blocks_for(&mut image, purpose)?;
     let Some(name) = redo else {
         return Ok(FileDevice::new(alloc, image, None, image_blocks, REDO_BLOCKS));
@@ -170,6 +201,25 @@ fn open_device<'a, R: Files + Eprint>(
     let mut redo = named(alloc, rt, name, open_redo(rt, name, purpose))?;
     let redo_blocks = blocks_of(&mut redo)?;
     Ok(FileDevice::new(alloc, image, Some(redo), image_blocks, redo_blocks))
+}
+
+fn open_device<'a, R: Files + Eprint>(
+    alloc: Global,
+    rt: &'a R,
+    image: &str,
+    redo: Option<&str>,
+    purpose: Purpose,
+    readers: &mut Option<ReaderQueue<R::File>>,
+) -> io::Result<FileDevice<NamedFile<'a, R>>>
+    ensures redo_blocks { IsNone redo.entry →
+        IfOk result (λ d. ⟦<FileDevice<NamedFile<'a, R>> as Device>⟧.blocks d Region.Redo ≡ REDO_BLOCKS) }
+    ensures fresh { IfOk result (λ d. ⟦<FileDevice<NamedFile<'a, R>> as Device>⟧.faults d ≡ 0) }
+    ensures told { IfOk result (Lent ⟦<FileDevice<NamedFile<'a, R>> as Device>⟧ purpose false None (redo_asked (λ n. None) redo.entry)) }
+{
+    let opened = open_image(rt, image, purpose);
+    let ahead = begin_ahead(alloc, readers, &opened, purpose);
+    let device = device_over(alloc, rt, image, opened, redo, purpose)?;
+    Ok(device.with_ahead(ahead))
 }
 
 impl<R: Files + Print + Eprint + Clock> Sink for FileHost<'_, R> {
@@ -246,7 +296,7 @@ where
     ) -> Result<FileDevice<NamedFile<'a, R>>, OpenFault> {
         let alloc = *self.asked.allocator();
         keep_request(alloc, &mut self.asked, image, redo, purpose)?;
-        match open_device(alloc, self.rt, image, redo, purpose) {
+        match open_device(alloc, self.rt, image, redo, purpose, &mut self.readers) {
             Ok(dev) => Ok(dev),
             Err(fault) if fault.kind() == ErrorKind::OutOfMemory => Err(OpenFault::Memory),
             Err(_) => {

@@ -3,12 +3,14 @@
 //! it means that a unit was given up; on a terminal also how far a long check is.
 #![tactic(auto)]
 
+use blk_device::reader_queue;
 use std::alloc::Global;
 use std::io::{ErrorKind, IsTerminal};
 use std::process::ExitCode;
 use std::rt::Env;
-use std::{env, io};
-use xscrub::{FileHost, Finding, fsck_main, tell, tell_status};
+use std::thread::Threads;
+use std::{env, io, thread};
+use xscrub::{FileHost, Finding, Host, fsck_main, tell, tell_status};
 
 // So many bytes are asked for and given back before anything else.
 const KEPT_BYTES: usize = 8 << 20;
@@ -28,21 +30,40 @@ fn words_of<R: Env + AllocGlobal>(rt: &R) -> io::Result<Vec<String>> {
     Ok(words)
 }
 
-fn main(rt: HostRuntime) -> ExitCode {
-    let alloc = rt.alloc();
-    keep_freed_memory(alloc);
-    let is_watched = rt.stderr().is_terminal();
-    let mut host = FileHost::new(alloc, &rt, is_watched);
-    let status = match words_of(&rt) {
-        Ok(words) => fsck_main(alloc, &mut host, words.as_slice()).status,
+// Does what the words of the command line ask for, and answers the status.
+fn run<R: Env + AllocGlobal, H: Host>(alloc: Global, rt: &R, host: &mut H) -> u8 {
+    match words_of(rt) {
+        Ok(words) => fsck_main(alloc, host, words.as_slice()).status,
         Err(fault) if fault.kind() == ErrorKind::OutOfMemory => {
-            tell(alloc, &mut host, Finding::Memory(Vec::new(alloc)))
+            tell(alloc, host, Finding::Memory(Vec::new(alloc)))
                 .status
                 .code()
         }
         // A word that isn't UTF-8 leaves a list of words that asks for nothing.
-        Err(_) => fsck_main(alloc, &mut host, &[]).status,
-    };
+        Err(_) => fsck_main(alloc, host, &[]).status,
+    }
+}
+
+// Whether there is a processor for a second thread.
+fn has_second_processor<R: Threads>(rt: &R) -> bool {
+    match thread::available_parallelism(rt) {
+        Ok(count) => count.get() > 1,
+        Err(_) => false,
+    }
+}
+
+fn main(rt: HostRuntime) -> ExitCode {
+    let alloc = rt.alloc();
+    keep_freed_memory(alloc);
+    let mut host = FileHost::new(alloc, &rt, rt.stderr().is_terminal());
+    // An image that is checked is read ahead by a thread of its own, which ends with the program.
+    if let (true, Ok((queue, readers))) = (has_second_processor(&rt), reader_queue(alloc)) {
+        let clock = rt;
+        if thread::spawn(&rt, move || readers.serve(&clock)).is_ok() {
+            host = host.with_readers(queue);
+        }
+    }
+    let status = run(alloc, &rt, &mut host);
     tell_status(&rt, status);
     ExitCode::from(status)
 }

@@ -1,13 +1,12 @@
-use Rattle.std.proofs.Common.{sym, subst}
-use Rattle.xscrub.specs.Stored.{HasRoomFor}
-use Rattle.xscrub.proofs.LoanLemmas.{lent_file}
-use Rattle.blk_device.specs.declared.device.Region.TheVariants.{Image}
+use Rattle.std.proofs.Common.{◌∙◌, ap, sym, ℕ, None, false, subst}
+use Rattle.blk_device.specs.declared.device.Region.{Region}
+use Rattle.blk_device.specs.declared.device.Region.TheVariants.{Redo}
+use Rattle.xscrub.specs.Stored.{IsLent, redo_asked}
 use Rattle.xscrub.proofs.file_host.open_device.Goals as goal
 
-pub returns-in_default-clause-told : goal.returns-in_default-clause-told
-returns-in_default-clause-told g c =
-    lent_file c.args.purpose _ _ (subst (HasRoomFor c.args.purpose) (sym (c.new.ensures.sizes Image)) c.in_ok-image_blocks.ensures)
+pub returns-clause-redo_blocks : goal.returns-clause-redo_blocks
+returns-clause-redo_blocks g c = λ none. ap (λ (blocks : Region → ℕ). blocks Redo) c.with_ahead.ensures.sizes ∙ c.in_ok-device.ensures.redo_blocks none
 
 pub returns-clause-told : goal.returns-clause-told
 returns-clause-told g c =
-    lent_file c.args.purpose _ _ (subst (HasRoomFor c.args.purpose) (sym (c.new-2.ensures.sizes Image)) c.in_ok-image_blocks.ensures)
+    subst (λ (blocks : Region → ℕ). IsLent c.args.purpose false None (redo_asked (λ n. None) c.args.redo) None blocks) (sym c.with_ahead.ensures.sizes) c.in_ok-device.ensures.told
