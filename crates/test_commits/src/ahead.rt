@@ -73,6 +73,16 @@ fn numbered_file<R: Files>(files: &R, name: &str, blocks: u8) -> io::Result<R::F
     Ok(file)
 }
 
+// A handle of the file that nothing is read by.
+fn handle_to_write<R: Files>(files: &R, name: &str) -> io::Result<R::File> {
+    File::options().write(true).open(files, name)
+}
+
+// Removes the file, and says whether it was there.
+fn is_removed<R: Files>(files: &R, name: &str) -> bool {
+    fs::remove_file(files, name).is_ok()
+}
+
 // What the block reads as, where it begins and ends with the same byte.
 fn number_at<D: Device>(device: &mut D, at: u64) -> Option<u8> {
     let mut block = Block::zeroed();
@@ -141,17 +151,14 @@ fn what_another_thread_read_is_taken_until_the_image_is_written(
     drop(device);
     drop(queue);
     thread.join(&rt);
-    fs::remove_file(&rt, "told.image").map_err(|_| "not removed")?;
+    assert!(rt; is_removed(&rt, "told.image"));
     Ok(())
 }
 
 #[test]
 fn what_another_thread_cannot_read_the_device_reads(rt: HostRuntime) -> Result<(), Fail> {
     let file = numbered_file(&rt, "untold.image", 16).map_err(|_| "no image file")?;
-    let other = File::options()
-        .write(true)
-        .open(&rt, "untold.image")
-        .map_err(|_| "no second handle")?;
+    let other = handle_to_write(&rt, "untold.image").map_err(|_| "no second handle")?;
     let (mut queue, readers) = reader_queue(rt.alloc())?;
     let clock = rt;
     let thread = thread::spawn(&rt, move || readers.serve(&clock))?;
@@ -169,6 +176,6 @@ fn what_another_thread_cannot_read_the_device_reads(rt: HostRuntime) -> Result<(
     drop(device);
     drop(queue);
     thread.join(&rt);
-    fs::remove_file(&rt, "untold.image").map_err(|_| "not removed")?;
+    assert!(rt; is_removed(&rt, "untold.image"));
     Ok(())
 }

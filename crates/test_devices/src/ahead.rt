@@ -1,11 +1,12 @@
 // Blocks of an image file in their order, which a device reads several at once.
+use super::files::{empty_file, is_removed};
 use blk_device::{Device, FileDevice, Region};
 use byte_fields::Block;
 use std::cell::Cell;
-use std::fs::{File, Files, Metadata, OpenFile};
+use std::fs::{Files, Metadata, OpenFile};
+use std::io;
 use std::io::{ErrorKind, Read, Seek, SeekFrom, Write};
 use std::test::Fail;
-use std::{fs, io};
 
 // A file of which no read that touches one of its blocks is answered. Its reads are counted.
 #[derive(Drop)]
@@ -79,12 +80,7 @@ fn bad_file<'a, R: Files>(
     bad: u64,
     asked: &'a Cell<u64>,
 ) -> io::Result<BadBlock<'a, R::File>> {
-    let file = File::options()
-        .read(true)
-        .write(true)
-        .create(true)
-        .truncate(true)
-        .open(files, name)?;
+    let file = empty_file(files, name)?;
     Ok(BadBlock {
         file,
         place: 0,
@@ -155,7 +151,7 @@ fn blocks_in_order_are_read_eight_at_once(rt: HostRuntime) -> Result<(), Fail> {
     assert_eq!(rt; number_at(&mut device, 11), Some(12));
     assert_eq!(rt; number_at(&mut device, 1), Some(2));
     assert_eq!(rt; asked.get(), 3);
-    fs::remove_file(&rt, "ahead.image").map_err(|_| "not removed")?;
+    assert!(rt; is_removed(&rt, "ahead.image"));
     Ok(())
 }
 
@@ -189,7 +185,7 @@ fn blocks_behind_one_are_read_with_it_while_they_are_asked_for(
         let number = number_at(&mut device, at);
         assert!(rt; number.is_some() && asked.get() == calls, "block {at}");
     }
-    fs::remove_file(&rt, "vain.image").map_err(|_| "not removed")?;
+    assert!(rt; is_removed(&rt, "vain.image"));
     Ok(())
 }
 
@@ -209,7 +205,7 @@ fn a_block_read_ahead_is_read_anew_once_written(rt: HostRuntime) -> Result<(), F
         [Some(21), Some(22), Some(23), Some(24)]
     );
     assert_eq!(rt; number_at(&mut device, 7), Some(8));
-    fs::remove_file(&rt, "anew.image").map_err(|_| "not removed")?;
+    assert!(rt; is_removed(&rt, "anew.image"));
     Ok(())
 }
 
@@ -227,6 +223,6 @@ fn a_bad_block_fails_at_its_own_read_alone(rt: HostRuntime) -> Result<(), Fail> 
         [Some(5), Some(6), Some(7), Some(8)]
     );
     assert_eq!(rt; device.fault_count(), 1);
-    fs::remove_file(&rt, "bad.image").map_err(|_| "not removed")?;
+    assert!(rt; is_removed(&rt, "bad.image"));
     Ok(())
 }

@@ -1,9 +1,10 @@
+use super::files::{empty_file, is_removed};
 use blk_device::{
     Device, FileDevice, FuseDevice, MemDevice, MemSource, Region, Source, SourceFailed, Unsynced,
 };
 use byte_fields::Block;
-use std::alloc::{AllocError, Global};
-use std::fs::{File, Files, OpenFile};
+use std::alloc::{Alloc, AllocError, Global};
+use std::fs::{Files, OpenFile};
 use std::test::Fail;
 use std::{fs, io};
 
@@ -194,14 +195,14 @@ fn a_crash_leaves_unsynced_writes_absent_present_or_torn(rt: HostRuntime) -> Res
 }
 
 fn fresh_file<R: Files>(files: &R, name: &str, blocks: u64) -> io::Result<R::File> {
-    let file = File::options()
-        .read(true)
-        .write(true)
-        .create(true)
-        .truncate(true)
-        .open(files, name)?;
+    let file = empty_file(files, name)?;
     file.set_len(blocks.saturating_mul(4096))?;
     Ok(file)
+}
+
+// The byte of the file there.
+fn byte_in<R: Alloc + Files>(files: &R, name: &str, at: usize) -> Option<u8> {
+    fs::read(files, name).ok()?.get(at).copied()
 }
 
 #[test]
@@ -217,17 +218,15 @@ fn files_keep_what_was_written(rt: HostRuntime) -> Result<(), Fail> {
     let first = ends_at(&mut device, Region::Redo, 0);
     assert!(rt; image_done && redo_done);
     assert_eq!(rt; [last, beyond, first], [Some((9, 9)), None, Some((6, 6))]);
-    let image = fs::read(&rt, "blocks.image").map_err(|_| "no image file")?;
-    let redo = fs::read(&rt, "blocks.redo").map_err(|_| "no redo file")?;
     let found = [
-        image.get(8191),
-        image.get(8192),
-        redo.get(0),
-        redo.get(4095),
+        byte_in(&rt, "blocks.image", 8191),
+        byte_in(&rt, "blocks.image", 8192),
+        byte_in(&rt, "blocks.redo", 0),
+        byte_in(&rt, "blocks.redo", 4095),
     ];
-    assert_eq!(rt; found, [Some(&0), Some(&9), Some(&6), Some(&6)]);
-    fs::remove_file(&rt, "blocks.image").map_err(|_| "not removed")?;
-    fs::remove_file(&rt, "blocks.redo").map_err(|_| "not removed")?;
+    assert_eq!(rt; found, [Some(0), Some(9), Some(6), Some(6)]);
+    assert!(rt; is_removed(&rt, "blocks.image"));
+    assert!(rt; is_removed(&rt, "blocks.redo"));
     Ok(())
 }
 
@@ -253,7 +252,7 @@ fn a_file_is_read_and_written_in_any_order(rt: HostRuntime) -> Result<(), Fail> 
     );
     assert_eq!(rt; [beyond, again], [None, Some((4, 4))]);
     assert_eq!(rt; [second, twice], [Some((7, 7)), Some((7, 7))]);
-    fs::remove_file(&rt, "order.image").map_err(|_| "not removed")?;
+    assert!(rt; is_removed(&rt, "order.image"));
     Ok(())
 }
 
@@ -266,6 +265,6 @@ fn without_a_redo_file_the_region_is_zeros_in_memory(rt: HostRuntime) -> Result<
     let after = ends_at(&mut device, Region::Redo, 161);
     assert!(rt; done);
     assert_eq!(rt; [before, after], [Some((0, 0)), Some((5, 5))]);
-    fs::remove_file(&rt, "alone.image").map_err(|_| "not removed")?;
+    assert!(rt; is_removed(&rt, "alone.image"));
     Ok(())
 }

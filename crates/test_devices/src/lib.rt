@@ -10,4 +10,6 @@ mod devices;
 #[cfg(test)]
 mod fields;
 #[cfg(test)]
+mod files;
+#[cfg(test)]
 mod geometry;
