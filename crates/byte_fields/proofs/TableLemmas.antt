@@ -1,13 +1,14 @@
 -- The remainder is linear, and a byte's part of it stands in a table.
-use Rattle.std.proofs.Common.{◌≡◌, ℕ, zero, suc, ◌+◌, ◌*◌, ◌/◌, ◌%◌, ◌^◌, ◌<◌, ◌⊎◌, inl, inr, Bool, true, false, ◌&&◌, add-zero, List, [], ◌∷◌, length, get_or, replicate, refl, sym, ◌∙◌, ap, arith}
+use Rattle.std.proofs.Common.{◌≡◌, ℕ, zero, suc, ◌+◌, ◌*◌, ◌/◌, ◌%◌, ◌^◌, ◌<◌, ◌⊎◌, inl, inr, Bool, true, false, ◌&&◌, List, [], ◌∷◌, length, get_or, replicate, ◌-◌, refl, sym, ◌∙◌, ap, arith}
 use Rattle.std.specs.Prelude.{IsTrue, eqb}
 use Rattle.std.proofs.Math.Nat.{pow-succ'}
 use Rattle.std.proofs.lemmas.Bool.{eqb-true, cases_lt}
 use Rattle.std.proofs.lemmas.Nat.{xor_comm}
+use Rattle.std.proofs.lemmas.List.{length-append, get_or_append_left, get_or-append_right}
 use Rattle.std.specs.Int.Bits.{bit_xor, xor_assoc, xor_zero_r, xor_zero_l, xor_self}
 use Rattle.std.specs.Int.{bit_at}
 use Rattle.std.proofs.lemmas.Nat.Bits.{same_from_bits, bit_at_xor, bit_at-suc, bit_at_lowest}
-use Rattle.byte_fields.specs.Tables.{after_zeros, next_zeros, are_from, is_table}
+use Rattle.byte_fields.specs.Tables.{after_zeros, next_zeros, laid_over, table, are_same, is_table}
 use Rattle.byte_fields.specs.Checksum.{after_bit, after_bits, after_byte, after_bytes}
 
 half-xor : (k l : ℕ) → bit_xor k l / 2 ≡ bit_xor (k / 2) (l / 2)
@@ -179,13 +180,62 @@ unfolding after_zeros after_bits after_bit
 next-is zero c = refl
 next-is (suc n) c = next-is n _
 
-entries : (n i : ℕ) (xs : List ℕ) (k : ℕ) → IsTrue (are_from n i xs) → k < length xs → get_or xs k 0 ≡ after_zeros n (i + k)
-entries n i [] k h lt = absurd (omega arith)
-entries n i (x ∷ xs) zero h lt = let p : (eqb x (next_zeros n i) ≡ true) × IsTrue (are_from n (i + 1) xs) = split_and _ _ h in rw add-zero (eqb-true x _ p.0 ∙ next-is n i)
-entries n i (x ∷ xs) (suc k) h lt =
-    let p : (eqb x (next_zeros n i) ≡ true) × IsTrue (are_from n (i + 1) xs) = split_and _ _ h in
-    let e : i + 1 + k ≡ i + suc k = omega arith in
-    entries n (i + 1) xs k p.1 (omega arith) ∙ ap (after_zeros n) e
+length-laid : (r : ℕ) (xs : List ℕ) → length (laid_over r xs) ≡ length xs
+length-laid r [] = refl
+length-laid r (x ∷ xs) = ap suc (length-laid r xs)
+
+laid-at : (r : ℕ) (xs : List ℕ) (k : ℕ) → k < length xs → get_or (laid_over r xs) k 0 ≡ bit_xor r (get_or xs k 0)
+laid-at r [] k lt = absurd (omega arith)
+laid-at r (x ∷ xs) zero lt = refl
+laid-at r (x ∷ xs) (suc k) lt = laid-at r xs k (omega arith)
+
+length-table : (n k : ℕ) → length (table n k) ≡ 2 ^ k
+length-table n zero = refl
+length-table n (suc k) =
+    let laid = laid_over (next_zeros n (2 ^ k)) (table n k) in
+    length-append (table n k) laid ∙ (ap (λ (m : ℕ). length (table n k) + m) (length-laid _ (table n k)) ∙ (ap (λ (m : ℕ). m + m) (length-table n k) ∙ (omega arith ∙ sym (pow-succ' 2 k))))
+
+none-on : (n : ℕ) → after_zeros n 0 ≡ 0
+unfolding after_zeros
+none-on zero = refl
+none-on (suc n) = ap (after_zeros n) (after-none 8) ∙ none-on n
+
+-- a highest bit and the others
+with-bit : (k j : ℕ) → j < 2 ^ k → bit_xor (2 ^ k) j ≡ 2 ^ k + j
+with-bit k j lt =
+    let one : 2 ^ k * 1 ≡ 2 ^ k = omega arith in
+    rw one at (joined k 1 j lt)
+
+table-at : (n k i : ℕ) → i < 2 ^ k → get_or (table n k) i 0 ≡ after_zeros n i
+table-at n zero i lt = let z : i ≡ 0 = omega arith in rw z (sym (none-on n))
+table-at n (suc k) i lt =
+    let r = next_zeros n (2 ^ k) in
+    let low = table n k in
+    let long : length low ≡ 2 ^ k = length-table n k in
+    let twice : 2 ^ suc k ≡ 2 * 2 ^ k = pow-succ' 2 k ∙ omega arith in
+    elim (cases_lt i (2 ^ k)) [
+      | inl below ↦ get_or_append_left low (laid_over r low) 0 i (omega (arith, long)) ∙ table-at n k i (omega arith)
+      | inr above ↦
+          let j = i - 2 ^ k in
+          let within : j < 2 ^ k = omega (arith, twice) in
+          get_or-append_right low (laid_over r low) (2 ^ k) i 0 long (omega arith)
+          ∙ (laid-at r low j (omega (arith, long))
+          ∙ (ap (bit_xor r) (table-at n k j within)
+          ∙ (ap (λ (m : ℕ). bit_xor m (after_zeros n j)) (next-is n (2 ^ k))
+          ∙ (sym (add-zeros n (2 ^ k) j)
+          ∙ ap (after_zeros n) (with-bit k j within ∙ omega arith)))))
+    ]
+
+same-at : (xs ys : List ℕ) → IsTrue (are_same xs ys) → xs ≡ ys
+same-at [] [] h = refl
+same-at [] (y ∷ ys) h = absurd cc
+same-at (x ∷ xs) [] h = absurd cc
+same-at (x ∷ xs) (y ∷ ys) h =
+    let p : (eqb x y ≡ true) × IsTrue (are_same xs ys) = split_and _ _ h in
+    (λ i. eqb-true x y p.0 i ∷ same-at xs ys p.1 i)
 
 pub entry : (n : ℕ) (xs : List ℕ) (k : ℕ) → IsTrue (is_table n xs) → k < length xs → get_or xs k 0 ≡ after_zeros n k
-entry n xs k h lt = entries n 0 xs k h lt ∙ ap (after_zeros n) (omega arith)
+entry n xs k h lt =
+    let e : xs ≡ table n 8 = same-at xs (table n 8) h in
+    let long : length xs ≡ 2 ^ 8 = ap length e ∙ length-table n 8 in
+    ap (λ (t : List ℕ). get_or t k 0) e ∙ table-at n 8 k (omega (arith, long))

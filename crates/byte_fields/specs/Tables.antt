@@ -1,5 +1,5 @@
 -- Tables of the remainders after a byte and the zeros that follow it.
-use Rattle.std.specs.Prelude.{ℕ, zero, suc, ◌+◌, ◌/◌, ◌%◌, ◌==◌, ◌&&◌, Bool, true, if◌then◌else◌, List, [], ◌∷◌, bit_xor}
+use Rattle.std.specs.Prelude.{ℕ, zero, suc, ◌/◌, ◌%◌, ◌^◌, ◌==◌, ◌&&◌, Bool, true, false, if◌then◌else◌, List, [], ◌∷◌, ◌++◌, bit_xor}
 use Rattle.byte_fields.specs.Checksum.{after_bits}
 
 -- the remainder after n bytes, each of eight bits that are zero
@@ -15,11 +15,23 @@ abbrev pub next_zeros : ℕ → ℕ → ℕ
 next_zeros zero c = c
 next_zeros (suc n) c = next_zeros n (next (next (next (next (next (next (next (next c))))))))
 
--- the entries from number i on
-abbrev pub are_from : ℕ → ℕ → List ℕ → Bool
-are_from n i [] = true
-are_from n i (x ∷ xs) = (x == next_zeros n i) && are_from n (i + 1) xs
+-- the remainder r over each of these
+abbrev pub laid_over : ℕ → List ℕ → List ℕ
+laid_over r [] = []
+laid_over r (x ∷ xs) = bit_xor r x ∷ laid_over r xs
+
+-- the remainders of all bytes of k bits, after n bytes: those whose highest bit is one are the
+-- others with that bit's remainder over them
+abbrev pub table : ℕ → ℕ → List ℕ
+table n zero = 0 ∷ []
+table n (suc k) = table n k ++ laid_over (next_zeros n (2 ^ k)) (table n k)
+
+abbrev pub are_same : List ℕ → List ℕ → Bool
+are_same [] [] = true
+are_same [] (y ∷ ys) = false
+are_same (x ∷ xs) [] = false
+are_same (x ∷ xs) (y ∷ ys) = (x == y) && are_same xs ys
 
 -- entry i is the remainder of the byte i after n bytes
 abbrev pub is_table : ℕ → List ℕ → Bool
-is_table n xs = are_from n 0 xs
+is_table n xs = are_same xs (table n 8)
