@@ -1,3 +1,4 @@
+use super::same::same;
 use defer_chain::{Chain, ChainInode, Stretch, first_stretch};
 use fs_state::{Intent, IntentKind};
 use intent_drain::{Drain, Gate, Holder};
@@ -9,38 +10,38 @@ const INODE: ChainInode = ChainInode { ino: 195, uid: 7 };
 #[test]
 fn a_new_chain_owes_nothing(rt: HostRuntime) -> Result<(), Fail> {
     let chain = Chain::new(1, INODE, None);
-    assert_eq!(rt; chain.writer(), 1);
-    assert_eq!(rt; chain.first(), INODE);
-    assert_eq!(rt; chain.second(), None);
-    assert_eq!(rt; chain.next(), None);
-    assert_eq!(rt; chain.next_kind(), None);
-    assert_eq!(rt; chain.next_group(), None);
-    assert_eq!(rt; chain.owes(0), 0);
+    same(&rt, chain.writer(), 1);
+    same(&rt, chain.first(), INODE);
+    same(&rt, chain.second(), None);
+    same(&rt, chain.next(), None);
+    same(&rt, chain.next_kind(), None);
+    same(&rt, chain.next_group(), None);
+    same(&rt, chain.owes(0), 0);
     Ok(())
 }
 
 #[test]
 fn a_quiet_group_is_closed_at_once(rt: HostRuntime) -> Result<(), Fail> {
     let mut drain = Drain::new(rt.alloc(), 2)?;
-    assert_eq!(rt; drain.gate(1), Gate::Open);
-    assert_eq!(rt; drain.count(1), 0);
-    assert_eq!(rt; drain.close(1), Ok(()));
-    assert_eq!(rt; drain.gate(1), Gate::Closed);
-    assert_eq!(rt; drain.gate(0), Gate::Open);
+    same(&rt, drain.gate(1), Gate::Open);
+    same(&rt, drain.count(1), 0);
+    same(&rt, drain.close(1), Ok(()));
+    same(&rt, drain.gate(1), Gate::Closed);
+    same(&rt, drain.gate(0), Gate::Open);
     drain.open(1);
-    assert_eq!(rt; drain.gate(1), Gate::Open);
+    same(&rt, drain.gate(1), Gate::Open);
     Ok(())
 }
 
 #[test]
 fn an_inode_has_one_holder(rt: HostRuntime) -> Result<(), Fail> {
     let mut drain = Drain::new(rt.alloc(), 1)?;
-    assert_eq!(rt; drain.holder(195), None);
+    same(&rt, drain.holder(195), None);
     drain.hold(195, Holder::Chain(3));
-    assert_eq!(rt; drain.holder(195), Some(Holder::Chain(3)));
-    assert_eq!(rt; drain.holder(196), None);
+    same(&rt, drain.holder(195), Some(Holder::Chain(3)));
+    same(&rt, drain.holder(196), None);
     drain.let_go(195);
-    assert_eq!(rt; drain.holder(195), None);
+    same(&rt, drain.holder(195), None);
     Ok(())
 }
 
@@ -59,11 +60,11 @@ fn open_all(drain: &mut Drain) -> u32 {
 #[test]
 fn sixteen_chains_are_open_at_most(rt: HostRuntime) -> Result<(), Fail> {
     let mut drain = Drain::new(rt.alloc(), 1)?;
-    assert_eq!(rt; open_all(&mut drain), 16);
-    assert_eq!(rt; drain.free_number(), None);
+    same(&rt, open_all(&mut drain), 16);
+    same(&rt, drain.free_number(), None);
     drain.set_chain(4, None);
     drain.set_chain(9, None);
-    assert_eq!(rt; drain.free_number(), Some(4));
+    same(&rt, drain.free_number(), Some(4));
     assert!(rt; drain.chain(3).is_some());
     assert!(rt; drain.chain(16).is_none());
     Ok(())
@@ -88,15 +89,15 @@ fn owing(group: u32) -> Chain {
 fn a_group_closes_once_no_chain_owes_it_anything(rt: HostRuntime) -> Result<(), Fail> {
     let mut drain = Drain::new(rt.alloc(), 65_536)?;
     drain.set_chain(15, Some(owing(65_535)));
-    assert_eq!(rt; drain.close(65_535), Err(1));
-    assert_eq!(rt; drain.gate(65_535), Gate::Closing);
-    assert_eq!(rt; drain.close(0), Ok(()));
+    same(&rt, drain.close(65_535), Err(1));
+    same(&rt, drain.gate(65_535), Gate::Closing);
+    same(&rt, drain.close(0), Ok(()));
     drain.set_chain(0, Some(owing(65_535)));
-    assert_eq!(rt; drain.close(65_535), Err(2));
+    same(&rt, drain.close(65_535), Err(2));
     drain.set_chain(15, None);
     drain.set_chain(0, None);
-    assert_eq!(rt; drain.close(65_535), Ok(()));
-    assert_eq!(rt; drain.gate(65_535), Gate::Closed);
+    same(&rt, drain.close(65_535), Ok(()));
+    same(&rt, drain.gate(65_535), Gate::Closed);
     Ok(())
 }
 
@@ -104,10 +105,10 @@ fn a_group_closes_once_no_chain_owes_it_anything(rt: HostRuntime) -> Result<(), 
 fn the_scan_holds_an_inode_like_a_chain(rt: HostRuntime) -> Result<(), Fail> {
     let mut drain = Drain::new(rt.alloc(), 1)?;
     drain.hold(u64::MAX, Holder::Scan);
-    assert_eq!(rt; drain.holder(u64::MAX), Some(Holder::Scan));
-    assert_eq!(rt; drain.holder(0), None);
+    same(&rt, drain.holder(u64::MAX), Some(Holder::Scan));
+    same(&rt, drain.holder(0), None);
     drain.let_go(0);
-    assert_eq!(rt; drain.holder(u64::MAX), Some(Holder::Scan));
+    same(&rt, drain.holder(u64::MAX), Some(Holder::Scan));
     Ok(())
 }
 
@@ -119,9 +120,10 @@ fn counts_below_at_and_above_the_cap_are_told(rt: HostRuntime) -> Result<(), Fai
             count: 1,
             refcount: owners,
         };
-        assert_eq!(rt;
+        same(
+            &rt,
             first_stretch(40, 1, Some(over), None),
-            Stretch { count: 1, owners }
+            Stretch { count: 1, owners },
         );
     }
     Ok(())
@@ -130,24 +132,26 @@ fn counts_below_at_and_above_the_cap_are_told(rt: HostRuntime) -> Result<(), Fai
 #[test]
 fn a_stretch_ends_with_its_record_and_before_the_next(rt: HostRuntime) -> Result<(), Fail> {
     for (count, stretch) in [(1, 1), (7, 7), (8, 8), (9, 8), (2_097_151, 8)] {
-        assert_eq!(rt;
+        same(
+            &rt,
             first_stretch(40, count, None, Some(48)),
             Stretch {
                 count: stretch,
-                owners: 1
-            }
+                owners: 1,
+            },
         );
         let over = RefcRec {
             start: 32,
             count: 16,
             refcount: 3,
         };
-        assert_eq!(rt;
+        same(
+            &rt,
             first_stretch(40, count, Some(over), None),
             Stretch {
                 count: stretch,
-                owners: 3
-            }
+                owners: 3,
+            },
         );
     }
     Ok(())

@@ -1,4 +1,5 @@
 // What a fork's list refuses, at both ends of each number.
+use super::same::same;
 use dinode_core::Mapping;
 use fork_change::{ForkChange, MOST_MAPPED, add, convert, take};
 use geom::Geometry;
@@ -73,7 +74,7 @@ fn an_offset_that_is_mapped_is_occupied(rt: HostRuntime) -> Result<(), Fail> {
         (END - 1, 1, Ok(2)),
     ];
     for (offset, count, answer) in rows {
-        assert_eq!(rt; added(rt.alloc(), offset, 100, count, 2), answer);
+        same(&rt, added(rt.alloc(), offset, 100, count, 2), answer);
     }
     Ok(())
 }
@@ -90,7 +91,7 @@ fn a_list_is_full_where_one_more_has_no_room(rt: HostRuntime) -> Result<(), Fail
         (8, 43, MOST_MAPPED - 2, 2, Ok(2)),
     ];
     for (offset, block, count, room, answer) in rows {
-        assert_eq!(rt; added(rt.alloc(), offset, block, count, room), answer);
+        same(&rt, added(rt.alloc(), offset, block, count, room), answer);
     }
     Ok(())
 }
@@ -123,7 +124,7 @@ fn beside_a_mapping_there_is_a_hole(rt: HostRuntime) -> Result<(), Fail> {
         (LAST, u64::MAX, Err(ForkChange::Hole)),
     ];
     for (m, offset, answer) in rows {
-        assert_eq!(rt; taken(rt.alloc(), &m, offset), answer);
+        same(&rt, taken(rt.alloc(), &m, offset), answer);
     }
     Ok(())
 }
@@ -147,7 +148,7 @@ fn a_written_piece_wants_room_beside_what_stays(rt: HostRuntime) -> Result<(), F
         (8, 3, Err(ForkChange::Hole)),
     ];
     for (offset, room, answer) in rows {
-        assert_eq!(rt; converted(rt.alloc(), offset, room), answer);
+        same(&rt, converted(rt.alloc(), offset, room), answer);
     }
     Ok(())
 }

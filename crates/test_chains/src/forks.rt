@@ -1,3 +1,4 @@
+use super::same::same;
 use dinode_core::Mapping;
 use fork_change::{ForkChange, take};
 use std::test::Fail;
@@ -34,13 +35,17 @@ const LAST: Mapping = Mapping {
 fn a_piece_leaves_what_lies_beside_it(rt: HostRuntime) -> Result<(), Fail> {
     let alloc = rt.alloc();
     let mut list = Vec::from_slice(alloc, &[WHOLE])?;
-    assert_eq!(rt; take(alloc, &mut list, 8, 1, 21), Err(ForkChange::Hole));
-    assert_eq!(rt; take(alloc, &mut list, 4, 1, 21), Err(ForkChange::Hole));
-    assert_eq!(rt; take(alloc, &mut list, 6, 1, 1), Err(ForkChange::Full(2)));
-    assert_eq!(rt; list.as_slice(), [WHOLE].as_slice());
-    assert_eq!(rt; take(alloc, &mut list, 6, 1, 2), Ok(MIDDLE));
-    assert_eq!(rt; list.as_slice(), [FIRST, LAST].as_slice());
-    assert_eq!(rt; take(alloc, &mut list, 7, 1024, 2), Ok(LAST));
-    assert_eq!(rt; list.as_slice(), [FIRST].as_slice());
+    same(&rt, take(alloc, &mut list, 8, 1, 21), Err(ForkChange::Hole));
+    same(&rt, take(alloc, &mut list, 4, 1, 21), Err(ForkChange::Hole));
+    same(
+        &rt,
+        take(alloc, &mut list, 6, 1, 1),
+        Err(ForkChange::Full(2)),
+    );
+    same(&rt, list.as_slice(), [WHOLE].as_slice());
+    same(&rt, take(alloc, &mut list, 6, 1, 2), Ok(MIDDLE));
+    same(&rt, list.as_slice(), [FIRST, LAST].as_slice());
+    same(&rt, take(alloc, &mut list, 7, 1024, 2), Ok(LAST));
+    same(&rt, list.as_slice(), [FIRST].as_slice());
     Ok(())
 }

@@ -7,3 +7,5 @@ mod chains;
 mod fork_refusals;
 #[cfg(test)]
 mod forks;
+#[cfg(test)]
+mod same;

@@ -1,4 +1,5 @@
 // Blocks of an image file that another thread reads ahead.
+use super::same::same;
 use blk_device::{Device, FileDevice, Region, reader_queue};
 use byte_fields::Block;
 use std::fs::{File, Files, Metadata, OpenFile};
@@ -136,18 +137,18 @@ fn what_another_thread_read_is_taken_until_the_image_is_written(
         );
     }
     // Neither a block that wasn't told nor one that was used up.
-    assert_eq!(rt; number_at(&mut device, 13), None);
-    assert_eq!(rt; number_at(&mut device, 2), None);
+    same(&rt, number_at(&mut device, 13), None);
+    same(&rt, number_at(&mut device, 2), None);
     // Of a run past the file's end what stands in the file, and nothing behind it.
     device.will_read(Region::Image, 13, 7);
-    assert_eq!(rt; number_soon(&rt, &mut device, 13), Some(14));
-    assert_eq!(rt; number_at(&mut device, 15), Some(16));
-    assert_eq!(rt; number_at(&mut device, 16), None);
-    assert_eq!(rt; number_at(&mut device, 19), None);
+    same(&rt, number_soon(&rt, &mut device, 13), Some(14));
+    same(&rt, number_at(&mut device, 15), Some(16));
+    same(&rt, number_at(&mut device, 16), None);
+    same(&rt, number_at(&mut device, 19), None);
     device.will_read(Region::Image, 0, 2);
-    assert_eq!(rt; number_soon(&rt, &mut device, 0), Some(1));
+    same(&rt, number_soon(&rt, &mut device, 0), Some(1));
     assert!(rt; is_written(&mut device, 15));
-    assert_eq!(rt; number_at(&mut device, 1), None);
+    same(&rt, number_at(&mut device, 1), None);
     drop(device);
     drop(queue);
     thread.join(&rt);
@@ -172,7 +173,7 @@ fn what_another_thread_cannot_read_the_device_reads(rt: HostRuntime) -> Result<(
         let number = number_at(&mut device, u64::from(at));
         assert_eq!(rt; number, Some(at.saturating_add(1)), "block {at}");
     }
-    assert_eq!(rt; device.fault_count(), 0);
+    same(&rt, device.fault_count(), 0);
     drop(device);
     drop(queue);
     thread.join(&rt);

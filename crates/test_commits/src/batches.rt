@@ -1,6 +1,7 @@
 ghost use Rattle.std.specs.Prelude.{◌≡◌, ◌&&◌, nat_le, nat_lt};
 ghost use Rattle.redo_area.specs.Table.{places, rises};
 
+use super::same::same;
 use blk_device::{Device, FuseDevice, MemDevice, Region, Unsynced};
 use byte_fields::{Block, put_u32, put_u64};
 use redo_area::{BatchFault, RedoFault, close_gate, install, open_gate, prepare, recover, waiting};
@@ -185,7 +186,7 @@ fn a_stopped_recovery_keeps_the_batch(rt: HostRuntime) -> Result<(), Fail> {
     }
     assert!(rt; all_kept);
     let mut whole = FuseDevice::new(waiting_device(alloc, &batch)?, 11);
-    assert_eq!(rt; recover(&mut whole), Ok(true));
+    same(&rt, recover(&mut whole), Ok(true));
     Ok(())
 }
 
@@ -215,26 +216,47 @@ fn answer_to(
 #[test]
 fn a_table_is_judged_behind_an_open_gate(rt: HostRuntime) {
     let alloc = rt.alloc();
-    assert_eq!(rt; answer_to(alloc, 7, 1, 0, [9, 9]), Ok(false));
-    assert_eq!(rt; answer_to(alloc, 1, 1, 0, [9, 9]), Err(RedoFault::Count));
-    assert_eq!(rt; answer_to(alloc, 1, 1, 161, [9, 9]), Err(RedoFault::Count));
-    assert_eq!(rt; answer_to(alloc, 1, 199, 2, [9, 9]), Err(RedoFault::Size));
-    assert_eq!(rt; answer_to(alloc, 1, 200, 2, [9, 9]), Err(RedoFault::Place));
-    assert_eq!(rt; answer_to(alloc, 1, 200, 2, [9, 8]), Err(RedoFault::Place));
-    assert_eq!(rt;
-        answer_to(alloc, 1, 200, 2, [9, 200]),
-        Err(RedoFault::Place)
+    same(&rt, answer_to(alloc, 7, 1, 0, [9, 9]), Ok(false));
+    same(
+        &rt,
+        answer_to(alloc, 1, 1, 0, [9, 9]),
+        Err(RedoFault::Count),
     );
-    assert_eq!(rt; answer_to(alloc, 1, 200, 2, [9, 199]), Ok(true));
-    assert_eq!(rt; answer_to(alloc, 1, 200, 1, [9, 9]), Ok(true));
+    same(
+        &rt,
+        answer_to(alloc, 1, 1, 161, [9, 9]),
+        Err(RedoFault::Count),
+    );
+    same(
+        &rt,
+        answer_to(alloc, 1, 199, 2, [9, 9]),
+        Err(RedoFault::Size),
+    );
+    same(
+        &rt,
+        answer_to(alloc, 1, 200, 2, [9, 9]),
+        Err(RedoFault::Place),
+    );
+    same(
+        &rt,
+        answer_to(alloc, 1, 200, 2, [9, 8]),
+        Err(RedoFault::Place),
+    );
+    same(
+        &rt,
+        answer_to(alloc, 1, 200, 2, [9, 200]),
+        Err(RedoFault::Place),
+    );
+    same(&rt, answer_to(alloc, 1, 200, 2, [9, 199]), Ok(true));
+    same(&rt, answer_to(alloc, 1, 200, 1, [9, 9]), Ok(true));
 }
 
 #[test]
 fn a_redo_region_of_161_blocks_is_short(rt: HostRuntime) {
     let alloc = rt.alloc();
     let mut dev = MemDevice::new(alloc, IMAGE, 161, Vec::new(alloc));
-    assert_eq!(rt; recover(&mut dev), Err(RedoFault::Short));
-    assert_eq!(rt; waiting(&mut dev), Err(RedoFault::Short));
+    same(&rt, recover(&mut dev), Err(RedoFault::Short));
+    same(&rt, waiting(&mut dev), Err(RedoFault::Short));
 }
 
 #[test]
@@ -248,7 +270,11 @@ fn a_batch_of_161_blocks_is_refused(rt: HostRuntime) -> Result<(), Fail> {
     {
         return Err("no batch".into());
     }
-    assert_eq!(rt; prepare(&mut dev, &batch), Err(BatchFault::TooMany(161)));
+    same(
+        &rt,
+        prepare(&mut dev, &batch),
+        Err(BatchFault::TooMany(161)),
+    );
     assert!(rt; holds(&mut dev, Region::Redo, 1, &Block::zeroed()));
     assert!(rt; holds(&mut dev, Region::Redo, 2, &Block::zeroed()));
     Ok(())
@@ -270,6 +296,6 @@ fn table_and_copies_stand_behind_the_gate(rt: HostRuntime) -> Result<(), Fail> {
     assert!(rt; holds(&mut dev, Region::Redo, 1, &table));
     assert!(rt; holds(&mut dev, Region::Redo, 2, &filled(1)));
     assert!(rt; holds(&mut dev, Region::Redo, 3, &filled(2)));
-    assert_eq!(rt; waiting(&mut dev), Ok(false));
+    same(&rt, waiting(&mut dev), Ok(false));
     Ok(())
 }

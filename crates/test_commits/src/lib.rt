@@ -7,4 +7,6 @@ mod ahead;
 #[cfg(test)]
 mod batches;
 #[cfg(test)]
+mod same;
+#[cfg(test)]
 mod transactions;

@@ -3,6 +3,7 @@ ghost use Rattle.blk_cache.specs.Cache.{AgreesTold};
 ghost use Rattle.blk_device.specs.declared.device.Region.TheVariants.{Image};
 ghost use Rattle.meta_txn.specs.Joined.{IsInside};
 
+use super::same::same;
 use blk_cache::BlkCache;
 use blk_device::{Device, FuseDevice, MemDevice, Region, Unsynced};
 use byte_fields::{Block, Steps};
@@ -193,12 +194,13 @@ fn a_commit_writes_its_blocks_and_tells_the_cache(rt: HostRuntime) -> Result<(),
         Deed::Commit,
     ];
     let played = outcome_of(rt.alloc(), 1000, &deeds)?;
-    assert_eq!(rt; played.fault, None);
-    assert_eq!(rt;
+    same(&rt, played.fault, None);
+    same(
+        &rt,
         played.seen.as_slice(),
-        [0, 0, 0, 10, 0, 20, 30, 30, 0, 0].as_slice()
+        [0, 0, 0, 10, 0, 20, 30, 30, 0, 0].as_slice(),
     );
-    assert_eq!(rt; bytes_of(&mut played.dev.into_inner()), Some([20, 30]));
+    same(&rt, bytes_of(&mut played.dev.into_inner()), Some([20, 30]));
     Ok(())
 }
 
@@ -219,12 +221,13 @@ fn back_returns_to_the_mark(rt: HostRuntime) -> Result<(), Fail> {
         Deed::Change(5, 6),
     ];
     let played = outcome_of(rt.alloc(), 1000, &deeds)?;
-    assert_eq!(rt; played.fault, None);
-    assert_eq!(rt;
+    same(&rt, played.fault, None);
+    same(
+        &rt,
         played.seen.as_slice(),
-        [0, 0, 0, 0, 2, 0, 0, 0, 0, 0, 0, 2].as_slice()
+        [0, 0, 0, 0, 2, 0, 0, 0, 0, 0, 0, 2].as_slice(),
     );
-    assert_eq!(rt; bytes_of(&mut played.dev.into_inner()), Some([0, 2]));
+    same(&rt, bytes_of(&mut played.dev.into_inner()), Some([0, 2]));
     Ok(())
 }
 
@@ -253,7 +256,7 @@ fn a_stopped_commit_leaves_both_blocks_or_none(rt: HostRuntime) -> Result<(), Fa
     for calls in 2..14u64 {
         for choices in [[Unsynced::Absent; 3], [Unsynced::Present; 3], mixed] {
             let (left, is_done) = left_by(alloc, calls, &choices)?;
-            assert_eq!(rt; is_done, calls == 13);
+            same(&rt, is_done, calls == 13);
             let is_old = !is_done && left == Some([0, 0]);
             assert!(rt; is_old || left == Some([1, 2]), "after {calls} calls");
         }
@@ -274,7 +277,7 @@ fn joins(alloc: Global, count: u8) -> Result<Vec<Deed>, AllocError> {
 fn a_block_more_than_160_is_refused(rt: HostRuntime) -> Result<(), Fail> {
     let alloc = rt.alloc();
     let played = outcome_of(alloc, 1000, &joins(alloc, 161)?)?;
-    assert_eq!(rt; played.seen.len(), 160);
-    assert_eq!(rt; played.fault, Some(TxnFault::TooMany(161)));
+    same(&rt, played.seen.len(), 160);
+    same(&rt, played.fault, Some(TxnFault::TooMany(161)));
     Ok(())
 }

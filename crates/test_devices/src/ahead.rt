@@ -1,5 +1,6 @@
 // Blocks of an image file in their order, which a device reads several at once.
 use super::files::{empty_file, is_removed};
+use super::same::same;
 use blk_device::{Device, FileDevice, Region};
 use byte_fields::Block;
 use std::cell::Cell;
@@ -134,23 +135,26 @@ fn blocks_in_order_are_read_eight_at_once(rt: HostRuntime) -> Result<(), Fail> {
         && write_four(&mut device, 4, 5)
         && write_four(&mut device, 8, 9);
     assert!(rt; done);
-    assert_eq!(rt;
+    same(
+        &rt,
         four_at(&mut device, 0),
-        [Some(1), Some(2), Some(3), Some(4)]
+        [Some(1), Some(2), Some(3), Some(4)],
     );
-    assert_eq!(rt;
+    same(
+        &rt,
         four_at(&mut device, 4),
-        [Some(5), Some(6), Some(7), Some(8)]
+        [Some(5), Some(6), Some(7), Some(8)],
     );
-    assert_eq!(rt; asked.get(), 1);
-    assert_eq!(rt;
+    same(&rt, asked.get(), 1);
+    same(
+        &rt,
         four_at(&mut device, 8),
-        [Some(9), Some(10), Some(11), Some(12)]
+        [Some(9), Some(10), Some(11), Some(12)],
     );
-    assert_eq!(rt; asked.get(), 2);
-    assert_eq!(rt; number_at(&mut device, 11), Some(12));
-    assert_eq!(rt; number_at(&mut device, 1), Some(2));
-    assert_eq!(rt; asked.get(), 3);
+    same(&rt, asked.get(), 2);
+    same(&rt, number_at(&mut device, 11), Some(12));
+    same(&rt, number_at(&mut device, 1), Some(2));
+    same(&rt, asked.get(), 3);
     assert!(rt; is_removed(&rt, "ahead.image"));
     Ok(())
 }
@@ -199,12 +203,13 @@ fn a_block_read_ahead_is_read_anew_once_written(rt: HostRuntime) -> Result<(), F
     let second = number_at(&mut device, 1);
     let is_changed = write_four(&mut device, 2, 21);
     assert!(rt; done && is_changed);
-    assert_eq!(rt; [first, second], [Some(1), Some(2)]);
-    assert_eq!(rt;
+    same(&rt, [first, second], [Some(1), Some(2)]);
+    same(
+        &rt,
         four_at(&mut device, 2),
-        [Some(21), Some(22), Some(23), Some(24)]
+        [Some(21), Some(22), Some(23), Some(24)],
     );
-    assert_eq!(rt; number_at(&mut device, 7), Some(8));
+    same(&rt, number_at(&mut device, 7), Some(8));
     assert!(rt; is_removed(&rt, "anew.image"));
     Ok(())
 }
@@ -216,13 +221,18 @@ fn a_bad_block_fails_at_its_own_read_alone(rt: HostRuntime) -> Result<(), Fail> 
     let mut device = FileDevice::new(rt.alloc(), image, None, 8, 162);
     let done = write_four(&mut device, 0, 1) && write_four(&mut device, 4, 5);
     assert!(rt; done);
-    assert_eq!(rt; four_at(&mut device, 0), [Some(1), Some(2), Some(3), None]);
-    assert_eq!(rt; device.fault_count(), 1);
-    assert_eq!(rt;
-        four_at(&mut device, 4),
-        [Some(5), Some(6), Some(7), Some(8)]
+    same(
+        &rt,
+        four_at(&mut device, 0),
+        [Some(1), Some(2), Some(3), None],
     );
-    assert_eq!(rt; device.fault_count(), 1);
+    same(&rt, device.fault_count(), 1);
+    same(
+        &rt,
+        four_at(&mut device, 4),
+        [Some(5), Some(6), Some(7), Some(8)],
+    );
+    same(&rt, device.fault_count(), 1);
     assert!(rt; is_removed(&rt, "bad.image"));
     Ok(())
 }

@@ -1,6 +1,7 @@
 ghost use Rattle.std.specs.Prelude.{◌≡◌};
 ghost use Rattle.blk_cache.specs.Cache.{AgreesTold};
 
+use super::same::same;
 use blk_cache::{BlkCache, Memory};
 use blk_device::{Device, MemDevice, Region};
 use byte_fields::Block;
@@ -91,8 +92,8 @@ fn the_newest_written_block_wins(rt: HostRuntime) -> Result<(), Fail> {
     let written = write_byte(&mut cache, &mut device, 1, 20);
     let noted = byte_at(&mut cache, &mut device, 1);
     assert!(rt; written);
-    assert_eq!(rt; [read, noted], [Some(11), Some(20)]);
-    assert_eq!(rt; device.reads_at(1), 1);
+    same(&rt, [read, noted], [Some(11), Some(20)]);
+    same(&rt, device.reads_at(1), 1);
     Ok(())
 }
 
@@ -106,8 +107,8 @@ fn another_block_that_was_written_takes_the_one_place(rt: HostRuntime) -> Result
     let other = byte_at(&mut cache, &mut device, 2);
     let after = byte_at(&mut cache, &mut device, 0);
     assert!(rt; written);
-    assert_eq!(rt; [before, other, after], [Some(10), Some(22), Some(10)]);
-    assert_eq!(rt; [device.reads_at(0), device.reads_at(2)], [2, 0]);
+    same(&rt, [before, other, after], [Some(10), Some(22), Some(10)]);
+    same(&rt, [device.reads_at(0), device.reads_at(2)], [2, 0]);
     Ok(())
 }
 
@@ -121,11 +122,12 @@ fn a_read_that_fails_is_told_and_tried_again(rt: HostRuntime) -> Result<(), Fail
     let second = byte_at(&mut cache, &mut device, 1);
     let kept = byte_at(&mut cache, &mut device, 1);
     let third = byte_at(&mut cache, &mut device, 2);
-    assert_eq!(rt;
+    same(
+        &rt,
         [first, second, kept, third],
-        [None, Some(0), Some(0), None]
+        [None, Some(0), Some(0), None],
     );
-    assert_eq!(rt; device.fault_count(), 2);
+    same(&rt, device.fault_count(), 2);
     Ok(())
 }
 
@@ -140,6 +142,6 @@ fn a_cache_can_be_sent_to_another_thread(rt: HostRuntime) -> Result<(), Fail> {
     let alloc = rt.alloc();
     let mut device = three_blocks(alloc);
     let mut cache = sent(BlkCache::new(alloc, 1)?);
-    assert_eq!(rt; byte_at(&mut cache, &mut device, 2), Some(12));
+    same(&rt, byte_at(&mut cache, &mut device, 2), Some(12));
     Ok(())
 }

@@ -1,4 +1,5 @@
 use super::files::{empty_file, is_removed};
+use super::same::same;
 use blk_device::{
     Device, FileDevice, FuseDevice, MemDevice, MemSource, Region, Source, SourceFailed, Unsynced,
 };
@@ -39,8 +40,8 @@ fn a_new_device_reads_as_zeros(rt: HostRuntime) {
     let sizes = [device.size(Region::Image), device.size(Region::Redo)];
     let image = ends_at(&mut device, Region::Image, 4);
     let redo = ends_at(&mut device, Region::Redo, 2);
-    assert_eq!(rt; sizes, [5, 3]);
-    assert_eq!(rt; [image, redo], [Some((0, 0)), Some((0, 0))]);
+    same(&rt, sizes, [5, 3]);
+    same(&rt, [image, redo], [Some((0, 0)), Some((0, 0))]);
 }
 
 fn written(alloc: Global) -> MemDevice {
@@ -58,11 +59,12 @@ fn reads_of_an_image_block_are_counted(rt: HostRuntime) {
     let twice = ends_at(&mut device, Region::Image, 2);
     let redo = ends_at(&mut device, Region::Redo, 1);
     let blank = ends_at(&mut device, Region::Image, 1);
-    assert_eq!(rt;
+    same(
+        &rt,
         [once, twice, redo, blank],
-        [Some((7, 7)), Some((7, 7)), Some((8, 8)), Some((0, 0))]
+        [Some((7, 7)), Some((7, 7)), Some((8, 8)), Some((0, 0))],
     );
-    assert_eq!(rt; [device.reads_at(2), device.reads_at(1)], [2, 0]);
+    same(&rt, [device.reads_at(2), device.reads_at(1)], [2, 0]);
 }
 
 #[test]
@@ -72,8 +74,8 @@ fn a_written_image_is_handed_to_a_second_device(rt: HostRuntime) -> Result<(), F
     let mut second = MemDevice::with_image(alloc, 6, 2, blocks, Vec::new(alloc))?;
     let image = ends_at(&mut second, Region::Image, 2);
     let redo = ends_at(&mut second, Region::Redo, 1);
-    assert_eq!(rt; [image, redo], [Some((7, 7)), Some((0, 0))]);
-    assert_eq!(rt; second.reads_at(2), 1);
+    same(&rt, [image, redo], [Some((7, 7)), Some((0, 0))]);
+    same(&rt, second.reads_at(2), 1);
     Ok(())
 }
 
@@ -88,8 +90,12 @@ fn only_the_chosen_calls_fail(rt: HostRuntime) -> Result<(), Fail> {
     let fourth = ends_at(&mut device, Region::Image, 0);
     let fifth = sync_of(&mut device, Region::Image);
     let sixth = sync_of(&mut device, Region::Image);
-    assert_eq!(rt; [first, second, fifth, sixth], [true, false, false, true]);
-    assert_eq!(rt; [third, fourth], [Some((1, 1)), None]);
+    same(
+        &rt,
+        [first, second, fifth, sixth],
+        [true, false, false, true],
+    );
+    same(&rt, [third, fourth], [Some((1, 1)), None]);
     Ok(())
 }
 
@@ -102,14 +108,18 @@ fn a_fuse_passes_two_calls_and_fails_the_rest(rt: HostRuntime) -> Result<(), Fai
     let third = write_at(&mut fuse, Region::Image, 0, 2);
     let fourth = ends_at(&mut fuse, Region::Image, 0);
     let fifth = sync_of(&mut fuse, Region::Image);
-    assert_eq!(rt; [first, second, third, fifth], [true, true, false, false]);
-    assert_eq!(rt; fourth, None);
-    assert_eq!(rt; fuse.fault_count(), 3);
+    same(
+        &rt,
+        [first, second, third, fifth],
+        [true, true, false, false],
+    );
+    same(&rt, fourth, None);
+    same(&rt, fuse.fault_count(), 3);
     let mut device = fuse.into_inner();
-    assert_eq!(rt; ends_at(&mut device, Region::Image, 0), Some((1, 1)));
+    same(&rt, ends_at(&mut device, Region::Image, 0), Some((1, 1)));
     assert!(rt; !device.has_lost_doubt());
     let mut left = device.crash_by(alloc, &[Unsynced::Present])?;
-    assert_eq!(rt; ends_at(&mut left, Region::Image, 0), Some((2, 2)));
+    same(&rt, ends_at(&mut left, Region::Image, 0), Some((2, 2)));
     Ok(())
 }
 
@@ -146,21 +156,25 @@ fn kept_by(alloc: Global, keep: u64) -> Result<[Option<(u8, u8)>; 3], AllocError
 #[test]
 fn a_crash_keeps_the_writes_whose_bits_are_set(rt: HostRuntime) -> Result<(), Fail> {
     let alloc = rt.alloc();
-    assert_eq!(rt;
+    same(
+        &rt,
         kept_by(alloc, 0)?,
-        [Some((1, 1)), Some((0, 0)), Some((0, 0))]
+        [Some((1, 1)), Some((0, 0)), Some((0, 0))],
     );
-    assert_eq!(rt;
+    same(
+        &rt,
         kept_by(alloc, 1)?,
-        [Some((1, 1)), Some((2, 2)), Some((0, 0))]
+        [Some((1, 1)), Some((2, 2)), Some((0, 0))],
     );
-    assert_eq!(rt;
+    same(
+        &rt,
         kept_by(alloc, 2)?,
-        [Some((1, 1)), Some((0, 0)), Some((3, 3))]
+        [Some((1, 1)), Some((0, 0)), Some((3, 3))],
     );
-    assert_eq!(rt;
+    same(
+        &rt,
         kept_by(alloc, 7)?,
-        [Some((1, 1)), Some((2, 2)), Some((3, 3))]
+        [Some((1, 1)), Some((2, 2)), Some((3, 3))],
     );
     Ok(())
 }
@@ -170,13 +184,13 @@ fn a_source_gives_its_bytes_in_order(rt: HostRuntime) -> Result<(), Fail> {
     let alloc = rt.alloc();
     let mut source = MemSource::new(b"abcde".to_vec(alloc)?, [1u64].to_vec(alloc)?);
     let mut into = [0; 3];
-    assert_eq!(rt; source.take(&mut into), Ok(3));
-    assert_eq!(rt; into, *b"abc");
-    assert_eq!(rt; source.take(&mut into), Err(SourceFailed));
-    assert_eq!(rt; source.take(&mut into), Ok(2));
-    assert_eq!(rt; into, *b"dec");
-    assert_eq!(rt; source.take(&mut into), Ok(0));
-    assert_eq!(rt; source.fault_count(), 1);
+    same(&rt, source.take(&mut into), Ok(3));
+    same(&rt, into, *b"abc");
+    same(&rt, source.take(&mut into), Err(SourceFailed));
+    same(&rt, source.take(&mut into), Ok(2));
+    same(&rt, into, *b"dec");
+    same(&rt, source.take(&mut into), Ok(0));
+    same(&rt, source.fault_count(), 1);
     Ok(())
 }
 
@@ -187,10 +201,10 @@ fn a_crash_leaves_unsynced_writes_absent_present_or_torn(rt: HostRuntime) -> Res
     let present = left_by(alloc, &[Unsynced::Present])?;
     let torn = left_by(alloc, &[Unsynced::Torn])?;
     let mixed = left_by(alloc, &[Unsynced::Present, Unsynced::Torn])?;
-    assert_eq!(rt; absent, [Some((1, 1)), Some((0, 0)), Some((0, 0))]);
-    assert_eq!(rt; present, [Some((1, 1)), Some((2, 2)), Some((3, 3))]);
-    assert_eq!(rt; torn, [Some((1, 1)), Some((2, 0)), Some((3, 0))]);
-    assert_eq!(rt; mixed, [Some((1, 1)), Some((2, 2)), Some((3, 0))]);
+    same(&rt, absent, [Some((1, 1)), Some((0, 0)), Some((0, 0))]);
+    same(&rt, present, [Some((1, 1)), Some((2, 2)), Some((3, 3))]);
+    same(&rt, torn, [Some((1, 1)), Some((2, 0)), Some((3, 0))]);
+    same(&rt, mixed, [Some((1, 1)), Some((2, 2)), Some((3, 0))]);
     Ok(())
 }
 
@@ -217,14 +231,18 @@ fn files_keep_what_was_written(rt: HostRuntime) -> Result<(), Fail> {
     let beyond = ends_at(&mut device, Region::Image, 3);
     let first = ends_at(&mut device, Region::Redo, 0);
     assert!(rt; image_done && redo_done);
-    assert_eq!(rt; [last, beyond, first], [Some((9, 9)), None, Some((6, 6))]);
+    same(
+        &rt,
+        [last, beyond, first],
+        [Some((9, 9)), None, Some((6, 6))],
+    );
     let found = [
         byte_in(&rt, "blocks.image", 8191),
         byte_in(&rt, "blocks.image", 8192),
         byte_in(&rt, "blocks.redo", 0),
         byte_in(&rt, "blocks.redo", 4095),
     ];
-    assert_eq!(rt; found, [Some(0), Some(9), Some(6), Some(6)]);
+    same(&rt, found, [Some(0), Some(9), Some(6), Some(6)]);
     assert!(rt; is_removed(&rt, "blocks.image"));
     assert!(rt; is_removed(&rt, "blocks.redo"));
     Ok(())
@@ -246,12 +264,13 @@ fn a_file_is_read_and_written_in_any_order(rt: HostRuntime) -> Result<(), Fail> 
     let second = ends_at(&mut device, Region::Image, 1);
     let twice = ends_at(&mut device, Region::Image, 1);
     assert!(rt; done && is_changed);
-    assert_eq!(rt;
+    same(
+        &rt,
         [first, third, fourth],
-        [Some((1, 1)), Some((0, 0)), Some((4, 4))]
+        [Some((1, 1)), Some((0, 0)), Some((4, 4))],
     );
-    assert_eq!(rt; [beyond, again], [None, Some((4, 4))]);
-    assert_eq!(rt; [second, twice], [Some((7, 7)), Some((7, 7))]);
+    same(&rt, [beyond, again], [None, Some((4, 4))]);
+    same(&rt, [second, twice], [Some((7, 7)), Some((7, 7))]);
     assert!(rt; is_removed(&rt, "order.image"));
     Ok(())
 }
@@ -264,7 +283,7 @@ fn without_a_redo_file_the_region_is_zeros_in_memory(rt: HostRuntime) -> Result<
     let done = write_at(&mut device, Region::Redo, 161, 5) && sync_of(&mut device, Region::Redo);
     let after = ends_at(&mut device, Region::Redo, 161);
     assert!(rt; done);
-    assert_eq!(rt; [before, after], [Some((0, 0)), Some((5, 5))]);
+    same(&rt, [before, after], [Some((0, 0)), Some((5, 5))]);
     assert!(rt; is_removed(&rt, "alone.image"));
     Ok(())
 }

@@ -1,16 +1,17 @@
 ghost use Rattle.std.specs.Prelude.{◌≡◌, ◌+◌};
 
+use super::same::same;
 use byte_fields::{Block, Steps, crc32c, is_summed, plain_crc32c, put_sum, sum_at};
 use std::marker::Brand;
 use std::sync::ledger::{Blank, Ledger};
 
 #[test]
 fn checksums_of_known_texts(rt: HostRuntime) {
-    assert_eq!(rt; crc32c(b"123456789"), 0xe306_9283);
-    assert_eq!(rt; crc32c(b""), 0);
+    same(&rt, crc32c(b"123456789"), 0xe306_9283);
+    same(&rt, crc32c(b""), 0);
     // The 32 bytes of zeros and of ones of RFC 3720, appendix B.4.
-    assert_eq!(rt; crc32c(&[0; 32]), 0x8a91_36aa);
-    assert_eq!(rt; crc32c(&[0xff; 32]), 0x62a8_ab43);
+    same(&rt, crc32c(&[0; 32]), 0x8a91_36aa);
+    same(&rt, crc32c(&[0xff; 32]), 0x62a8_ab43);
 }
 
 #[test]
@@ -37,25 +38,25 @@ fn counted() -> Block {
 #[test]
 fn checksum_of_a_block(rt: HostRuntime) {
     let block = counted();
-    assert_eq!(rt; crc32c(&block.bytes), 0x7190_77fc);
-    assert_eq!(rt; plain_crc32c(&block.bytes), 0x7190_77fc);
+    same(&rt, crc32c(&block.bytes), 0x7190_77fc);
+    same(&rt, plain_crc32c(&block.bytes), 0x7190_77fc);
 }
 
 #[test]
 fn sum_leaves_its_own_bytes_out(rt: HostRuntime) {
     let mut block = counted();
     let sum = sum_at(&block.bytes, 52);
-    assert_eq!(rt; sum, 0xf38b_a71a);
+    same(&rt, sum, 0xf38b_a71a);
     put_sum(&mut block.bytes, 52, sum);
     assert!(rt; is_summed(&block.bytes, 52));
-    assert_eq!(rt; sum_at(&block.bytes, 52), sum);
+    same(&rt, sum_at(&block.bytes, 52), sum);
 }
 
 #[test]
 fn sum_is_stored_lowest_byte_first(rt: HostRuntime) {
     let mut bytes = [0xaa; 6];
     put_sum(&mut bytes, 1, 0xe306_9283);
-    assert_eq!(rt; bytes, [0xaa, 0x83, 0x92, 0x06, 0xe3, 0xaa]);
+    same(&rt, bytes, [0xaa, 0x83, 0x92, 0x06, 0xe3, 0xaa]);
 }
 
 // A copy of one block to another place, as a caller counts it.
@@ -90,5 +91,5 @@ fn uncounted<L: Ledger>(blank: Blank)
 #[test]
 fn caller_that_counts_nothing(rt: HostRuntime) {
     uncounted::<Brand>(Blank::new(3));
-    assert_eq!(rt; std::mem::size_of::<Steps<Brand>>(), 0);
+    same(&rt, std::mem::size_of::<Steps<Brand>>(), 0);
 }

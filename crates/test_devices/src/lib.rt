@@ -13,3 +13,5 @@ mod fields;
 mod files;
 #[cfg(test)]
 mod geometry;
+#[cfg(test)]
+mod same;

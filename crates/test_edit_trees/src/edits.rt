@@ -5,6 +5,7 @@ ghost use Rattle.blk_device.specs.declared.device.Region.TheVariants.{Image};
 ghost use Rattle.meta_txn.specs.Joined.{AreBelow};
 ghost use Rattle.sblock.specs.declared.kind.Kind.TheVariants.{Bno};
 
+use super::same::same;
 use crate::build::{LENGTH, REDO, device_of, free_list, three_groups, tree_of};
 use ag_headers::Agfl;
 use blk_cache::BlkCache;
@@ -241,13 +242,17 @@ fn seen_after(alloc: Global, records: u32, listed: u32, deed: Deed) -> Result<Se
 fn a_full_leaf_is_split_with_blocks_of_the_free_list(rt: HostRuntime) -> Result<(), Fail> {
     let alloc = rt.alloc();
     let short = seen_after(alloc, 505, 0, Deed::Put(1, 2))?;
-    assert_eq!(rt; short.answer, Err(EditFault::Short { have: 0, need: 2 }));
-    assert_eq!(rt; [short.root, short.levels, short.listed], [500, 1, 0]);
-    assert_eq!(rt; short.records, 505);
+    same(
+        &rt,
+        short.answer,
+        Err(EditFault::Short { have: 0, need: 2 }),
+    );
+    same(&rt, [short.root, short.levels, short.listed], [500, 1, 0]);
+    same(&rt, short.records, 505);
     let split = seen_after(alloc, 505, 5, Deed::Put(1, 2))?;
-    assert_eq!(rt; split.answer, Ok(0));
-    assert_eq!(rt; [split.root, split.levels, split.listed], [701, 2, 3]);
-    assert_eq!(rt; split.records, 506);
+    same(&rt, split.answer, Ok(0));
+    same(&rt, [split.root, split.levels, split.listed], [701, 2, 3]);
+    same(&rt, split.records, 506);
     Ok(())
 }
 
@@ -255,18 +260,18 @@ fn a_full_leaf_is_split_with_blocks_of_the_free_list(rt: HostRuntime) -> Result<
 fn two_leaves_are_joined_into_one(rt: HostRuntime) -> Result<(), Fail> {
     let alloc = rt.alloc();
     let joined = seen_after(alloc, 506, 119, Deed::Take(1000, 5))?;
-    assert_eq!(rt; joined.answer, Ok(2));
-    assert_eq!(rt; [joined.levels, joined.listed], [1, 119]);
-    assert_eq!(rt; joined.records, 505);
+    same(&rt, joined.answer, Ok(2));
+    same(&rt, [joined.levels, joined.listed], [1, 119]);
+    same(&rt, joined.records, 505);
     Ok(())
 }
 
 #[test]
 fn the_last_record_leaves_an_empty_root(rt: HostRuntime) -> Result<(), Fail> {
     let empty = seen_after(rt.alloc(), 1, 2, Deed::Take(1000, 5))?;
-    assert_eq!(rt; empty.answer, Ok(0));
-    assert_eq!(rt; [empty.root, empty.levels, empty.listed], [500, 1, 2]);
-    assert_eq!(rt; empty.records, 0);
+    same(&rt, empty.answer, Ok(0));
+    same(&rt, [empty.root, empty.levels, empty.listed], [500, 1, 2]);
+    same(&rt, empty.records, 0);
     Ok(())
 }
 
@@ -274,10 +279,10 @@ fn the_last_record_leaves_an_empty_root(rt: HostRuntime) -> Result<(), Fail> {
 fn what_does_not_fit_is_refused(rt: HostRuntime) -> Result<(), Fail> {
     let alloc = rt.alloc();
     let missing = seen_after(alloc, 2, 2, Deed::Take(1000, 4))?;
-    assert_eq!(rt; missing.answer, Err(EditFault::Missing));
-    assert_eq!(rt; missing.records, 2);
+    same(&rt, missing.answer, Err(EditFault::Missing));
+    same(&rt, missing.records, 2);
     let beside = seen_after(alloc, 2, 2, Deed::Put(1004, 1))?;
-    assert_eq!(rt; beside.answer, Err(EditFault::Overlap));
-    assert_eq!(rt; beside.records, 2);
+    same(&rt, beside.answer, Err(EditFault::Overlap));
+    same(&rt, beside.records, 2);
     Ok(())
 }

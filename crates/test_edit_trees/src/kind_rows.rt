@@ -1,6 +1,7 @@
 // Records of each kind put at the front, in the middle and at the end, and trees that change their
 // shape. A leaf of free space holds 505 records, of reverse mappings 168, of reference counts 336 and
 // of inodes 252 (XFS Algorithms and Data Structures, "Short Format B+trees").
+use super::same::same;
 use crate::kinds::{Sample, evens, list_of};
 use crate::play::{has_numbers, state_of, step};
 use ino_recs::{FinoKind, InoKind};
@@ -95,6 +96,6 @@ fn each_kind_changes_its_shape(rt: HostRuntime) -> Result<(), Fail> {
 #[test]
 fn a_third_level_grows(rt: HostRuntime) -> Result<(), Fail> {
     let grown = shape_after::<RmapKind>(rt.alloc(), 15_288, Edit::Insert)?;
-    assert_eq!(rt; grown, Some([3, 7]));
+    same(&rt, grown, Some([3, 7]));
     Ok(())
 }

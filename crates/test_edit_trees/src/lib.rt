@@ -14,6 +14,8 @@ mod play;
 #[cfg(test)]
 mod refusals;
 #[cfg(test)]
+mod same;
+#[cfg(test)]
 mod sequences;
 #[cfg(test)]
 mod shared_list;

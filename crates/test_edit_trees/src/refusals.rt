@@ -1,4 +1,5 @@
 // Edits that are refused, and what they leave: the tree, the list and limbo as they were.
+use super::same::same;
 use crate::kinds::{evens, list_of};
 use crate::play::{State, reads, state_of, step};
 use sblock::BlockFault;
@@ -38,7 +39,11 @@ fn free_space_refuses_what_does_not_fit(rt: HostRuntime) -> Result<(), Fail> {
         (Edit::Change, span(19, 14), EditFault::Overlap),
     ] {
         let mut state = state_of::<BnoKind>(alloc, &base, 4)?;
-        assert_eq!(rt; step::<BnoKind>(alloc, &mut state, how, rec), Err(fault));
+        same(
+            &rt,
+            step::<BnoKind>(alloc, &mut state, how, rec),
+            Err(fault),
+        );
         assert!(rt; is_as_before(&state, 500, 4) && reads::<BnoKind>(alloc, &mut state, &base));
     }
     Ok(())
@@ -53,9 +58,10 @@ fn a_changed_record_stands_in_the_place_of_its_key(rt: HostRuntime) -> Result<()
         (span(32, 1), [span(19, 5), span(32, 1)]),
     ] {
         let mut state = state_of::<BnoKind>(alloc, &base, 4)?;
-        assert_eq!(rt;
+        same(
+            &rt,
             step::<BnoKind>(alloc, &mut state, Edit::Change, rec),
-            Ok(())
+            Ok(()),
         );
         assert!(rt; reads::<BnoKind>(alloc, &mut state, &wanted));
     }
@@ -73,9 +79,10 @@ fn shared_blocks_are_counted_anew(rt: HostRuntime) -> Result<(), Fail> {
         (shared(41, 1, 2), Err(EditFault::Missing)),
     ] {
         let mut state = state_of::<RefcKind>(alloc, &base, 4)?;
-        assert_eq!(rt;
+        same(
+            &rt,
             step::<RefcKind>(alloc, &mut state, Edit::Change, rec),
-            answer
+            answer,
         );
         let kept = if answer.is_ok() { rec } else { base[0] };
         assert!(rt; reads::<RefcKind>(alloc, &mut state, &[kept, base[1]]));
@@ -98,7 +105,7 @@ fn a_bad_root_is_told_first(rt: HostRuntime) -> Result<(), Fail> {
         (Edit::Insert, span(19, 5)),
         (Edit::Change, span(20, 1)),
     ] {
-        assert_eq!(rt; step::<BnoKind>(alloc, &mut state, how, rec), Err(bad));
+        same(&rt, step::<BnoKind>(alloc, &mut state, how, rec), Err(bad));
         assert!(rt; is_as_before(&state, 501, 0));
     }
     Ok(())
@@ -126,9 +133,9 @@ fn answer_of(
 fn more_than_a_batch_is_refused(rt: HostRuntime) -> Result<(), Fail> {
     let alloc = rt.alloc();
     let large = (Err(EditFault::TooLarge(161)), true);
-    assert_eq!(rt; answer_of(alloc, 79_790, Edit::Insert, 1)?.0, Ok(()));
-    assert_eq!(rt; answer_of(alloc, 80_295, Edit::Insert, 1)?, large);
-    assert_eq!(rt; answer_of(alloc, 80_296, Edit::Remove, 2)?, large);
+    same(&rt, answer_of(alloc, 79_790, Edit::Insert, 1)?.0, Ok(()));
+    same(&rt, answer_of(alloc, 80_295, Edit::Insert, 1)?, large);
+    same(&rt, answer_of(alloc, 80_296, Edit::Remove, 2)?, large);
     Ok(())
 }
 
@@ -136,20 +143,23 @@ fn more_than_a_batch_is_refused(rt: HostRuntime) -> Result<(), Fail> {
 #[test]
 fn the_first_refusal_is_told(rt: HostRuntime) -> Result<(), Fail> {
     let alloc = rt.alloc();
-    assert_eq!(rt;
+    same(
+        &rt,
         answer_of(alloc, 80_296, Edit::Remove, 1)?,
-        (Err(EditFault::Missing), true)
+        (Err(EditFault::Missing), true),
     );
-    assert_eq!(rt;
+    same(
+        &rt,
         answer_of(alloc, 80_295, Edit::Insert, 2)?,
-        (Err(EditFault::Overlap), true)
+        (Err(EditFault::Overlap), true),
     );
     let base = list_of::<BnoKind>(alloc, &evens(alloc, 80_295)?)?;
     let mut state = state_of::<BnoKind>(alloc, &base, 0)?;
     let short = EditFault::Short { have: 0, need: 1 };
-    assert_eq!(rt;
+    same(
+        &rt,
         step::<BnoKind>(alloc, &mut state, Edit::Insert, span(4, 1)),
-        Err(short)
+        Err(short),
     );
     Ok(())
 }

@@ -6,6 +6,7 @@ ghost use Rattle.blk_device.specs.declared.device.Region.TheVariants.{Image};
 ghost use Rattle.meta_txn.specs.Joined.{AreBelow};
 ghost use Rattle.sblock.specs.declared.kind.Kind.TheVariants.{Bno, Cnt};
 
+use super::same::same;
 use crate::build::free_list;
 use crate::kinds::{evens, list_of};
 use crate::play::{apply, are_same, device_with, lay, records_of, tree_at, write};
@@ -146,17 +147,18 @@ fn after_both(
 #[test]
 fn two_trees_share_the_free_list(rt: HostRuntime) -> Result<(), Fail> {
     let alloc = rt.alloc();
-    assert_eq!(rt; after_both(alloc, 5)?, (Ok(()), [2, 2], [506, 506], 1));
-    assert_eq!(rt; after_both(alloc, 4)?, (Ok(()), [2, 2], [506, 506], 0));
+    same(&rt, after_both(alloc, 5)?, (Ok(()), [2, 2], [506, 506], 1));
+    same(&rt, after_both(alloc, 4)?, (Ok(()), [2, 2], [506, 506], 0));
     Ok(())
 }
 
 #[test]
 fn what_the_second_tree_lacks_leaves_the_first(rt: HostRuntime) -> Result<(), Fail> {
     let short = EditFault::Short { have: 1, need: 2 };
-    assert_eq!(rt;
+    same(
+        &rt,
         after_both(rt.alloc(), 3)?,
-        (Err(short), [2, 1], [506, 505], 1)
+        (Err(short), [2, 1], [506, 505], 1),
     );
     Ok(())
 }

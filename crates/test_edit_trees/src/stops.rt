@@ -1,4 +1,5 @@
 // A commit of an edit that stops after so many calls of the device, and a crash then.
+use super::same::same;
 use crate::build::free_list;
 use crate::kinds::{evens, list_of};
 use crate::play::{device_with, edit_in, lay, records_of, tree_at};
@@ -67,7 +68,7 @@ fn a_stopped_edit_leaves_the_tree_before_or_afterwards(rt: HostRuntime) -> Resul
     let mixed = [Unsynced::Present, Unsynced::Torn, Unsynced::Absent];
     for calls in 0..18u64 {
         let (stopped, is_done) = stopped_after(alloc, calls)?;
-        assert_eq!(rt; is_done, calls >= 16);
+        same(&rt, is_done, calls >= 16);
         for choices in [[Unsynced::Absent; 3], [Unsynced::Present; 3], mixed] {
             let left = left_by(alloc, &stopped, &choices)?;
             let is_old = !is_done && left == [Some(505), None];

@@ -1,4 +1,5 @@
 // Lists of records, edited.
+use super::same::same;
 use list_edit::{Edit, ListFault, edit_list};
 use rmap_recs::{RmapKind, RmapRec};
 use span_recs::{BnoKind, CntKind, RefcKind, RefcRec, SpanRec};
@@ -45,16 +46,16 @@ fn free_space_by_start_is_edited(rt: HostRuntime) -> Result<(), AllocError> {
         ),
     ] {
         let mut list = Vec::from_array(rt.alloc(), [span(19, 5), span(32, 224)])?;
-        assert_eq!(rt; edit_list::<BnoKind>(&mut list, how, &rec), Ok(()));
-        assert_eq!(rt; list.as_slice(), wanted.as_slice());
+        same(&rt, edit_list::<BnoKind>(&mut list, how, &rec), Ok(()));
+        same(&rt, list.as_slice(), wanted.as_slice());
     }
     for (how, rec, wanted) in [
         (Edit::Remove, span(19, 5), [span(32, 224)]),
         (Edit::Remove, span(32, 224), [span(19, 5)]),
     ] {
         let mut list = Vec::from_array(rt.alloc(), [span(19, 5), span(32, 224)])?;
-        assert_eq!(rt; edit_list::<BnoKind>(&mut list, how, &rec), Ok(()));
-        assert_eq!(rt; list.as_slice(), wanted.as_slice());
+        same(&rt, edit_list::<BnoKind>(&mut list, how, &rec), Ok(()));
+        same(&rt, list.as_slice(), wanted.as_slice());
     }
     Ok(())
 }
@@ -72,8 +73,12 @@ fn free_space_by_start_refuses(rt: HostRuntime) -> Result<(), AllocError> {
         (Edit::Change, span(19, 14), ListFault::Overlap),
     ] {
         let mut list = Vec::from_array(rt.alloc(), [span(19, 5), span(32, 224)])?;
-        assert_eq!(rt; edit_list::<BnoKind>(&mut list, how, &rec), Err(fault));
-        assert_eq!(rt; list.as_slice(), [span(19, 5), span(32, 224)].as_slice());
+        same(&rt, edit_list::<BnoKind>(&mut list, how, &rec), Err(fault));
+        same(
+            &rt,
+            list.as_slice(),
+            [span(19, 5), span(32, 224)].as_slice(),
+        );
     }
     Ok(())
 }
@@ -81,21 +86,25 @@ fn free_space_by_start_refuses(rt: HostRuntime) -> Result<(), AllocError> {
 #[test]
 fn free_space_by_count_stands_by_count(rt: HostRuntime) -> Result<(), AllocError> {
     let mut list = Vec::from_array(rt.alloc(), [span(19, 5), span(32, 224)])?;
-    assert_eq!(rt;
+    same(
+        &rt,
         edit_list::<CntKind>(&mut list, Edit::Insert, &span(1, 5)),
-        Ok(())
+        Ok(()),
     );
-    assert_eq!(rt;
+    same(
+        &rt,
         edit_list::<CntKind>(&mut list, Edit::Insert, &span(1, 6)),
-        Ok(())
+        Ok(()),
     );
-    assert_eq!(rt;
+    same(
+        &rt,
         list.as_slice(),
-        [span(1, 5), span(19, 5), span(1, 6), span(32, 224)].as_slice()
+        [span(1, 5), span(19, 5), span(1, 6), span(32, 224)].as_slice(),
     );
-    assert_eq!(rt;
+    same(
+        &rt,
         edit_list::<CntKind>(&mut list, Edit::Insert, &span(1, 5)),
-        Err(ListFault::Overlap)
+        Err(ListFault::Overlap),
     );
     Ok(())
 }
@@ -103,21 +112,25 @@ fn free_space_by_count_stands_by_count(rt: HostRuntime) -> Result<(), AllocError
 #[test]
 fn counts_change_in_place(rt: HostRuntime) -> Result<(), AllocError> {
     let mut list = Vec::from_array(rt.alloc(), [shared(40, 2, 2), shared(50, 4, 3)])?;
-    assert_eq!(rt;
+    same(
+        &rt,
         edit_list::<RefcKind>(&mut list, Edit::Change, &shared(40, 10, 3)),
-        Ok(())
+        Ok(()),
     );
-    assert_eq!(rt;
+    same(
+        &rt,
         list.as_slice(),
-        [shared(40, 10, 3), shared(50, 4, 3)].as_slice()
+        [shared(40, 10, 3), shared(50, 4, 3)].as_slice(),
     );
-    assert_eq!(rt;
+    same(
+        &rt,
         edit_list::<RefcKind>(&mut list, Edit::Change, &shared(40, 11, 3)),
-        Err(ListFault::Overlap)
+        Err(ListFault::Overlap),
     );
-    assert_eq!(rt;
+    same(
+        &rt,
         edit_list::<RefcKind>(&mut list, Edit::Remove, &shared(40, 10, 2)),
-        Err(ListFault::Missing)
+        Err(ListFault::Missing),
     );
     Ok(())
 }
@@ -125,22 +138,26 @@ fn counts_change_in_place(rt: HostRuntime) -> Result<(), AllocError> {
 #[test]
 fn mappings_of_one_block_stand_side_by_side(rt: HostRuntime) -> Result<(), AllocError> {
     let mut list = Vec::from_array(rt.alloc(), [owned(40, 1, 195, 0)])?;
-    assert_eq!(rt;
+    same(
+        &rt,
         edit_list::<RmapKind>(&mut list, Edit::Insert, &owned(40, 1, 195, 5)),
-        Ok(())
+        Ok(()),
     );
-    assert_eq!(rt;
+    same(
+        &rt,
         list.as_slice(),
-        [owned(40, 1, 195, 0), owned(40, 1, 195, 5)].as_slice()
+        [owned(40, 1, 195, 0), owned(40, 1, 195, 5)].as_slice(),
     );
-    assert_eq!(rt;
+    same(
+        &rt,
         edit_list::<RmapKind>(&mut list, Edit::Insert, &owned(40, 2, 195, 5)),
-        Err(ListFault::Overlap)
+        Err(ListFault::Overlap),
     );
-    assert_eq!(rt;
+    same(
+        &rt,
         edit_list::<RmapKind>(&mut list, Edit::Remove, &owned(40, 1, 195, 5)),
-        Ok(())
+        Ok(()),
     );
-    assert_eq!(rt; list.as_slice(), [owned(40, 1, 195, 0)].as_slice());
+    same(&rt, list.as_slice(), [owned(40, 1, 195, 0)].as_slice());
     Ok(())
 }

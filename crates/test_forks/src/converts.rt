@@ -1,3 +1,4 @@
+use super::same::same;
 use crate::maps::{two_groups, unwritten, written};
 use fork_change::{ForkChange, convert};
 use std::test::Fail;
@@ -8,12 +9,13 @@ fn a_whole_mapping_is_made_written(rt: HostRuntime) -> Result<(), Fail> {
     let geo = two_groups();
     let whole = unwritten(0, 40, 6);
     let mut list = Vec::from_slice(alloc, &[whole])?;
-    assert_eq!(rt;
+    same(
+        &rt,
         convert(alloc, &geo, &mut list, 6, 1, 9),
-        Err(ForkChange::Hole)
+        Err(ForkChange::Hole),
     );
-    assert_eq!(rt; convert(alloc, &geo, &mut list, 0, 1024, 1), Ok(whole));
-    assert_eq!(rt; list.as_slice(), [written(0, 40, 6)].as_slice());
+    same(&rt, convert(alloc, &geo, &mut list, 0, 1024, 1), Ok(whole));
+    same(&rt, list.as_slice(), [written(0, 40, 6)].as_slice());
     Ok(())
 }
 
@@ -23,14 +25,16 @@ fn the_front_of_a_mapping_is_made_written(rt: HostRuntime) -> Result<(), Fail> {
     let geo = two_groups();
     let mut list = Vec::from_slice(alloc, &[unwritten(0, 40, 6)])?;
     let front = unwritten(0, 40, 2);
-    assert_eq!(rt;
+    same(
+        &rt,
         convert(alloc, &geo, &mut list, 0, 2, 1),
-        Err(ForkChange::Full(2))
+        Err(ForkChange::Full(2)),
     );
-    assert_eq!(rt; convert(alloc, &geo, &mut list, 0, 2, 2), Ok(front));
-    assert_eq!(rt;
+    same(&rt, convert(alloc, &geo, &mut list, 0, 2, 2), Ok(front));
+    same(
+        &rt,
         list.as_slice(),
-        [written(0, 40, 2), unwritten(2, 42, 4)].as_slice()
+        [written(0, 40, 2), unwritten(2, 42, 4)].as_slice(),
     );
     Ok(())
 }
@@ -42,13 +46,14 @@ fn the_middle_of_a_mapping_is_made_written(rt: HostRuntime) -> Result<(), Fail> 
     let mut list = Vec::from_slice(alloc, &[unwritten(0, 40, 6)])?;
     let middle = unwritten(2, 42, 2);
     let parts = [unwritten(0, 40, 2), written(2, 42, 2), unwritten(4, 44, 2)];
-    assert_eq!(rt;
+    same(
+        &rt,
         convert(alloc, &geo, &mut list, 2, 2, 2),
-        Err(ForkChange::Full(3))
+        Err(ForkChange::Full(3)),
     );
-    assert_eq!(rt; list.as_slice(), [unwritten(0, 40, 6)].as_slice());
-    assert_eq!(rt; convert(alloc, &geo, &mut list, 2, 2, 3), Ok(middle));
-    assert_eq!(rt; list.as_slice(), parts.as_slice());
+    same(&rt, list.as_slice(), [unwritten(0, 40, 6)].as_slice());
+    same(&rt, convert(alloc, &geo, &mut list, 2, 2, 3), Ok(middle));
+    same(&rt, list.as_slice(), parts.as_slice());
     Ok(())
 }
 
@@ -58,10 +63,11 @@ fn the_end_of_a_mapping_is_made_written(rt: HostRuntime) -> Result<(), Fail> {
     let geo = two_groups();
     let mut list = Vec::from_slice(alloc, &[unwritten(0, 40, 2)])?;
     let end = unwritten(1, 41, 1);
-    assert_eq!(rt; convert(alloc, &geo, &mut list, 1, 5, 2), Ok(end));
-    assert_eq!(rt;
+    same(&rt, convert(alloc, &geo, &mut list, 1, 5, 2), Ok(end));
+    same(
+        &rt,
         list.as_slice(),
-        [unwritten(0, 40, 1), written(1, 41, 1)].as_slice()
+        [unwritten(0, 40, 1), written(1, 41, 1)].as_slice(),
     );
     Ok(())
 }
@@ -72,8 +78,8 @@ fn what_is_made_written_is_joined(rt: HostRuntime) -> Result<(), Fail> {
     let geo = two_groups();
     let between = unwritten(2, 42, 3);
     let mut list = Vec::from_slice(alloc, &[written(0, 40, 2), between, written(5, 45, 1)])?;
-    assert_eq!(rt; convert(alloc, &geo, &mut list, 2, 3, 1), Ok(between));
-    assert_eq!(rt; list.as_slice(), [written(0, 40, 6)].as_slice());
+    same(&rt, convert(alloc, &geo, &mut list, 2, 3, 1), Ok(between));
+    same(&rt, list.as_slice(), [written(0, 40, 6)].as_slice());
     Ok(())
 }
 
@@ -83,11 +89,12 @@ fn a_written_piece_changes_nothing(rt: HostRuntime) -> Result<(), Fail> {
     let geo = two_groups();
     let whole = written(0, 40, 6);
     let mut list = Vec::from_slice(alloc, &[whole])?;
-    assert_eq!(rt;
+    same(
+        &rt,
         convert(alloc, &geo, &mut list, 2, 2, 1),
-        Ok(written(2, 42, 2))
+        Ok(written(2, 42, 2)),
     );
-    assert_eq!(rt; list.as_slice(), [whole].as_slice());
+    same(&rt, list.as_slice(), [whole].as_slice());
     Ok(())
 }
 
@@ -98,12 +105,13 @@ fn the_greatest_offset_is_made_written(rt: HostRuntime) -> Result<(), Fail> {
     let first = 18_014_398_509_481_982;
     let last = 18_014_398_509_481_983;
     let mut list = Vec::from_slice(alloc, &[unwritten(first, 40, 2)])?;
-    assert_eq!(rt;
+    same(
+        &rt,
         convert(alloc, &geo, &mut list, last, 1, 2),
-        Ok(unwritten(last, 41, 1))
+        Ok(unwritten(last, 41, 1)),
     );
     let parts = [unwritten(first, 40, 1), written(last, 41, 1)];
-    assert_eq!(rt; list.as_slice(), parts.as_slice());
+    same(&rt, list.as_slice(), parts.as_slice());
     Ok(())
 }
 
@@ -114,8 +122,8 @@ fn what_is_made_written_stays_in_its_group(rt: HostRuntime) -> Result<(), Fail> 
     let lower = written(0, 4_194_299, 5);
     let upper = unwritten(5, 4_194_304, 3);
     let mut list = Vec::from_slice(alloc, &[lower, upper])?;
-    assert_eq!(rt; convert(alloc, &geo, &mut list, 5, 3, 2), Ok(upper));
+    same(&rt, convert(alloc, &geo, &mut list, 5, 3, 2), Ok(upper));
     let parts = [lower, written(5, 4_194_304, 3)];
-    assert_eq!(rt; list.as_slice(), parts.as_slice());
+    same(&rt, list.as_slice(), parts.as_slice());
     Ok(())
 }

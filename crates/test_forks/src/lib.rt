@@ -9,6 +9,8 @@ mod converts;
 #[cfg(test)]
 mod maps;
 #[cfg(test)]
+mod same;
+#[cfg(test)]
 mod stretches;
 #[cfg(test)]
 mod written;

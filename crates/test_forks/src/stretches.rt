@@ -1,3 +1,4 @@
+use super::same::same;
 use defer_chain::{Stretch, first_stretch};
 use span_recs::RefcRec;
 use std::test::Fail;
@@ -23,33 +24,38 @@ fn stretch(count: u32, owners: u32) -> Stretch {
 #[test]
 fn a_stretch_ends_with_its_record(rt: HostRuntime) -> Result<(), Fail> {
     let cap = 4_294_967_295;
-    assert_eq!(rt;
+    same(
+        &rt,
         first_stretch(100, 50, Some(CAPPED), Some(150)),
-        stretch(50, cap)
+        stretch(50, cap),
     );
-    assert_eq!(rt;
+    same(
+        &rt,
         first_stretch(100, 51, Some(CAPPED), Some(150)),
-        stretch(50, cap)
+        stretch(50, cap),
     );
-    assert_eq!(rt;
+    same(
+        &rt,
         first_stretch(120, 10, Some(CAPPED), None),
-        stretch(10, cap)
+        stretch(10, cap),
     );
-    assert_eq!(rt;
+    same(
+        &rt,
         first_stretch(149, 1024, Some(CAPPED), None),
-        stretch(1, cap)
+        stretch(1, cap),
     );
-    assert_eq!(rt;
+    same(
+        &rt,
         first_stretch(268_435_455, 1, Some(LAST), None),
-        stretch(1, 4_294_967_200)
+        stretch(1, 4_294_967_200),
     );
     Ok(())
 }
 
 #[test]
 fn a_stretch_that_no_record_counts_ends_at_the_next(rt: HostRuntime) -> Result<(), Fail> {
-    assert_eq!(rt; first_stretch(99, 1024, None, Some(100)), stretch(1, 1));
-    assert_eq!(rt; first_stretch(90, 10, None, Some(100)), stretch(10, 1));
-    assert_eq!(rt; first_stretch(150, 1024, None, None), stretch(1024, 1));
+    same(&rt, first_stretch(99, 1024, None, Some(100)), stretch(1, 1));
+    same(&rt, first_stretch(90, 10, None, Some(100)), stretch(10, 1));
+    same(&rt, first_stretch(150, 1024, None, None), stretch(1024, 1));
     Ok(())
 }

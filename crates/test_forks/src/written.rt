@@ -1,6 +1,7 @@
 // Lists that are written into an inode.
 ghost use Rattle.fork_change.specs.Lists.{AllFit};
 
+use super::same::same;
 use crate::maps::{two_groups, unwritten, written};
 use dinode_core::{Core3, Fork, Format, Mapping, fork_format, inline_fork};
 use fork_change::{ForkChange, put_list};
@@ -44,8 +45,8 @@ fn put(core: &mut Core3, list: &[Mapping]) -> Result<(), ForkChange>
 fn a_list_stands_packed_in_its_inode(rt: HostRuntime) -> Result<(), Fail> {
     let mut core = file(0, 0);
     let list = [written(0, 40, 1), unwritten(1, 50, 2)];
-    assert_eq!(rt; put(&mut core, &list), Ok(()));
-    assert_eq!(rt; core.nextents, 2);
+    same(&rt, put(&mut core, &list), Ok(()));
+    same(&rt, core.nextents, 2);
     let rows = [
         (0, 0),
         (12, 0x05),
@@ -67,12 +68,12 @@ fn a_list_stands_packed_in_its_inode(rt: HostRuntime) -> Result<(), Fail> {
 fn a_list_is_read_back(rt: HostRuntime) -> Result<(), Fail> {
     let mut core = file(0, 16);
     let list = [written(0, 40, 1), unwritten(1, 50, 2)];
-    assert_eq!(rt; put(&mut core, &list), Ok(()));
-    assert_eq!(rt; core.big_nextents, 2);
+    same(&rt, put(&mut core, &list), Ok(()));
+    same(&rt, core.big_nextents, 2);
     let geo = two_groups();
     match inline_fork(rt.alloc(), &core, Fork::Data, &geo) {
-        Ok(read) => assert_eq!(rt; read.as_slice(), list.as_slice()),
-        Err(fault) => assert_eq!(rt; Some(fault), None),
+        Ok(read) => same(&rt, read.as_slice(), list.as_slice()),
+        Err(fault) => same(&rt, Some(fault), None),
     }
     Ok(())
 }
@@ -81,13 +82,13 @@ fn a_list_is_read_back(rt: HostRuntime) -> Result<(), Fail> {
 fn a_list_needs_room_in_its_fork(rt: HostRuntime) -> Result<(), Fail> {
     let list = [written(0, 40, 1), unwritten(1, 50, 2)];
     let mut none = file(1, 0);
-    assert_eq!(rt; put(&mut none, &list), Err(ForkChange::Full(2)));
+    same(&rt, put(&mut none, &list), Err(ForkChange::Full(2)));
     let mut one = file(3, 0);
-    assert_eq!(rt; put(&mut one, &list), Err(ForkChange::Full(2)));
-    assert_eq!(rt; one, file(3, 0));
+    same(&rt, put(&mut one, &list), Err(ForkChange::Full(2)));
+    same(&rt, one, file(3, 0));
     let mut two = file(4, 0);
-    assert_eq!(rt; put(&mut two, &list), Ok(()));
-    assert_eq!(rt; put(&mut two, &[]), Ok(()));
-    assert_eq!(rt; two.nextents, 0);
+    same(&rt, put(&mut two, &list), Ok(()));
+    same(&rt, put(&mut two, &[]), Ok(()));
+    same(&rt, two.nextents, 0);
     Ok(())
 }

@@ -1,5 +1,6 @@
 ghost use Rattle.std.specs.Prelude.{◌≡◌};
 
+use super::same::same;
 use ag_headers::{Agfl, HeadFault, decode_agf, decode_agfl, decode_agi};
 use byte_fields::{Block, get_sum, put_sum, put_u32, sum_at};
 use geom::Geometry;
@@ -175,15 +176,15 @@ fn each_fault_is_that_of_one_head(rt: HostRuntime) -> Result<(), AllocError> {
         (64, 0x0102_0305, HeadFault::Uuid, "uuid"),
     ] {
         let block = mended(with(heads(), &[(512 + at, number)]));
-        assert_eq!(rt; agf_fault(&block), Some(fault));
-        assert_eq!(rt; agi_fault(&block), None);
-        assert_eq!(rt; agfl_fault(&block), None);
+        same(&rt, agf_fault(&block), Some(fault));
+        same(&rt, agi_fault(&block), None);
+        same(&rt, agfl_fault(&block), None);
         let shown = format!(in rt.alloc(); "{fault}")?;
-        assert_eq!(rt; shown.as_str(), word);
+        same(&rt, shown.as_str(), word);
     }
     let block = with(heads(), &[(1020, 1)]);
-    assert_eq!(rt; agf_fault(&block), Some(HeadFault::Checksum));
-    assert_eq!(rt; agi_fault(&block), None);
+    same(&rt, agf_fault(&block), Some(HeadFault::Checksum));
+    same(&rt, agi_fault(&block), None);
     Ok(())
 }
 
@@ -197,8 +198,8 @@ fn faults_of_an_agi_and_an_agfl(rt: HostRuntime) -> Result<(), AllocError> {
         (308, 0, HeadFault::Uuid),
     ] {
         let block = mended(with(heads(), &[(1024 + at, number)]));
-        assert_eq!(rt; agi_fault(&block), Some(fault));
-        assert_eq!(rt; agf_fault(&block), None);
+        same(&rt, agi_fault(&block), Some(fault));
+        same(&rt, agf_fault(&block), None);
     }
     for (at, number, fault) in [
         (0, 0x5841_4746, HeadFault::Magic),
@@ -207,14 +208,14 @@ fn faults_of_an_agi_and_an_agfl(rt: HostRuntime) -> Result<(), AllocError> {
         (44, 0, HeadFault::FreeList(2)),
     ] {
         let block = mended(with(heads(), &[(1536 + at, number)]));
-        assert_eq!(rt; agfl_fault(&block), Some(fault));
-        assert_eq!(rt; agf_fault(&block), None);
+        same(&rt, agfl_fault(&block), Some(fault));
+        same(&rt, agf_fault(&block), None);
     }
     let block = with(heads(), &[(1532, 1), (2044, 1)]);
-    assert_eq!(rt; agi_fault(&block), Some(HeadFault::Checksum));
-    assert_eq!(rt; agfl_fault(&block), Some(HeadFault::Checksum));
+    same(&rt, agi_fault(&block), Some(HeadFault::Checksum));
+    same(&rt, agfl_fault(&block), Some(HeadFault::Checksum));
     let shown = format!(in rt.alloc(); "{} {}", HeadFault::Checksum, HeadFault::FreeList(3))?;
-    assert_eq!(rt; shown.as_str(), "checksum freelist 3");
+    same(&rt, shown.as_str(), "checksum freelist 3");
     Ok(())
 }
 
@@ -244,7 +245,7 @@ fn the_free_list_and_its_ring(rt: HostRuntime) {
         (0, 10, 12, 0, 7, Some(119)),
     ] {
         let block = with_place(ring_of(first, last, count), place, number);
-        assert_eq!(rt; agfl_fault(&block), fault.map(HeadFault::FreeList));
+        same(&rt, agfl_fault(&block), fault.map(HeadFault::FreeList));
     }
 }
 
@@ -255,20 +256,20 @@ fn what_is_written_is_read_again(rt: HostRuntime) {
     let agf = decode_agf(&block, &geo, 0).expect(&rt, "the AGF is sound");
     let agi = decode_agi(&block, &geo, 0).expect(&rt, "the AGI is sound");
     let list = decode_agfl(&block, &geo, 0).expect(&rt, "the free list is sound");
-    assert_eq!(rt; (agf.rmap_root, agf.flcount, agf.longest), (5, 12, 224));
-    assert_eq!(rt; (agi.count, agi.newino, agi.fblocks), (64, 192, 1));
-    assert_eq!(rt; agi.unlinked[63], ONES);
-    assert_eq!(rt; (list.first(), list.last(), list.len()), (0, 11, 12));
+    same(&rt, (agf.rmap_root, agf.flcount, agf.longest), (5, 12, 224));
+    same(&rt, (agi.count, agi.newino, agi.fblocks), (64, 192, 1));
+    same(&rt, agi.unlinked[63], ONES);
+    same(&rt, (list.first(), list.last(), list.len()), (0, 11, 12));
 
     let mut copy = Block::zeroed();
     agf.encode(&mut copy);
     agi.encode(&mut copy);
     list.encode(&mut copy);
-    assert_eq!(rt; copy, block);
+    same(&rt, copy, block);
     // As another program summed the same bytes.
-    assert_eq!(rt; get_sum(&copy.bytes, 728), 0xb54c_56b1);
-    assert_eq!(rt; get_sum(&copy.bytes, 1336), 0x49d9_ea51);
-    assert_eq!(rt; get_sum(&copy.bytes, 1568), 0xb874_3d31);
+    same(&rt, get_sum(&copy.bytes, 728), 0xb54c_56b1);
+    same(&rt, get_sum(&copy.bytes, 1336), 0x49d9_ea51);
+    same(&rt, get_sum(&copy.bytes, 1568), 0xb874_3d31);
 }
 
 // Puts a block behind the last one, where there is room.
@@ -295,20 +296,24 @@ fn blocks_are_taken_in_front_and_put_behind(rt: HostRuntime) {
     let geo = geometry();
     let mut list = decode_agfl(&ring_of(117, 118, 2), &geo, 0).expect(&rt, "two entries");
     put(&mut list, 50);
-    assert_eq!(rt; ends(&list), (117, 0, 3));
-    assert_eq!(rt; (entry(&list, 1), entry(&list, 2)), (Some(125), Some(50)));
-    assert_eq!(rt; list.take_first(), Some(124));
-    assert_eq!(rt; list.take_first(), Some(125));
-    assert_eq!(rt; ends(&list), (0, 0, 1));
-    assert_eq!(rt; list.take_first(), Some(50));
-    assert_eq!(rt; list.take_first(), None);
-    assert_eq!(rt; ends(&list), (1, 0, 0));
+    same(&rt, ends(&list), (117, 0, 3));
+    same(
+        &rt,
+        (entry(&list, 1), entry(&list, 2)),
+        (Some(125), Some(50)),
+    );
+    same(&rt, list.take_first(), Some(124));
+    same(&rt, list.take_first(), Some(125));
+    same(&rt, ends(&list), (0, 0, 1));
+    same(&rt, list.take_first(), Some(50));
+    same(&rt, list.take_first(), None);
+    same(&rt, ends(&list), (1, 0, 0));
     put(&mut list, 60);
-    assert_eq!(rt; ends(&list), (1, 1, 1));
-    assert_eq!(rt; entry(&list, 0), Some(60));
+    same(&rt, ends(&list), (1, 1, 1));
+    same(&rt, entry(&list, 0), Some(60));
 
     // An empty list whose places say nothing of each other begins where the block is put.
     let mut list = decode_agfl(&ring_of(5, 77, 0), &geo, 0).expect(&rt, "no entry");
     put(&mut list, 60);
-    assert_eq!(rt; ends(&list), (78, 78, 1));
+    same(&rt, ends(&list), (78, 78, 1));
 }

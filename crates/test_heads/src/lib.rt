@@ -3,3 +3,5 @@
 
 #[cfg(test)]
 mod heads;
+#[cfg(test)]
+mod same;

@@ -1,3 +1,4 @@
+use super::same::same;
 use crate::shadows::{AG, edit, rec_of, runs_of};
 use rmap_recs::{Memory, RmapRec};
 use shadow_rmap::Shadow;
@@ -22,9 +23,10 @@ fn an_addition_joins_on_both_sides_across_another_owner(rt: HostRuntime) -> Resu
         (true, rec_of(4, 2, AG, 0)),
     ];
     let runs = edited(rt.alloc(), &rows)?;
-    assert_eq!(rt;
+    same(
+        &rt,
         runs.as_slice(),
-        [rec_of(0, 7, AG, 0), rec_of(1, 1, 133, 0)].as_slice()
+        [rec_of(0, 7, AG, 0), rec_of(1, 1, 133, 0)].as_slice(),
     );
     Ok(())
 }
@@ -37,14 +39,15 @@ fn a_run_is_cut_from_the_middle(rt: HostRuntime) -> Result<(), Fail> {
         (false, rec_of(41, 1, 195, 1)),
     ];
     let runs = edited(rt.alloc(), &rows)?;
-    assert_eq!(rt;
+    same(
+        &rt,
         runs.as_slice(),
         [
             rec_of(40, 1, 195, 0),
             rec_of(42, 2, 195, 2),
-            rec_of(50, 1, 196, 0)
+            rec_of(50, 1, 196, 0),
         ]
-        .as_slice()
+        .as_slice(),
     );
     Ok(())
 }
@@ -59,14 +62,15 @@ fn a_run_is_taken_whole_beside_files_that_share_it(rt: HostRuntime) -> Result<()
         (false, rec_of(41, 2, 196, 9)),
     ];
     let runs = edited(rt.alloc(), &rows)?;
-    assert_eq!(rt;
+    same(
+        &rt,
         runs.as_slice(),
         [
             rec_of(40, 1, 196, 8),
             rec_of(42, 1, 197, 3),
-            rec_of(43, 1, 196, 11)
+            rec_of(43, 1, 196, 11),
         ]
-        .as_slice()
+        .as_slice(),
     );
     Ok(())
 }
@@ -131,16 +135,17 @@ fn an_addition_over_two_runs_makes_one_and_a_removal_over_both_cuts_them(
         (true, rec_of(41, 4, 195, 1)),
     ];
     let runs = edited(rt.alloc(), &both)?;
-    assert_eq!(rt; runs.as_slice(), [rec_of(40, 6, 195, 0)].as_slice());
+    same(&rt, runs.as_slice(), [rec_of(40, 6, 195, 0)].as_slice());
     let cut = [
         (true, rec_of(40, 2, 195, 0)),
         (true, rec_of(44, 2, 195, 4)),
         (false, rec_of(41, 4, 195, 1)),
     ];
     let runs = edited(rt.alloc(), &cut)?;
-    assert_eq!(rt;
+    same(
+        &rt,
         runs.as_slice(),
-        [rec_of(40, 1, 195, 0), rec_of(45, 1, 195, 5)].as_slice()
+        [rec_of(40, 1, 195, 0), rec_of(45, 1, 195, 5)].as_slice(),
     );
     Ok(())
 }
@@ -152,9 +157,9 @@ fn room_is_kept_when_all_is_cleared(rt: HostRuntime) -> Result<(), Fail> {
     shadow.room(3)?;
     edit(&mut shadow, true, &rec_of(40, 4, 195, 0))?;
     shadow.clear();
-    assert_eq!(rt; shadow.next_run(None), None);
+    same(&rt, shadow.next_run(None), None);
     edit(&mut shadow, true, &rec_of(41, 1, 195, 9))?;
-    assert_eq!(rt; shadow.next_run(None), Some(rec_of(41, 1, 195, 9)));
-    assert_eq!(rt; shadow.group(), 7);
+    same(&rt, shadow.next_run(None), Some(rec_of(41, 1, 195, 9)));
+    same(&rt, shadow.group(), 7);
     Ok(())
 }

@@ -1,6 +1,7 @@
 // The inodes that a scan of a new image comes to.
 ghost use Rattle.std.specs.Prelude.{◌≡◌};
 
+use super::same::same;
 use blk_cache::BlkCache;
 use blk_device::{Device, MemDevice, Region};
 use byte_fields::{Block, Steps};
@@ -71,7 +72,7 @@ fn a_scan_comes_to_the_three_inodes_of_a_new_image(rt: HostRuntime) -> Result<()
     for (at, wanted) in rows {
         assert_eq!(rt; next(rt.alloc(), at), Ok(wanted), "above {at}");
     }
-    assert_eq!(rt; Cursor { at: 193 }.visited(193), true);
-    assert_eq!(rt; Cursor { at: 193 }.visited(194), false);
+    same(&rt, Cursor { at: 193 }.visited(193), true);
+    same(&rt, Cursor { at: 193 }.visited(194), false);
     Ok(())
 }

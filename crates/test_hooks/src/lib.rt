@@ -10,6 +10,8 @@ mod inodes;
 #[cfg(test)]
 mod random;
 #[cfg(test)]
+mod same;
+#[cfg(test)]
 mod scans;
 #[cfg(test)]
 mod shadows;

@@ -1,4 +1,5 @@
 // Scans beside writers, call by call.
+use super::same::same;
 use crate::counting::Counts;
 use crate::shadows::{has_room, rec_of, runs_of};
 use live_hooks::{GroupRec, Listener, tell_delta, tell_inode, tell_last, tell_piece};
@@ -57,11 +58,11 @@ fn scan<L: Listener>(listener: &mut L) -> Result<(), Memory> {
 #[test]
 fn a_scan_of_inodes_without_blocks_leaves_the_shadow_empty(rt: HostRuntime) -> Result<(), Fail> {
     let mut shadow = Shadow::new(rt.alloc(), 0)?;
-    assert_eq!(rt; shadow.next_run(None), None);
+    same(&rt, shadow.next_run(None), None);
     tell_last::<Shadow>(&mut shadow, 192, UID)?;
     tell_last::<Shadow>(&mut shadow, 193, UID)?;
     tell_last::<Shadow>(&mut shadow, 194, UID)?;
-    assert_eq!(rt; shadow.next_run(None), None);
+    same(&rt, shadow.next_run(None), None);
     Ok(())
 }
 
@@ -71,14 +72,15 @@ fn a_shadow_hears_of_its_group_and_of_visited_inodes(rt: HostRuntime) -> Result<
     let mut shadow = Shadow::new(alloc, 0)?;
     scan::<Shadow>(&mut shadow)?;
     let runs = runs_of(alloc, &shadow)?;
-    assert_eq!(rt;
+    same(
+        &rt,
         runs.as_slice(),
         [
             rec_of(40, 1, 195, 0),
             rec_of(42, 1, 195, 2),
-            rec_of(50, 2, 100, 0)
+            rec_of(50, 2, 100, 0),
         ]
-        .as_slice()
+        .as_slice(),
     );
     Ok(())
 }
@@ -90,30 +92,33 @@ fn a_counting_listener_hears_of_all_groups(rt: HostRuntime) -> Result<(), Fail> 
         blocks: 0,
     };
     scan::<Counts>(&mut counts)?;
-    assert_eq!(rt;
+    same(
+        &rt,
         counts,
         Counts {
             inodes: 5,
-            blocks: 5
-        }
+            blocks: 5,
+        },
     );
     // 100 loses its blocks and is given back, as the scan goes on.
     finish::<Counts>(&mut counts, 195, 0, rec_of(50, 2, 100, 0), false)?;
     tell_inode::<Counts>(&mut counts, 195, 100, UID, false)?;
-    assert_eq!(rt;
+    same(
+        &rt,
         counts,
         Counts {
             inodes: 4,
-            blocks: 3
-        }
+            blocks: 3,
+        },
     );
     counts.clear();
-    assert_eq!(rt;
+    same(
+        &rt,
         counts,
         Counts {
             inodes: 0,
-            blocks: 0
-        }
+            blocks: 0,
+        },
     );
     Ok(())
 }

@@ -1,3 +1,4 @@
+use super::same::same;
 use crate::pieces::geometry;
 use byte_fields::{put_sum, put_u16, put_u32, put_u64, sum_at};
 use dinode_core::{
@@ -61,10 +62,10 @@ fn whole_inode() -> [u8; 512] {
 #[test]
 fn fields_stand_in_their_places(rt: HostRuntime) {
     let bytes = whole_inode();
-    assert_eq!(rt; decode_core(&bytes, 195, &UUID), Ok(CORE));
+    same(&rt, decode_core(&bytes, 195, &UUID), Ok(CORE));
     let mut written = [0xaa; 512];
     encode_core(&CORE, &mut written);
-    assert_eq!(rt; written, bytes);
+    same(&rt, written, bytes);
 }
 
 // Which fault an inode has with a byte changed, and the sum made right again or not.
@@ -93,10 +94,10 @@ fn each_core_fault_has_an_inode_and_a_word(rt: HostRuntime) -> Result<(), AllocE
     ] {
         assert_eq!(rt; fault_with(at, value, mend), Some(fault), "at {at}");
         let shown = format!(in rt.alloc(); "{fault}")?;
-        assert_eq!(rt; shown.as_str(), word);
+        same(&rt, shown.as_str(), word);
     }
     // A byte that no field has, and the sum after it.
-    assert_eq!(rt; fault_with(6, 0, true), None);
+    same(&rt, fault_with(6, 0, true), None);
     Ok(())
 }
 
@@ -109,8 +110,8 @@ fn packed_mappings(rt: HostRuntime) {
         unwritten: false,
     };
     let packed = [0, 0, 0, 0, 0, 0, 0x0a, 0, 0, 0, 0, 0, 5, 0, 0, 1];
-    assert_eq!(rt; pack(&written), packed);
-    assert_eq!(rt; unpack(&packed), written);
+    same(&rt, pack(&written), packed);
+    same(&rt, unpack(&packed), written);
     let unwritten = Mapping {
         offset: 5,
         block: 40,
@@ -118,20 +119,20 @@ fn packed_mappings(rt: HostRuntime) {
         unwritten: true,
     };
     let packed = [0x80, 0, 0, 0, 0, 0, 0x0a, 0, 0, 0, 0, 0, 5, 0, 0, 1];
-    assert_eq!(rt; pack(&unwritten), packed);
-    assert_eq!(rt; unpack(&packed), unwritten);
+    same(&rt, pack(&unwritten), packed);
+    same(&rt, unpack(&packed), unwritten);
     let most = Mapping {
         offset: (1 << 54) - 1,
         block: (1 << 52) - 1,
         count: (1 << 21) - 1,
         unwritten: true,
     };
-    assert_eq!(rt; pack(&most), [0xff; 16]);
-    assert_eq!(rt; unpack(&[0xff; 16]), most);
+    same(&rt, pack(&most), [0xff; 16]);
+    same(&rt, unpack(&[0xff; 16]), most);
     let mut three = [0; 48];
     three[16..32].copy_from_slice(&packed);
-    assert_eq!(rt; mapping_at(&three, 1), unwritten);
-    assert_eq!(rt; mapping_at(&three, 2).count, 0);
+    same(&rt, mapping_at(&three, 1), unwritten);
+    same(&rt, mapping_at(&three, 2).count, 0);
 }
 
 fn fault_of(alloc: Global, core: &Core3, fork: Fork) -> Option<ForkError> {
@@ -196,16 +197,16 @@ fn large_counts_are_other_fields(rt: HostRuntime) {
     core.big_nextents = 11;
     core.nextents = 0;
     core.anextents = 11;
-    assert_eq!(rt; mapping_count(&core, Fork::Data), 11);
-    assert_eq!(rt; mapping_count(&core, Fork::Attr), 0);
-    assert_eq!(rt; fork_room(&core, Fork::Data), 10);
-    assert_eq!(rt; fork_size(&core, Fork::Attr), 168);
-    assert_eq!(rt; fault_of(rt.alloc(), &core, Fork::Data), count);
-    assert_eq!(rt; fault_of(rt.alloc(), &core, Fork::Attr), None);
+    same(&rt, mapping_count(&core, Fork::Data), 11);
+    same(&rt, mapping_count(&core, Fork::Attr), 0);
+    same(&rt, fork_room(&core, Fork::Data), 10);
+    same(&rt, fork_size(&core, Fork::Attr), 168);
+    same(&rt, fault_of(rt.alloc(), &core, Fork::Data), count);
+    same(&rt, fault_of(rt.alloc(), &core, Fork::Attr), None);
     core.big_nextents = 0;
     core.nextents = 11;
-    assert_eq!(rt; fault_of(rt.alloc(), &core, Fork::Data), None);
-    assert_eq!(rt; fault_of(rt.alloc(), &core, Fork::Attr), count);
+    same(&rt, fault_of(rt.alloc(), &core, Fork::Data), None);
+    same(&rt, fault_of(rt.alloc(), &core, Fork::Attr), count);
 }
 
 #[test]
@@ -311,10 +312,10 @@ fn mappings_are_read_in_order(rt: HostRuntime) -> Result<(), ForkError> {
     second.unwritten = true;
     let core = with_two(&first, &second);
     let data = inline_fork(rt.alloc(), &core, Fork::Data, &geometry())?;
-    assert_eq!(rt; data.as_slice(), [first, second].as_slice());
+    same(&rt, data.as_slice(), [first, second].as_slice());
     // Unwritten blocks are allowed in the data fork alone.
     let range = Some(ForkError::Fault(ForkFault::Range));
-    assert_eq!(rt; fault_of(rt.alloc(), &core, Fork::Attr), range);
+    same(&rt, fault_of(rt.alloc(), &core, Fork::Attr), range);
     assert!(rt; !is_in_btree(&core, Fork::Data));
     inline_is_whole(&core, Fork::Data, &geometry());
     Ok(())
@@ -331,9 +332,9 @@ fn faults_of_forks_have_words(rt: HostRuntime) -> Result<(), AllocError> {
         (ForkFault::Block, "block"),
     ] {
         let shown = format!(in rt.alloc(); "{fault}")?;
-        assert_eq!(rt; shown.as_str(), word);
+        same(&rt, shown.as_str(), word);
         let shown = format!(in rt.alloc(); "{}", ForkError::Fault(fault))?;
-        assert_eq!(rt; shown.as_str(), word);
+        same(&rt, shown.as_str(), word);
     }
     Ok(())
 }

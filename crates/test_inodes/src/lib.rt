@@ -5,3 +5,5 @@
 mod inodes;
 #[cfg(test)]
 mod pieces;
+#[cfg(test)]
+mod same;

@@ -1,6 +1,7 @@
 // Pieces of forks whose btrees are laid out by hand.
 ghost use Rattle.std.specs.Prelude.{◌≡◌, ◌≤◌};
 
+use super::same::same;
 use blk_cache::BlkCache;
 use blk_device::{Device, MemDevice, Region};
 use byte_fields::{Block, Steps, put_sum, put_u16, put_u32, put_u64, sum_at};
@@ -312,7 +313,7 @@ fn bad_blocks_have_their_faults(rt: HostRuntime) -> Result<(), Fail> {
                 second,
             )?;
             let found = piece_at(alloc, device, fork, from).err();
-            assert_eq!(rt; found, Some(ReadFault::Fork(fault)));
+            same(&rt, found, Some(ReadFault::Fork(fault)));
         }
     }
     Ok(())
@@ -347,7 +348,7 @@ fn bad_mappings_have_their_faults(rt: HostRuntime) -> Result<(), Fail> {
                 (count, NONE, 30),
             )?;
             let found = piece_at(alloc, device, fork, 0).err();
-            assert_eq!(rt; found, Some(ReadFault::Fork(fault)));
+            same(&rt, found, Some(ReadFault::Fork(fault)));
         }
     }
     Ok(())
@@ -368,10 +369,10 @@ fn unwritten_mappings_are_for_data(rt: HostRuntime) -> Result<(), Fail> {
         )?;
         match piece_at(alloc, device, fork, 0) {
             Ok(piece) => {
-                assert_eq!(rt; fault, None);
+                same(&rt, fault, None);
                 assert!(rt; piece.mappings.iter().any(|m| m.unwritten));
             }
-            Err(found) => assert_eq!(rt; Some(found), fault),
+            Err(found) => same(&rt, Some(found), fault),
         }
     }
     Ok(())
@@ -401,11 +402,11 @@ fn btrees_have_one_to_three_levels(rt: HostRuntime) -> Result<(), Fail> {
             (1, 261, 1, 261),
         ] {
             let piece = piece_at(alloc, chain(alloc, fork, levels, to)?, fork, 0)?;
-            assert_eq!(rt; piece.mappings.len(), 12);
-            assert_eq!(rt; piece.tree_blocks.len(), count);
-            assert_eq!(rt; piece.tree_blocks.last().copied(), Some(last));
-            assert_eq!(rt; piece.tree_blocks.first().copied(), Some(to));
-            assert_eq!(rt; piece.next, None);
+            same(&rt, piece.mappings.len(), 12);
+            same(&rt, piece.tree_blocks.len(), count);
+            same(&rt, piece.tree_blocks.last().copied(), Some(last));
+            same(&rt, piece.tree_blocks.first().copied(), Some(to));
+            same(&rt, piece.next, None);
         }
     }
     Ok(())
@@ -431,7 +432,7 @@ fn cycles_are_bad_blocks(rt: HostRuntime) -> Result<(), Fail> {
             node(2, count, 42, first, second),
         )?;
         let found = piece_at(alloc, device, Fork::Data, 0).err();
-        assert_eq!(rt; found, Some(ReadFault::Fork(ForkFault::Block)));
+        same(&rt, found, Some(ReadFault::Fork(ForkFault::Block)));
     }
     Ok(())
 }
@@ -456,8 +457,8 @@ fn sums_of(alloc: Global, fork: Fork) -> Result<(usize, usize), Fail> {
 #[test]
 fn pieces_are_in_sum_the_fork(rt: HostRuntime) -> Result<(), Fail> {
     let alloc = rt.alloc();
-    assert_eq!(rt; sums_of(alloc, Fork::Data)?, (503, 3));
-    assert_eq!(rt; sums_of(alloc, Fork::Attr)?, (503, 3));
+    same(&rt, sums_of(alloc, Fork::Data)?, (503, 3));
+    same(&rt, sums_of(alloc, Fork::Attr)?, (503, 3));
     Ok(())
 }
 
@@ -474,7 +475,7 @@ fn keys_that_fall_are_found_behind(rt: HostRuntime) -> Result<(), Fail> {
             leaf(count, 41, NONE, 42, 502),
         )?;
         let found = piece_at(alloc, device, Fork::Data, 0).err();
-        assert_eq!(rt; found, Some(ReadFault::Fork(fault)));
+        same(&rt, found, Some(ReadFault::Fork(fault)));
     }
     Ok(())
 }

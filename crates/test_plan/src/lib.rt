@@ -16,4 +16,6 @@ mod random;
 #[cfg(test)]
 mod runs;
 #[cfg(test)]
+mod same;
+#[cfg(test)]
 mod spare;

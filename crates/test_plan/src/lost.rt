@@ -1,6 +1,7 @@
 ghost use Rattle.std.specs.Prelude.{◌≡◌, ◌+◌, ◌≤◌, [], ◌∷◌, ◌++◌, IfOk, OnOk};
 ghost use Rattle.unit_plan.specs.Sets.{LieBelow, pieces_of};
 
+use super::same::same;
 use fs_model::{Claim, Unit};
 use rmap_recs::RmapRec;
 use run_sets::Run;
@@ -61,7 +62,7 @@ fn what_nobody_lists_is_lost(rt: HostRuntime) -> Result<(), Fail> {
         },
     ];
     let lost = set.lost_unlisted(alloc, 32, &free)?;
-    assert_eq!(rt; lost.as_slice(), [run(3, 4), run(24, 4)].as_slice());
+    same(&rt, lost.as_slice(), [run(3, 4), run(24, 4)].as_slice());
     Ok(())
 }
 
@@ -84,9 +85,9 @@ fn what_nobody_claims_of_an_owner_is_lost(rt: HostRuntime) -> Result<(), Fail> {
         },
     ];
     let space = set.lost_unclaimed(alloc, Unit::Free, 32, AG, &owned)?;
-    assert_eq!(rt; space.as_slice(), [run(1, 4), run(6, 1)].as_slice());
+    same(&rt, space.as_slice(), [run(1, 4), run(6, 1)].as_slice());
     let counts = set.lost_unclaimed(alloc, Unit::Refc, 32, REFC, &owned)?;
-    assert_eq!(rt; counts.as_slice(), [run(24, 2)].as_slice());
+    same(&rt, counts.as_slice(), [run(24, 2)].as_slice());
     Ok(())
 }
 
@@ -99,12 +100,12 @@ fn the_old_inode_btrees_that_could_be_read_are_lost(rt: HostRuntime) -> Result<(
     claim(&mut set, Claim::Tree(Kind::Ino), 22, 1)?;
     claim(&mut set, Claim::Tree(Kind::Fino), 21, 1)?;
     let both = set.lost_trees(alloc, 32, true, true)?;
-    assert_eq!(rt; both.as_slice(), [run(4, 1), run(20, 3)].as_slice());
+    same(&rt, both.as_slice(), [run(4, 1), run(20, 3)].as_slice());
     let first = set.lost_trees(alloc, 32, true, false)?;
-    assert_eq!(rt; first.as_slice(), [run(20, 1), run(22, 1)].as_slice());
+    same(&rt, first.as_slice(), [run(20, 1), run(22, 1)].as_slice());
     let second = set.lost_trees(alloc, 32, false, true)?;
-    assert_eq!(rt; second.as_slice(), [run(4, 1), run(21, 1)].as_slice());
+    same(&rt, second.as_slice(), [run(4, 1), run(21, 1)].as_slice());
     let none = set.lost_trees(alloc, 32, false, false)?;
-    assert_eq!(rt; none.as_slice().len(), 0);
+    same(&rt, none.as_slice().len(), 0);
     Ok(())
 }

@@ -1,3 +1,4 @@
+use super::same::same;
 use crate::pieces::piece;
 use fs_model::{Claim, Evidence, Unit};
 use std::test::Fail;
@@ -19,7 +20,7 @@ fn the_need_is_a_sum_of_shapes(rt: HostRuntime) -> Result<(), Fail> {
         (Unit::Free, 0, 0, 2),
     ];
     for (unit, first, second, wanted) in rows {
-        assert_eq!(rt; need(unit, first, second), wanted);
+        same(&rt, need(unit, first, second), wanted);
     }
     Ok(())
 }
@@ -29,13 +30,14 @@ fn a_file_on_the_heads_is_an_overlap(rt: HostRuntime) -> Result<(), Fail> {
     let mut set = ClaimSet::new(rt.alloc());
     set.put(piece(Claim::Data(195), 0, 1))?;
     set.put(piece(Claim::Heads, 0, 1))?;
-    assert_eq!(rt;
+    same(
+        &rt,
         set.first_overlap(Among::All),
         Some(Evidence::Overlap {
             block: 0,
             first: Claim::Heads,
-            second: Claim::Data(195)
-        })
+            second: Claim::Data(195),
+        }),
     );
     Ok(())
 }

@@ -1,3 +1,4 @@
+use super::same::same;
 use crate::pieces::{piece, unwritten};
 use fs_model::{Claim, Evidence};
 use sblock::Kind;
@@ -50,8 +51,8 @@ fn claims_that_can_stand_together_are_no_overlap(rt: HostRuntime) -> Result<(), 
         [].as_slice(),
     ];
     for row in rows {
-        assert_eq!(rt; forwards(alloc, row, Among::All)?, None);
-        assert_eq!(rt; backwards(alloc, row, Among::All)?, None);
+        same(&rt, forwards(alloc, row, Among::All)?, None);
+        same(&rt, backwards(alloc, row, Among::All)?, None);
     }
     Ok(())
 }
@@ -124,8 +125,8 @@ fn the_lowest_block_is_shown_with_its_first_two_claims(rt: HostRuntime) -> Resul
         ),
     ];
     for (row, wanted) in rows {
-        assert_eq!(rt; forwards(alloc, row, Among::All)?, wanted);
-        assert_eq!(rt; backwards(alloc, row, Among::All)?, wanted);
+        same(&rt, forwards(alloc, row, Among::All)?, wanted);
+        same(&rt, backwards(alloc, row, Among::All)?, wanted);
     }
     Ok(())
 }
@@ -139,17 +140,22 @@ fn metadata_is_asked_without_the_forks(rt: HostRuntime) -> Result<(), Fail> {
         piece(Claim::Attr(2), 15, 1),
     ];
     let wanted = overlap(8, Claim::Chunk, Claim::Data(1));
-    assert_eq!(rt; forwards(alloc, mixed.as_slice(), Among::All)?, wanted);
-    assert_eq!(rt; forwards(alloc, mixed.as_slice(), Among::Metadata)?, None);
+    same(&rt, forwards(alloc, mixed.as_slice(), Among::All)?, wanted);
+    same(
+        &rt,
+        forwards(alloc, mixed.as_slice(), Among::Metadata)?,
+        None,
+    );
     let metadata = [
         piece(Claim::Data(1), 5, 9),
         piece(Claim::Limbo, 8, 8),
         piece(Claim::Log, 15, 1),
     ];
     let wanted = overlap(15, Claim::Log, Claim::Limbo);
-    assert_eq!(rt;
+    same(
+        &rt,
         backwards(alloc, metadata.as_slice(), Among::Metadata)?,
-        wanted
+        wanted,
     );
     Ok(())
 }

@@ -1,3 +1,4 @@
+use super::same::same;
 use crate::pieces::{piece, unwritten};
 use fs_model::{Claim, Evidence};
 use sblock::Kind;
@@ -56,9 +57,9 @@ fn each_pair_of_sorts_crosses(rt: HostRuntime) -> Result<(), Fail> {
         for j in i..17usize {
             let (first, second) = (SORTS[i], SORTS[j]);
             let found = overlap_of(alloc, piece(first, 8, 3), piece(second, 10, 4))?;
-            assert_eq!(rt; found, wanted(10, first, second));
+            same(&rt, found, wanted(10, first, second));
             let found = overlap_of(alloc, piece(first, 10, 4), piece(second, 8, 3))?;
-            assert_eq!(rt; found, wanted(10, first, second));
+            same(&rt, found, wanted(10, first, second));
         }
     }
     Ok(())
@@ -71,9 +72,9 @@ fn each_pair_of_sorts_nests_or_is_the_same(rt: HostRuntime) -> Result<(), Fail> 
         for j in i..17usize {
             let (first, second) = (SORTS[i], SORTS[j]);
             let found = overlap_of(alloc, piece(first, 8, 9), piece(second, 11, 2))?;
-            assert_eq!(rt; found, wanted(11, first, second));
+            same(&rt, found, wanted(11, first, second));
             let found = overlap_of(alloc, piece(first, 9, 2), piece(second, 9, 2))?;
-            assert_eq!(rt; found, wanted(9, first, second));
+            same(&rt, found, wanted(9, first, second));
         }
     }
     Ok(())
@@ -85,7 +86,7 @@ fn each_pair_of_sorts_touches(rt: HostRuntime) -> Result<(), Fail> {
     for i in 0..17usize {
         for j in 0..17usize {
             let found = overlap_of(alloc, piece(SORTS[i], 8, 3), piece(SORTS[j], 11, 1))?;
-            assert_eq!(rt; found, None);
+            same(&rt, found, None);
         }
     }
     Ok(())
@@ -98,18 +99,19 @@ fn written_data_of_three_files_is_shared(rt: HostRuntime) -> Result<(), Fail> {
     for ino in [7, 5, 9] {
         set.put(piece(Claim::Data(ino), 40, 3))?;
     }
-    assert_eq!(rt; set.first_overlap(Among::All), None);
+    same(&rt, set.first_overlap(Among::All), None);
     set.put(unwritten(8, 42, 1))?;
     let first = Claim::Data(5);
     let second = Claim::Data(7);
     let block = 42;
-    assert_eq!(rt;
+    same(
+        &rt,
         set.first_overlap(Among::All),
         Some(Evidence::Overlap {
             block,
             first,
-            second
-        })
+            second,
+        }),
     );
     Ok(())
 }

@@ -1,4 +1,5 @@
 // The maximal runs of all owners, whose pieces are handed in in no order.
+use super::same::same;
 use fs_model::Claim;
 use rmap_recs::RmapRec;
 use run_sets::Run;
@@ -72,7 +73,7 @@ fn pieces_of_one_owner_join_and_of_two_do_not(rt: HostRuntime) -> Result<(), Fai
     ];
     let wanted = [rec(1, 3, AG, 0), rec(4, 1, REFC, 0), rec(5, 13, AG, 0)];
     for runs in runs_of(alloc, &pieces)? {
-        assert_eq!(rt; runs.as_slice(), wanted.as_slice());
+        same(&rt, runs.as_slice(), wanted.as_slice());
     }
     Ok(())
 }
@@ -90,7 +91,7 @@ fn file_data_joins_where_its_offsets_go_on(rt: HostRuntime) -> Result<(), Fail> 
     ];
     let wanted = [rec(40, 6, 133, 8), rec(42, 2, 134, 0), rec(46, 1, 133, 20)];
     for runs in runs_of(alloc, &pieces)? {
-        assert_eq!(rt; runs.as_slice(), wanted.as_slice());
+        same(&rt, runs.as_slice(), wanted.as_slice());
     }
     Ok(())
 }
@@ -116,7 +117,7 @@ fn flags_keep_pieces_apart(rt: HostRuntime) -> Result<(), Fail> {
         rec(62, 1, 133, ATTR + TREE),
     ];
     for runs in runs_of(alloc, &pieces)? {
-        assert_eq!(rt; runs.as_slice(), wanted.as_slice());
+        same(&rt, runs.as_slice(), wanted.as_slice());
     }
     Ok(())
 }
@@ -138,7 +139,7 @@ fn a_long_file_is_one_run_and_nothing_is_none(rt: HostRuntime) -> Result<(), Fai
         })?;
     }
     let runs = set.into_mappings(alloc)?;
-    assert_eq!(rt; runs.as_slice(), [rec(0, 1_000_000, 5, 77)].as_slice());
-    assert_eq!(rt; ClaimSet::new(alloc).into_runs().len(), 0);
+    same(&rt, runs.as_slice(), [rec(0, 1_000_000, 5, 77)].as_slice());
+    same(&rt, ClaimSet::new(alloc).into_runs().len(), 0);
     Ok(())
 }

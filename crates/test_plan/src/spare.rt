@@ -1,3 +1,4 @@
+use super::same::same;
 use crate::pieces::piece;
 use fs_model::{Claim, Trust, Unit};
 use rmap_recs::RmapRec;
@@ -100,7 +101,7 @@ fn each_unit_has_its_spare_block(rt: HostRuntime) -> Result<(), Fail> {
         (trust(false, false, true), [None, Some(23), None, None]),
     ];
     for (sick, wanted) in rows {
-        assert_eq!(rt; spares(alloc, sick)?, wanted);
+        same(&rt, spares(alloc, sick)?, wanted);
     }
     Ok(())
 }
@@ -111,8 +112,12 @@ fn a_claim_that_covers_all_leaves_none(rt: HostRuntime) -> Result<(), Fail> {
     let good = trust(false, false, false);
     let mut set = claims(alloc)?;
     set.put(piece(Claim::Limbo, 19, 4_000_000_000))?;
-    assert_eq!(rt; set.lowest_spare(Unit::Rmap, good, &FREE, &OWNED), None);
-    assert_eq!(rt; set.lowest_spare(Unit::Free, good, &[], &[]), None);
-    assert_eq!(rt; set.lowest_spare(Unit::Free, good, &FREE, &[]), Some(19));
+    same(&rt, set.lowest_spare(Unit::Rmap, good, &FREE, &OWNED), None);
+    same(&rt, set.lowest_spare(Unit::Free, good, &[], &[]), None);
+    same(
+        &rt,
+        set.lowest_spare(Unit::Free, good, &FREE, &[]),
+        Some(19),
+    );
     Ok(())
 }

@@ -1,6 +1,7 @@
 //! Blocks for tests: roots of trees of group 0.
 ghost use Rattle.std.specs.Prelude.{◌≡◌};
 
+use super::same::same;
 use byte_fields::{Block, put_sum, put_u16, put_u32, put_u64, sum_at};
 use sblock::{BlockFault, Bounds, Kind, RecKind, Want, verify};
 use std::process::Abort;
@@ -67,7 +68,7 @@ fn mended(mut block: Block) -> Block {
 fn expect_fault<K: RecKind>(rt: &impl Abort, want: &Want, block: Block, fault: BlockFault)
     requires { want.now.kind ≡ K.form.kind }
 {
-    assert_eq!(rt; verify::<K>(&block, want).err(), Some(fault));
+    same(rt, verify::<K>(&block, want).err(), Some(fault));
 }
 
 /// Expects the faults that each kind may have, and then these: each row puts another number at an

@@ -1,6 +1,7 @@
 ghost use Rattle.std.specs.Prelude.{◌≡◌};
 ghost use Rattle.run_edits.specs.Needed.{rec_of as rec_is};
 
+use super::same::same;
 use rmap_recs::RmapRec;
 use run_edits::{give, join_pieces, take};
 use std::test::Fail;
@@ -29,9 +30,10 @@ fn a_run_joins_both_sides_across_another_owner(rt: HostRuntime) -> Result<(), Fa
         ],
     )?;
     give(&mut list, &rec_of(4, 2, AG, 0))?;
-    assert_eq!(rt;
+    same(
+        &rt,
         list.as_slice(),
-        [rec_of(0, 7, AG, 0), rec_of(1, 1, 133, 0)].as_slice()
+        [rec_of(0, 7, AG, 0), rec_of(1, 1, 133, 0)].as_slice(),
     );
     Ok(())
 }
@@ -40,14 +42,15 @@ fn a_run_joins_both_sides_across_another_owner(rt: HostRuntime) -> Result<(), Fa
 fn a_run_is_cut_from_the_middle(rt: HostRuntime) -> Result<(), Fail> {
     let mut list = Vec::from_array(rt.alloc(), [rec_of(0, 9, 133, 10), rec_of(1, 1, 134, 0)])?;
     take(&mut list, &rec_of(3, 2, 133, 13))?;
-    assert_eq!(rt;
+    same(
+        &rt,
         list.as_slice(),
         [
             rec_of(0, 3, 133, 10),
             rec_of(1, 1, 134, 0),
-            rec_of(5, 4, 133, 15)
+            rec_of(5, 4, 133, 15),
         ]
-        .as_slice()
+        .as_slice(),
     );
     Ok(())
 }
@@ -61,9 +64,10 @@ fn pieces_are_joined_across_another_owner(rt: HostRuntime) -> Result<(), Fail> {
         rec_of(6, 1, AG, 0),
     ];
     let found = join_pieces(rt.alloc(), &pieces)?;
-    assert_eq!(rt;
+    same(
+        &rt,
         found.as_slice(),
-        [rec_of(4, 3, AG, 0), rec_of(5, 3, 195, 7)].as_slice()
+        [rec_of(4, 3, AG, 0), rec_of(5, 3, 195, 7)].as_slice(),
     );
     Ok(())
 }

@@ -1,3 +1,4 @@
+use super::same::same;
 use crate::blocks::{altered, block_of, expect_faults, want_of};
 use ino_recs::{FinoKind, InoKind, InoRec};
 use sblock::{BlockFault, Bounds, Kind, RecKind, do_meet};
@@ -51,8 +52,8 @@ fn free_space_lies_in_the_group(rt: HostRuntime) {
             start: *start,
             count: *count,
         };
-        assert_eq!(rt; BnoKind::is_in_range(&rec, &BOUNDS), *wanted);
-        assert_eq!(rt; CntKind::is_in_range(&rec, &BOUNDS), *wanted);
+        same(&rt, BnoKind::is_in_range(&rec, &BOUNDS), *wanted);
+        same(&rt, CntKind::is_in_range(&rec, &BOUNDS), *wanted);
     }
 }
 
@@ -72,15 +73,19 @@ fn shared_blocks_lie_in_the_group(rt: HostRuntime) {
             count: *count,
             refcount: *refcount,
         };
-        assert_eq!(rt; RefcKind::is_in_range(&rec, &BOUNDS), *wanted);
+        same(&rt, RefcKind::is_in_range(&rec, &BOUNDS), *wanted);
         assert!(rt; RefcKind::is_supported(&rec));
-        assert_eq!(rt; RefcKind::length_of(&rec), *count);
+        same(&rt, RefcKind::length_of(&rec), *count);
     }
     // Staging is of a form that isn't supported yet.
     let rec = shared(0x8000_0020, 3, 1);
     assert!(rt; !RefcKind::is_supported(&rec));
-    assert_eq!(rt; RefcKind::block_of(&RefcKind::key_of(&rec)), 0x8000_0020);
-    assert_eq!(rt; RefcKind::length_of(&rec), 3);
+    same(
+        &rt,
+        RefcKind::block_of(&RefcKind::key_of(&rec)),
+        0x8000_0020,
+    );
+    same(&rt, RefcKind::length_of(&rec), 3);
 }
 
 #[test]
@@ -96,8 +101,8 @@ fn records_meet_in_a_block_or_by_their_keys(rt: HostRuntime) {
     ];
     for ((start, count), (other, length), in_a_block, by_key) in rows {
         let (a, b) = (span(start, count), span(other, length));
-        assert_eq!(rt; do_meet::<BnoKind>(&a, &b), in_a_block);
-        assert_eq!(rt; do_meet::<CntKind>(&a, &b), by_key);
+        same(&rt, do_meet::<BnoKind>(&a, &b), in_a_block);
+        same(&rt, do_meet::<CntKind>(&a, &b), by_key);
     }
     let staging = shared(0x8000_0020, 3, 1);
     assert!(rt; !do_meet::<RefcKind>(&staging, &shared(0x20, 3, 2)));
@@ -241,24 +246,25 @@ fn expect_bytes_of_spans(rt: &impl Abort) {
         count: 224,
     };
     BnoKind::put_record(&mut area, 504, &span);
-    assert_eq!(rt; &area[4032..], [0, 0, 0, 32, 0, 0, 0, 224].as_slice());
-    assert_eq!(rt; BnoKind::record_at(&area, 504), span);
+    same(rt, &area[4032..], [0, 0, 0, 32, 0, 0, 0, 224].as_slice());
+    same(rt, BnoKind::record_at(&area, 504), span);
     CntKind::put_keys(&mut area, 335, &span, &span);
-    assert_eq!(rt; CntKind::key_at(&area, 335), span);
+    same(rt, CntKind::key_at(&area, 335), span);
     let shared = RefcRec {
         start: 32,
         count: 1,
         refcount: 2,
     };
     RefcKind::put_record(&mut area, 335, &shared);
-    assert_eq!(rt;
+    same(
+        rt,
         &area[4020..4032],
-        [0, 0, 0, 32, 0, 0, 0, 1, 0, 0, 0, 2].as_slice()
+        [0, 0, 0, 32, 0, 0, 0, 1, 0, 0, 0, 2].as_slice(),
     );
-    assert_eq!(rt; RefcKind::record_at(&area, 335), shared);
+    same(rt, RefcKind::record_at(&area, 335), shared);
     let key = RefcKind::key_of(&shared);
     RefcKind::put_keys(&mut area, 504, &key, &key);
-    assert_eq!(rt; RefcKind::high_key_at(&area, 504), key);
+    same(rt, RefcKind::high_key_at(&area, 504), key);
 }
 
 fn expect_bytes_of_chunks(rt: &impl Abort) {
@@ -267,12 +273,12 @@ fn expect_bytes_of_chunks(rt: &impl Abort) {
     let wanted = [
         0, 0, 0, 0xc0, 0, 0, 0x40, 0x3d, 0xff, 0xff, 0xff, 0xff, 0xff, 0xff, 0xff, 0xf8,
     ];
-    assert_eq!(rt; &area[16..32], wanted.as_slice());
-    assert_eq!(rt; FinoKind::record_at(&area, 1), FIRST);
+    same(rt, &area[16..32], wanted.as_slice());
+    same(rt, FinoKind::record_at(&area, 1), FIRST);
     let key = InoKind::high_key_of(&FIRST);
     FinoKind::put_keys(&mut area, 504, &key, &key);
-    assert_eq!(rt; &area[2016..2020], [0, 0, 0, 0xc0].as_slice());
-    assert_eq!(rt; InoKind::key_at(&area, 504), key);
+    same(rt, &area[2016..2020], [0, 0, 0, 0xc0].as_slice());
+    same(rt, InoKind::key_at(&area, 504), key);
 }
 
 #[test]
@@ -309,8 +315,8 @@ fn chunks_are_aligned_and_their_counts_are_those_of_the_mask(rt: HostRuntime) {
             freecount: *freecount,
             free: *free,
         };
-        assert_eq!(rt; InoKind::is_in_range(&rec, &BOUNDS), *in_ino);
-        assert_eq!(rt; FinoKind::is_in_range(&rec, &BOUNDS), *in_fino);
+        same(&rt, InoKind::is_in_range(&rec, &BOUNDS), *in_ino);
+        same(&rt, FinoKind::is_in_range(&rec, &BOUNDS), *in_fino);
     }
 }
 
@@ -322,7 +328,7 @@ fn chunks_with_holes_are_not_supported(rt: HostRuntime) {
     };
     assert!(rt; InoKind::is_supported(&FIRST));
     assert!(rt; !InoKind::is_supported(&holed));
-    assert_eq!(rt; InoKind::block_of(&InoKind::key_of(&FIRST)), 24);
-    assert_eq!(rt; FinoKind::length_of(&FIRST), 8);
-    assert_eq!(rt; FinoKind::length_of(&holed), 0);
+    same(&rt, InoKind::block_of(&InoKind::key_of(&FIRST)), 24);
+    same(&rt, FinoKind::length_of(&FIRST), 8);
+    same(&rt, FinoKind::length_of(&holed), 0);
 }

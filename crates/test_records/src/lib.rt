@@ -12,6 +12,8 @@ mod kinds;
 #[cfg(test)]
 mod mappings;
 #[cfg(test)]
+mod same;
+#[cfg(test)]
 mod sets;
 #[cfg(test)]
 mod short_blocks;

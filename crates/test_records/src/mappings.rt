@@ -1,3 +1,4 @@
+use super::same::same;
 use rmap_recs::{Owner, RmapKind, RmapRec, Tuple, runs};
 use sblock::{Bounds, Kind, RecKind};
 use std::test::Fail;
@@ -36,15 +37,15 @@ fn owners_have_their_numbers_and_words(rt: HostRuntime) -> Result<(), Fail> {
     ];
     for (owner, number, word) in table {
         let text = format!(in alloc; "{owner}")?;
-        assert_eq!(rt; owner.number(), number);
-        assert_eq!(rt; Owner::from_number(number), Some(owner));
-        assert_eq!(rt; text.as_str(), word);
+        same(&rt, owner.number(), number);
+        same(&rt, Owner::from_number(number), Some(owner));
+        same(&rt, text.as_str(), word);
     }
     let nobody = [
         Owner::from_number(u64::MAX),
         Owner::from_number(u64::MAX - 1),
     ];
-    assert_eq!(rt; nobody, [None, None]);
+    same(&rt, nobody, [None, None]);
     Ok(())
 }
 
@@ -55,9 +56,9 @@ fn a_record_is_written_as_24_bytes(rt: HostRuntime) {
     let bytes = [
         0, 0, 0, 0x28, 0, 0, 0, 1, 0, 0, 0, 0, 0, 0, 0, 0xc3, 0, 0, 0, 0, 0, 0, 0, 5,
     ];
-    assert_eq!(rt; &area[24..48], &bytes[..]);
-    assert_eq!(rt; [area[23], area[48]], [255, 255]);
-    assert_eq!(rt; RmapKind::record_at(&area, 1), rec_of(40, 1, 195, 5));
+    same(&rt, &area[24..48], &bytes[..]);
+    same(&rt, [area[23], area[48]], [255, 255]);
+    same(&rt, RmapKind::record_at(&area, 1), rec_of(40, 1, 195, 5));
 }
 
 #[test]
@@ -69,7 +70,7 @@ fn an_entry_is_the_low_and_the_high_key(rt: HostRuntime) {
         owner: 195,
         word: 0x2000_0000_0000_0000,
     };
-    assert_eq!(rt; RmapKind::kind(), Kind::Rmap);
+    same(&rt, RmapKind::kind(), Kind::Rmap);
     RmapKind::put_keys(
         &mut area,
         2,
@@ -82,9 +83,9 @@ fn an_entry_is_the_low_and_the_high_key(rt: HostRuntime) {
     let high = [
         0, 0, 0, 0x17, 0, 0, 0, 0, 0, 0, 0, 0xc3, 0, 0, 0, 0, 0, 0, 0, 0x10,
     ];
-    assert_eq!(rt; &area[80..100], &low[..]);
-    assert_eq!(rt; &area[100..120], &high[..]);
-    assert_eq!(rt; [area[79], area[120]], [255, 255]);
+    same(&rt, &area[80..100], &low[..]);
+    same(&rt, &area[100..120], &high[..]);
+    same(&rt, [area[79], area[120]], [255, 255]);
 }
 
 #[test]
@@ -172,8 +173,8 @@ fn records_are_joined_where_all_goes_on(rt: HostRuntime) {
     let shareable = [5, UNWRITTEN + 5, ATTRIBUTE + 5, FORK_TREE].map(|word| rec_of(
         4, 1, 195, word,
     ).is_shareable());
-    assert_eq!(rt; shareable, [true, false, false, false]);
-    assert_eq!(rt; rec_of(4, 1, AG, 0).is_shareable(), false);
+    same(&rt, shareable, [true, false, false, false]);
+    same(&rt, rec_of(4, 1, AG, 0).is_shareable(), false);
 }
 
 #[test]
@@ -245,6 +246,6 @@ fn runs_end_where_owner_flags_or_offset_change(rt: HostRuntime) -> Result<(), Fa
         rec_of(7, 2, 196, FORK_TREE),
         rec_of(9, 1, AG, 0),
     ];
-    assert_eq!(rt; found.as_slice(), &wanted[..]);
+    same(&rt, found.as_slice(), &wanted[..]);
     Ok(())
 }

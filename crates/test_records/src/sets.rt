@@ -1,3 +1,4 @@
+use super::same::same;
 use run_sets::{Run, RunSet, one_list, one_stretch_list, only_runs, only_stretches, overlaps};
 use std::test::Fail;
 
@@ -7,9 +8,10 @@ fn complement_holds_what_the_set_leaves(rt: HostRuntime) -> Result<(), Fail> {
     set.add(rt.alloc(), Run { start: 0, count: 1 })?;
     set.add(rt.alloc(), Run { start: 4, count: 2 })?;
     let rest = set.complement(rt.alloc(), 10)?;
-    assert_eq!(rt;
+    same(
+        &rt,
         rest.runs(),
-        [Run { start: 1, count: 3 }, Run { start: 6, count: 4 }].as_slice()
+        [Run { start: 1, count: 3 }, Run { start: 6, count: 4 }].as_slice(),
     );
     Ok(())
 }
@@ -21,15 +23,16 @@ fn runs_that_touch_are_one(rt: HostRuntime) -> Result<(), Fail> {
     let mut high = RunSet::new(rt.alloc())?;
     high.add(rt.alloc(), Run { start: 4, count: 3 })?;
     let both = low.union(rt.alloc(), &high)?;
-    assert_eq!(rt; both.runs(), [Run { start: 0, count: 7 }].as_slice());
+    same(&rt, both.runs(), [Run { start: 0, count: 7 }].as_slice());
     assert!(rt; both.contains(6));
     assert!(rt; !both.contains(7));
     let left = both.subtract(rt.alloc(), &low)?;
-    assert_eq!(rt; left.runs(), high.runs());
+    same(&rt, left.runs(), high.runs());
     high.remove(rt.alloc(), Run { start: 5, count: 1 })?;
-    assert_eq!(rt;
+    same(
+        &rt,
         high.runs(),
-        [Run { start: 4, count: 1 }, Run { start: 6, count: 1 }].as_slice()
+        [Run { start: 4, count: 1 }, Run { start: 6, count: 1 }].as_slice(),
     );
     Ok(())
 }
@@ -51,25 +54,26 @@ fn overlaps_are_counted(rt: HostRuntime) -> Result<(), Fail> {
         },
     ];
     let found = overlaps(rt.alloc(), &runs, 2)?;
-    assert_eq!(rt;
+    same(
+        &rt,
         found.as_slice(),
         [
             (
                 Run {
                     start: 42,
-                    count: 1
+                    count: 1,
                 },
-                2
+                2,
             ),
             (
                 Run {
                     start: 43,
-                    count: 1
+                    count: 1,
                 },
-                3
-            )
+                3,
+            ),
         ]
-        .as_slice()
+        .as_slice(),
     );
     // The laws hold at a type.
     only_runs();

@@ -1,5 +1,6 @@
 ghost use Rattle.std.specs.Prelude.{◌≡◌};
 
+use super::same::same;
 use crate::counted::Counted;
 use byte_fields::{Block, put_sum, put_u16, put_u32, put_u64, sum_at};
 use sblock::{
@@ -105,20 +106,29 @@ fn header(level: u8) -> Header {
 
 #[test]
 fn sound_roots_show_their_headers_and_others_a_fault(rt: HostRuntime) {
-    assert_eq!(rt; judged(&summed(&leaf()), 0, true), Ok(header(0)));
-    assert_eq!(rt; judged(&summed(&node()), 1, true), Ok(header(1)));
+    same(&rt, judged(&summed(&leaf()), 0, true), Ok(header(0)));
+    same(&rt, judged(&summed(&node()), 1, true), Ok(header(1)));
     let block = with_number(&with_number(&node(), 8, 5), 12, 7);
-    assert_eq!(rt; [level_of(&block), count_of(&block)], [1, 3]);
-    assert_eq!(rt;
+    same(&rt, [level_of(&block), count_of(&block)], [1, 3]);
+    same(
+        &rt,
         [left_of(&block), right_of(&block), owner_of(&block)],
-        [5, 7, 1]
+        [5, 7, 1],
     );
-    assert_eq!(rt; place_of(&block), 848);
+    same(&rt, place_of(&block), 848);
     // A block beside others needs half of the greatest number, and the checksum comes before the order.
-    assert_eq!(rt; judged(&summed(&leaf()), 0, false), Err(BlockFault::Count));
-    assert_eq!(rt; judged(&summed(&node()), 1, false), Err(BlockFault::Count));
+    same(
+        &rt,
+        judged(&summed(&leaf()), 0, false),
+        Err(BlockFault::Count),
+    );
+    same(
+        &rt,
+        judged(&summed(&node()), 1, false),
+        Err(BlockFault::Count),
+    );
     let block = with_number(&summed(&leaf()), 88, 20);
-    assert_eq!(rt; judged(&block, 0, true), Err(BlockFault::Checksum));
+    same(&rt, judged(&block, 0, true), Err(BlockFault::Checksum));
 }
 
 #[test]
@@ -156,22 +166,24 @@ fn records_of_a_leaf_come_in_order(rt: HostRuntime) -> Result<(), Fail> {
     let want = want(0, true);
     let header = verify::<Counted>(&block, &want)?;
     let records = leaf_records::<Counted>(rt.alloc(), &block)?;
-    assert_eq!(rt; header.numrecs, 3);
-    assert_eq!(rt; records.as_slice(), [10, 20, 30].as_slice());
+    same(&rt, header.numrecs, 3);
+    same(&rt, records.as_slice(), [10, 20, 30].as_slice());
     Ok(())
 }
 
 #[test]
 fn keys_stand_for_records_and_for_subtrees(rt: HostRuntime) {
-    assert_eq!(rt;
+    same(
+        &rt,
         span_of_records::<Counted>(&[10, 20, 30]),
-        Some(Span { low: 10, high: 30 })
+        Some(Span { low: 10, high: 30 }),
     );
-    assert_eq!(rt; span_of_records::<Counted>(&[]), None);
+    same(&rt, span_of_records::<Counted>(&[]), None);
     let below = [Span { low: 10, high: 50 }, Span { low: 20, high: 30 }];
-    assert_eq!(rt;
+    same(
+        &rt,
         span_of_subtrees::<Counted>(&below),
-        Some(Span { low: 10, high: 50 })
+        Some(Span { low: 10, high: 50 }),
     );
 }
 
@@ -179,16 +191,17 @@ fn keys_stand_for_records_and_for_subtrees(rt: HostRuntime) {
 fn entries_of_a_node_are_read_and_written(rt: HostRuntime) {
     let block = node();
     let area = data_area(&block);
-    assert_eq!(rt; Counted::key_at(area, 2), 30);
-    assert_eq!(rt; child_at(Kind::Ino, area, 2), 60);
+    same(&rt, Counted::key_at(area, 2), 30);
+    same(&rt, child_at(Kind::Ino, area, 2), 60);
     let mut area = [0; 4040];
     Counted::put_keys(&mut area, 504, &7, &9);
     put_child(Kind::Ino, &mut area, 504, 8);
-    assert_eq!(rt;
+    same(
+        &rt,
         &area[2012..2024],
-        [0, 0, 0, 0, 0, 0, 0, 7, 0, 0, 0, 0].as_slice()
+        [0, 0, 0, 0, 0, 0, 0, 7, 0, 0, 0, 0].as_slice(),
     );
-    assert_eq!(rt; &area[4032..4040], [0, 0, 0, 0, 0, 0, 0, 8].as_slice());
+    same(&rt, &area[4032..4040], [0, 0, 0, 0, 0, 0, 0, 8].as_slice());
 }
 
 // 4,040 bytes divided by those of a record, or of a key and a pointer; and the half.
@@ -211,5 +224,5 @@ fn numbers_follow_from_the_widths(rt: HostRuntime) {
         assert_eq!(rt; usize::from(kind.node_least()), node / 2, "{kind:?}");
         assert_eq!(rt; kind.has_high_keys(), kind == Kind::Rmap, "{kind:?}");
     }
-    assert_eq!(rt; Kind::Rmap.magic().to_be_bytes(), *b"RMB3");
+    same(&rt, Kind::Rmap.magic().to_be_bytes(), *b"RMB3");
 }

@@ -1,3 +1,4 @@
+use super::same::same;
 use ino_recs::InoRec;
 use inode_table::{CHUNK_INODES, fino_record, fresh_chunk, give, lowest_free, take};
 use std::test::Fail;
@@ -21,7 +22,7 @@ fn the_lowest_free_inode_of_a_chunk(rt: HostRuntime) -> Result<(), Fail> {
         (u64::MAX, Some(0)),
     ];
     for (free, lowest) in rows {
-        assert_eq!(rt; lowest_free(&InoRec { free, ..CHUNK }), lowest);
+        same(&rt, lowest_free(&InoRec { free, ..CHUNK }), lowest);
     }
     Ok(())
 }
@@ -38,9 +39,9 @@ fn a_chunk_without_free_inodes_is_in_one_tree(rt: HostRuntime) -> Result<(), Fai
         free: 0x8000_0000_0000_0000,
         ..CHUNK
     };
-    assert_eq!(rt; fino_record(&CHUNK), Some(CHUNK));
-    assert_eq!(rt; fino_record(&last), Some(last));
-    assert_eq!(rt; fino_record(&full), None);
+    same(&rt, fino_record(&CHUNK), Some(CHUNK));
+    same(&rt, fino_record(&last), Some(last));
+    same(&rt, fino_record(&full), None);
     Ok(())
 }
 
@@ -67,7 +68,7 @@ fn a_given_inode_is_the_only_free_one(rt: HostRuntime) -> Result<(), Fail> {
         (64, None),
     ];
     for (slot, rec) in rows {
-        assert_eq!(rt; given(slot), rec);
+        same(&rt, given(slot), rec);
     }
     Ok(())
 }
@@ -96,7 +97,7 @@ fn the_lowest_free_inode_is_taken_and_none_of_a_full_chunk(rt: HostRuntime) -> R
         (0, 0, None),
     ];
     for (free, freecount, rec) in rows {
-        assert_eq!(rt; taken(free, freecount), rec);
+        same(&rt, taken(free, freecount), rec);
     }
     Ok(())
 }
@@ -108,7 +109,7 @@ fn a_fresh_chunk_is_all_free(rt: HostRuntime) -> Result<(), Fail> {
         free: u64::MAX,
         ..CHUNK
     };
-    assert_eq!(rt; fresh_chunk(24), fresh);
-    assert_eq!(rt; fresh_chunk(268_435_448).startino, 2_147_483_584);
+    same(&rt, fresh_chunk(24), fresh);
+    same(&rt, fresh_chunk(268_435_448).startino, 2_147_483_584);
     Ok(())
 }

@@ -1,3 +1,4 @@
+use super::same::same;
 use ag_headers::{Agf, Agi};
 use ino_recs::InoRec;
 use root_switch::{
@@ -23,13 +24,14 @@ fn counters_of_the_worked_image(rt: HostRuntime) -> Result<(), Fail> {
         freeblks: 229,
         longest: 224,
     };
-    assert_eq!(rt; space_totals(&free), space);
-    assert_eq!(rt;
+    same(&rt, space_totals(&free), space);
+    same(
+        &rt,
         space_totals(&[]),
         SpaceTotals {
             freeblks: 0,
-            longest: 0
-        }
+            longest: 0,
+        },
     );
     let chunk = InoRec {
         startino: 192,
@@ -42,9 +44,9 @@ fn counters_of_the_worked_image(rt: HostRuntime) -> Result<(), Fail> {
         count: 64,
         freecount: 61,
     };
-    assert_eq!(rt; inode_totals(&[chunk]), inodes);
-    assert_eq!(rt; blocks_beside_roots(1, 1, 1), 0);
-    assert_eq!(rt; blocks_beside_roots(3, 3, 26), 29);
+    same(&rt, inode_totals(&[chunk]), inodes);
+    same(&rt, blocks_beside_roots(1, 1, 1), 0);
+    same(&rt, blocks_beside_roots(3, 3, 26), 29);
     Ok(())
 }
 
@@ -120,10 +122,10 @@ fn counted(counts_blocks: bool) -> (u32, u32) {
 
 #[test]
 fn a_counter_that_nothing_tells_stays(rt: HostRuntime) -> Result<(), Fail> {
-    assert_eq!(rt; beside(None), 7);
-    assert_eq!(rt; beside(Some(0)), 0);
-    assert_eq!(rt; beside(Some(u32::MAX)), u32::MAX);
-    assert_eq!(rt; counted(false), (8, 9));
-    assert_eq!(rt; counted(true), (4, 4));
+    same(&rt, beside(None), 7);
+    same(&rt, beside(Some(0)), 0);
+    same(&rt, beside(Some(u32::MAX)), u32::MAX);
+    same(&rt, counted(false), (8, 9));
+    same(&rt, counted(true), (4, 4));
     Ok(())
 }

@@ -10,6 +10,8 @@ mod limbo;
 #[cfg(test)]
 mod rows;
 #[cfg(test)]
+mod same;
+#[cfg(test)]
 mod space;
 #[cfg(test)]
 mod space_refusals;

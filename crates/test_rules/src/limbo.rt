@@ -1,3 +1,4 @@
+use super::same::same;
 use block_reap::{LimboRun, Memory, next, put, unit_owner};
 use fs_model::Unit;
 use rmap_recs::Owner;
@@ -18,13 +19,14 @@ fn run(start: u32, count: u32, owner: u64) -> LimboRun {
 
 #[test]
 fn the_lowest_run_is_reaped_first_and_cut(rt: HostRuntime) -> Result<(), Fail> {
-    assert_eq!(rt; next(&[]), None);
-    assert_eq!(rt; next(&[run(1, 2, AG)]), Some(run(1, 2, AG)));
-    assert_eq!(rt;
+    same(&rt, next(&[]), None);
+    same(&rt, next(&[run(1, 2, AG)]), Some(run(1, 2, AG)));
+    same(
+        &rt,
         next(&[run(5, 64, AG), run(5, 1, INOBT)]),
-        Some(run(5, 64, AG))
+        Some(run(5, 64, AG)),
     );
-    assert_eq!(rt; next(&[run(5, 65, INOBT)]), Some(run(5, 64, INOBT)));
+    same(&rt, next(&[run(5, 65, INOBT)]), Some(run(5, 64, INOBT)));
     Ok(())
 }
 
@@ -37,7 +39,7 @@ fn owners_of_what_a_switch_leaves(rt: HostRuntime) -> Result<(), Fail> {
         (Unit::Refc, Owner::Refc),
     ];
     for (unit, owner) in rows {
-        assert_eq!(rt; unit_owner(unit), owner);
+        same(&rt, unit_owner(unit), owner);
     }
     Ok(())
 }
@@ -61,7 +63,7 @@ fn a_block_that_waits_is_reaped_with_its_owner(rt: HostRuntime) -> Result<(), Fa
         (u32::MAX, AG, None),
     ];
     for (block, owner, found) in rows {
-        assert_eq!(rt; reaped(rt.alloc(), block, owner), Ok(found));
+        same(&rt, reaped(rt.alloc(), block, owner), Ok(found));
     }
     Ok(())
 }

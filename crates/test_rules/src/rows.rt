@@ -1,4 +1,5 @@
 // A block of file 195 that is unmapped, step by step.
+use super::same::same;
 use defer_chain::{Chain, ChainInode, StepKind, Stretch, first_stretch};
 use free_space::joined;
 use fs_state::{Intent, IntentKind};
@@ -49,19 +50,20 @@ const SHARED: RefcRec = RefcRec {
 fn a_shared_block_that_is_unmapped_keeps_an_owner(rt: HostRuntime) -> Result<(), Fail> {
     let mut chain = Chain::new(1, INODE, None);
     chain.put(&[REMOVE, LESS]);
-    assert_eq!(rt; chain.next_kind(), Some(StepKind::Rmap));
-    assert_eq!(rt; chain.owes(0), 2);
+    same(&rt, chain.next_kind(), Some(StepKind::Rmap));
+    same(&rt, chain.owes(0), 2);
     chain.finish_rmap();
-    assert_eq!(rt; chain.next(), Some(LESS));
-    assert_eq!(rt;
+    same(&rt, chain.next(), Some(LESS));
+    same(
+        &rt,
         first_stretch(40, 1, Some(SHARED), None),
         Stretch {
             count: 1,
-            owners: 2
-        }
+            owners: 2,
+        },
     );
     chain.finish_stretch(1, false);
-    assert_eq!(rt; chain.next(), None);
+    same(&rt, chain.next(), None);
     Ok(())
 }
 
@@ -71,17 +73,18 @@ fn the_last_owner_of_a_block_leaves_it_to_be_freed(rt: HostRuntime) -> Result<()
     let mut chain = Chain::new(1, INODE, None);
     chain.put(&[REMOVE, LESS]);
     chain.finish_rmap();
-    assert_eq!(rt;
+    same(
+        &rt,
         first_stretch(40, 1, None, None),
         Stretch {
             count: 1,
-            owners: 1
-        }
+            owners: 1,
+        },
     );
     chain.finish_stretch(1, true);
-    assert_eq!(rt; chain.next(), Some(FREE));
+    same(&rt, chain.next(), Some(FREE));
     chain.finish_free();
-    assert_eq!(rt; chain.next_kind(), None);
+    same(&rt, chain.next_kind(), None);
     Ok(())
 }
 
@@ -103,21 +106,26 @@ fn a_freed_block_joins_its_neighbours(rt: HostRuntime) -> Result<(), Fail> {
         start: 40,
         count: 1,
     };
-    assert_eq!(rt; joined(Some(before), &block, Some(behind)), span(32, 224));
-    assert_eq!(rt; joined(None, &block, Some(behind)), span(40, 216));
-    assert_eq!(rt; joined(Some(before), &block, None), span(32, 9));
-    assert_eq!(rt; joined(None, &block, None), block);
+    same(
+        &rt,
+        joined(Some(before), &block, Some(behind)),
+        span(32, 224),
+    );
+    same(&rt, joined(None, &block, Some(behind)), span(40, 216));
+    same(&rt, joined(Some(before), &block, None), span(32, 9));
+    same(&rt, joined(None, &block, None), block);
     Ok(())
 }
 
 #[test]
 fn a_count_at_the_cap_is_seen_whole(rt: HostRuntime) -> Result<(), Fail> {
-    assert_eq!(rt;
+    same(
+        &rt,
         first_stretch(40, 1, Some(FULL), None),
         Stretch {
             count: 1,
-            owners: 4_294_967_200
-        }
+            owners: 4_294_967_200,
+        },
     );
     Ok(())
 }

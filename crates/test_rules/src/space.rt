@@ -1,5 +1,6 @@
 ghost use Rattle.std.specs.Prelude.{◌≡◌};
 
+use super::same::same;
 use free_space::{
     GroupSpace, ListGoal, NoRun, Search, SickGroup, aligned_run, first_fit, front, group_tried,
     list_goal, wanted_count,
@@ -26,7 +27,7 @@ fn a_list_is_filled_below_twelve_and_trimmed_above_sixty_four(rt: HostRuntime) -
         (119, ListGoal::Give(103)),
     ];
     for (len, wanted) in rows {
-        assert_eq!(rt; list_goal(len), wanted);
+        same(&rt, list_goal(len), wanted);
     }
     Ok(())
 }
@@ -44,7 +45,7 @@ fn the_first_record_that_is_long_enough_gives_its_front(rt: HostRuntime) -> Resu
     ];
     for (wanted, run) in rows {
         let found = first_fit(&free, wanted);
-        assert_eq!(rt; found.map(|rec| front(&rec, wanted)), run);
+        same(&rt, found.map(|rec| front(&rec, wanted)), run);
     }
     Ok(())
 }
@@ -58,7 +59,7 @@ fn a_file_that_grows_twice_has_runs_of_two_records(rt: HostRuntime) -> Result<()
     ];
     for (wanted, free, run) in rows {
         let found = first_fit(&free, wanted);
-        assert_eq!(rt; found.map(|rec| front(&rec, wanted)), Some(run));
+        same(&rt, found.map(|rec| front(&rec, wanted)), Some(run));
     }
     Ok(())
 }
@@ -72,27 +73,27 @@ fn one_mapping_is_wanted_at_most(rt: HostRuntime) -> Result<(), Fail> {
         (u32::MAX, 2_097_151),
     ];
     for (count, wanted) in rows {
-        assert_eq!(rt; wanted_count(count), wanted);
+        same(&rt, wanted_count(count), wanted);
     }
     Ok(())
 }
 
 #[test]
 fn groups_are_tried_upwards_and_round(rt: HostRuntime) -> Result<(), Fail> {
-    assert_eq!(rt; group_tried(65_535, 0, 65_536), 65_535);
-    assert_eq!(rt; group_tried(65_535, 1, 65_536), 0);
-    assert_eq!(rt; group_tried(0, 65_535, 65_536), 65_535);
-    assert_eq!(rt; group_tried(2, 3, 4), 1);
+    same(&rt, group_tried(65_535, 0, 65_536), 65_535);
+    same(&rt, group_tried(65_535, 1, 65_536), 0);
+    same(&rt, group_tried(0, 65_535, 65_536), 65_535);
+    same(&rt, group_tried(2, 3, 4), 1);
     Ok(())
 }
 
 #[test]
 fn a_chunk_fits_at_the_lowest_multiple_of_eight(rt: HostRuntime) -> Result<(), Fail> {
-    assert_eq!(rt; aligned_run(&span(19, 5)), None);
-    assert_eq!(rt; aligned_run(&span(32, 224)), Some(32));
-    assert_eq!(rt; aligned_run(&span(33, 15)), Some(40));
-    assert_eq!(rt; aligned_run(&span(33, 14)), None);
-    assert_eq!(rt; aligned_run(&span(268_435_440, 16)), Some(268_435_440));
+    same(&rt, aligned_run(&span(19, 5)), None);
+    same(&rt, aligned_run(&span(32, 224)), Some(32));
+    same(&rt, aligned_run(&span(33, 15)), Some(40));
+    same(&rt, aligned_run(&span(33, 14)), None);
+    same(&rt, aligned_run(&span(268_435_440, 16)), Some(268_435_440));
     Ok(())
 }
 
@@ -121,16 +122,17 @@ fn a_group_that_is_shut_is_told_before_a_sick_one(rt: HostRuntime) -> Result<(),
     let lower = space(1, false, Some(Kind::Cnt), None);
     let sick = space(0, true, Some(Kind::Rmap), None);
     let empty = space(2, true, None, None);
-    assert_eq!(rt;
+    same(
+        &rt,
         choose(4, &[closed, lower, sick, empty]),
-        Err(NoRun::Closing(1))
+        Err(NoRun::Closing(1)),
     );
     let rmap = SickGroup {
         group: 0,
         kind: Kind::Rmap,
     };
-    assert_eq!(rt; choose(4, &[empty, sick]), Err(NoRun::Sick(rmap)));
-    assert_eq!(rt; choose(4, &[empty]), Err(NoRun::NoSpace));
+    same(&rt, choose(4, &[empty, sick]), Err(NoRun::Sick(rmap)));
+    same(&rt, choose(4, &[empty]), Err(NoRun::NoSpace));
     Ok(())
 }
 
@@ -155,14 +157,14 @@ fn a_longer_record_of_a_later_group_comes_before_a_short_one(rt: HostRuntime) ->
         block: 32,
         count: 6,
     };
-    assert_eq!(rt; choose(6, &[short, long]), Ok(taken));
+    same(&rt, choose(6, &[short, long]), Ok(taken));
     let front = Extent {
         group: 2,
         block: 19,
         count: 5,
     };
-    assert_eq!(rt; choose(6, &[short, sick]), Ok(front));
-    assert_eq!(rt; choose(6, &[large]), Err(NoRun::TooLarge));
+    same(&rt, choose(6, &[short, sick]), Ok(front));
+    same(&rt, choose(6, &[large]), Err(NoRun::TooLarge));
     let end = GroupSpace {
         group: 65_535,
         ..long
@@ -171,6 +173,6 @@ fn a_longer_record_of_a_later_group_comes_before_a_short_one(rt: HostRuntime) ->
         group: 65_535,
         ..taken
     };
-    assert_eq!(rt; choose(6, &[short, end]), Ok(end_taken));
+    same(&rt, choose(6, &[short, end]), Ok(end_taken));
     Ok(())
 }

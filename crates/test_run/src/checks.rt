@@ -1,3 +1,4 @@
+use super::same::same;
 use crate::runs::expect_end;
 use blk_device::MemDevice;
 use byte_fields::Block;
@@ -40,8 +41,8 @@ fn words_that_ask_for_no_check_open_no_image(rt: HostRuntime) -> Result<(), Fail
         let image = small_image(rt.alloc())?;
         let (end, host) = run_words(rt.alloc(), words, image, Vec::new(rt.alloc()))?;
         expect_end(&rt, &end, &host, *status, report)?;
-        assert_eq!(rt; host.asked.len(), 0);
-        assert_eq!(rt; end.journal.len(), 0);
+        same(&rt, host.asked.len(), 0);
+        same(&rt, end.journal.len(), 0);
     }
     Ok(())
 }
@@ -63,15 +64,16 @@ fn a_sound_image_is_good(rt: HostRuntime) -> Result<(), Fail> {
         good(Unit::Free),
         good(Unit::Refc),
     ];
-    assert_eq!(rt; end.journal.as_slice(), journal.as_slice());
-    assert_eq!(rt; end.starts, [0, 4, 4]);
+    same(&rt, end.journal.as_slice(), journal.as_slice());
+    same(&rt, end.starts, [0, 4, 4]);
     assert_eq!(rt; host.asked.len(), 1);
-    assert_eq!(rt; host.asked[0].image.as_str(), "a.img");
-    assert_eq!(rt; host.asked[0].redo, None);
-    assert_eq!(rt; host.asked[0].purpose, Purpose::Check);
-    assert_eq!(rt;
+    same(&rt, host.asked[0].image.as_str(), "a.img");
+    same(&rt, &host.asked[0].redo, &None);
+    same(&rt, host.asked[0].purpose, Purpose::Check);
+    same(
+        &rt,
         [host.host_faults, host.dev_faults, host.sink_faults],
-        [0, 0, 0]
+        [0, 0, 0],
     );
     Ok(())
 }
@@ -107,7 +109,7 @@ fn faults_stand_before_the_verdict(rt: HostRuntime) -> Result<(), Fail> {
         verdict_of(1, Unit::Free, Verdict::Skipped(1, Unit::Rmap)),
         verdict_of(1, Unit::Refc, Verdict::Skipped(1, Unit::Rmap)),
     ];
-    assert_eq!(rt; end.journal.as_slice(), wanted.as_slice());
+    same(&rt, end.journal.as_slice(), wanted.as_slice());
     Ok(())
 }
 
@@ -145,18 +147,18 @@ fn each_read_of_the_device_may_fail(rt: HostRuntime) -> Result<(), Fail> {
             units += 1;
         }
         assert_eq!(rt; report, CUT_OFF[units.min(3)], "read {call}");
-        assert_eq!(rt; end.status, 5);
+        same(&rt, end.status, 5);
         assert_eq!(rt; [host.host_faults, host.dev_faults], [0, 1], "read {call}");
         most = call;
     }
-    assert_eq!(rt; units, 3);
+    same(&rt, units, 3);
     // A check makes no call behind the last that it needs.
     let (end, host) = check_failing(rt.alloc(), most.saturating_add(1))?;
     let report = format!(in rt.alloc();
         "{SOUND}0 bno missing 32 224\n0 bno extra 32 223\n0 free faulty 2\n0 refc good\n"
     )?;
     expect_end(&rt, &end, &host, 1, report.as_str())?;
-    assert_eq!(rt; host.dev_faults, 0);
+    same(&rt, host.dev_faults, 0);
     Ok(())
 }
 
@@ -167,8 +169,8 @@ fn how_often_each_block_is_read(rt: HostRuntime) -> Result<(), Fail> {
     let mut dev = MemDevice::with_image(alloc, image.size, 1, image.blocks, Vec::new(alloc))?;
     assert!(rt; judge(alloc, &mut dev, &mut NoWatch).is_ok());
     // The superblock is in block 0, beside the heads of group 0.
-    assert_eq!(rt; dev.reads_at(0), 2);
-    assert_eq!(rt; dev.reads_at(64), 1);
+    same(&rt, dev.reads_at(0), 2);
+    same(&rt, dev.reads_at(64), 1);
     for group in [0, 64u64] {
         // Each btree is read for the inodes and for the reverse mappings; those of the group's space
         // besides for their own units.
@@ -194,7 +196,7 @@ fn an_image_that_is_not_there_is_a_fault_of_the_host(rt: HostRuntime) -> Result<
     let words = ["check", "b.img"];
     let (end, host) = run_words(rt.alloc(), &words, image, Vec::new(rt.alloc()))?;
     expect_end(&rt, &end, &host, 5, "host failed\n")?;
-    assert_eq!(rt; [host.host_faults, host.dev_faults], [1, 0]);
+    same(&rt, [host.host_faults, host.dev_faults], [1, 0]);
     Ok(())
 }
 
@@ -210,8 +212,8 @@ fn a_report_ends_where_the_sink_fails(rt: HostRuntime) -> Result<(), Fail> {
         failing.push(call)?;
         let (end, host) = run_words(rt.alloc(), &["check", "a.img"], image, failing)?;
         expect_end(&rt, &end, &host, status, report)?;
-        assert_eq!(rt; [host.puts, host.sink_faults], counts);
-        assert_eq!(rt; end.journal.len(), 6);
+        same(&rt, [host.puts, host.sink_faults], counts);
+        same(&rt, end.journal.len(), 6);
     }
     let mut failing = Vec::new(rt.alloc());
     failing.push(0)?;

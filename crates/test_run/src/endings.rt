@@ -1,4 +1,5 @@
 //! How a journal that isn't the whole one is told.
+use super::same::same;
 use dinode_core::CoreFault;
 use fs_model::{Entry, Evidence, Reason, Unit, Verdict};
 use std::alloc::{AllocError, Global};
@@ -45,16 +46,24 @@ fn what_was_found_is_told_and_then_why_there_is_no_more(rt: HostRuntime) -> Resu
     for (line, failing, status, report) in &rows {
         let (told, host) = tell_to(rt.alloc(), ended(rt.alloc(), *line)?, *failing)?;
         let wanted = format!(in rt.alloc(); "{shown}{report}")?;
-        assert_eq!(rt; str::from_utf8(host.report.as_slice())?, wanted.as_str());
-        assert_eq!(rt; told.status, *status);
-        assert_eq!(rt; told.last, Some(*line));
-        assert_eq!(rt; told.journal.len(), 1);
+        same(
+            &rt,
+            str::from_utf8(host.report.as_slice())?,
+            wanted.as_str(),
+        );
+        same(&rt, told.status, *status);
+        same(&rt, told.last, Some(*line));
+        same(&rt, told.journal.len(), 1);
     }
     // An entry's line isn't taken.
     let (told, host) = tell_to(rt.alloc(), ended(rt.alloc(), LastLine::JournalFull)?, 0)?;
-    assert_eq!(rt; str::from_utf8(host.report.as_slice())?, "host failed\n");
-    assert_eq!(rt; told.status, Status::Failed);
-    assert_eq!(rt; Status::Full.code(), 7);
+    same(
+        &rt,
+        str::from_utf8(host.report.as_slice())?,
+        "host failed\n",
+    );
+    same(&rt, told.status, Status::Failed);
+    same(&rt, Status::Full.code(), 7);
     Ok(())
 }
 
@@ -103,9 +112,9 @@ fn a_long_report_goes_to_the_sink_in_pieces(rt: HostRuntime) -> Result<(), Fail>
             str::from_utf8(host.report.as_slice())? == wanted.as_str(),
             "{failing}"
         );
-        assert_eq!(rt; told.status, *status);
-        assert_eq!(rt; told.journal.len(), all);
-        assert_eq!(rt; host.puts, *puts);
+        same(&rt, told.status, *status);
+        same(&rt, told.journal.len(), all);
+        same(&rt, host.puts, *puts);
     }
     Ok(())
 }
@@ -143,8 +152,8 @@ fn the_verdicts_decide_the_status(rt: HostRuntime) -> Result<(), Fail> {
     ];
     for (verdicts, status, code) in &rows {
         let found = status_of(rt.alloc(), *verdicts)?;
-        assert_eq!(rt; found, *status);
-        assert_eq!(rt; found.code(), *code);
+        same(&rt, found, *status);
+        same(&rt, found.code(), *code);
     }
     Ok(())
 }

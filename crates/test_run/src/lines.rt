@@ -1,3 +1,4 @@
+use super::same::same;
 use ag_headers::HeadFault;
 use fs_model::Head;
 use geom::ImageFault;
@@ -7,36 +8,44 @@ use xscrub::{Command, LastLine, command_of, fixed_line, last_line};
 #[test]
 fn last_lines_name_the_cause(rt: HostRuntime) -> Result<(), Fail> {
     let feature = LastLine::Image(ImageFault::Feature(40));
-    assert_eq!(rt;
+    same(
+        &rt,
         last_line(rt.alloc(), &feature)?.as_str(),
-        "image feature 40\n"
+        "image feature 40\n",
     );
-    assert_eq!(rt; fixed_line(&feature), None);
+    same(&rt, fixed_line(&feature), None);
     let head = LastLine::Head {
         group: 0,
         head: Head::Agf,
         fault: HeadFault::Seqno,
     };
-    assert_eq!(rt;
+    same(
+        &rt,
         last_line(rt.alloc(), &head)?.as_str(),
-        "group 0 agf seqno\n"
+        "group 0 agf seqno\n",
     );
     let list = LastLine::Head {
         group: 0,
         head: Head::Agfl,
         fault: HeadFault::FreeList(3),
     };
-    assert_eq!(rt;
+    same(
+        &rt,
         last_line(rt.alloc(), &list)?.as_str(),
-        "group 0 agfl freelist 3\n"
+        "group 0 agfl freelist 3\n",
     );
     let short = LastLine::Image(ImageFault::DeviceShort);
-    assert_eq!(rt;
+    same(
+        &rt,
         last_line(rt.alloc(), &short)?.as_str(),
-        "image deviceshort\n"
+        "image deviceshort\n",
     );
-    assert_eq!(rt; fixed_line(&LastLine::Memory), Some("memory\n"));
-    assert_eq!(rt; fixed_line(&LastLine::JournalFull), Some("journal full\n"));
+    same(&rt, fixed_line(&LastLine::Memory), Some("memory\n"));
+    same(
+        &rt,
+        fixed_line(&LastLine::JournalFull),
+        Some("journal full\n"),
+    );
     Ok(())
 }
 
@@ -45,10 +54,11 @@ fn only_check_and_a_name_ask_for_a_check(rt: HostRuntime) -> Result<(), Fail> {
     let check = String::from_str(rt.alloc(), "check")?;
     let name = String::from_str(rt.alloc(), "a.img")?;
     let words = [check, name];
-    assert_eq!(rt;
+    same(
+        &rt,
         command_of(rt.alloc(), &words)?,
-        Command::Check("a.img", None)
+        Command::Check("a.img", None),
     );
-    assert_eq!(rt; command_of(rt.alloc(), &words[..1])?, Command::Usage);
+    same(&rt, command_of(rt.alloc(), &words[..1])?, Command::Usage);
     Ok(())
 }

@@ -1,4 +1,5 @@
 //! New images.
+use super::same::same;
 use crate::runs::expect_end;
 use byte_fields::Block;
 use fresh_image::fresh_block;
@@ -11,7 +12,7 @@ use xscrub::{MemHost, MemImage, Purpose, RunEnd, fsck_main};
 
 // Asserts that the stored image is the new one, block for block.
 fn expect_fresh<R: Abort>(rt: &R, image: &MemImage) {
-    assert_eq!(rt; image.size, 256);
+    same(rt, image.size, 256);
     for at in 0..256 {
         let block = match image.blocks.get(&at) {
             Some(block) => *block,
@@ -23,11 +24,11 @@ fn expect_fresh<R: Abort>(rt: &R, image: &MemImage) {
 
 // Asserts that the host was asked for a new image of 256 blocks, once.
 fn expect_asked<R: Abort>(rt: &R, host: &MemHost) {
-    assert_eq!(rt; host.asked.len(), 1);
+    same(rt, host.asked.len(), 1);
     for asked in &host.asked {
-        assert_eq!(rt; asked.image.as_str(), "a.img");
+        same(rt, asked.image.as_str(), "a.img");
         assert!(rt; asked.redo.is_none());
-        assert_eq!(rt; asked.purpose, Purpose::Make(256));
+        same(rt, asked.purpose, Purpose::Make(256));
     }
 }
 
@@ -39,8 +40,8 @@ fn a_new_image_takes_the_place_of_what_was_there_and_is_good(rt: HostRuntime) ->
         let before = bare_image(alloc, size, &[(0, small_heads()), (2, small_heads())])?;
         let (end, mut host) = run_words(alloc, &["make", "a.img"], before, Vec::new(alloc))?;
         expect_end(&rt, &end, &host, 0, "")?;
-        assert_eq!(rt; end.journal.len(), 0);
-        assert_eq!(rt; end.starts, [0, 0, 0]);
+        same(&rt, end.journal.len(), 0);
+        same(&rt, end.starts, [0, 0, 0]);
         expect_asked(&rt, &host);
         let made = host.images.get("a.img");
         assert!(rt; made.is_some());
@@ -72,7 +73,7 @@ fn each_call_of_the_device_that_fails_ends_the_making(rt: HostRuntime) -> Result
     for call in 0..257 {
         let (end, host) = make_failing(rt.alloc(), call)?;
         expect_end(&rt, &end, &host, 5, "device failed\n")?;
-        assert_eq!(rt; host.dev_faults, 1);
+        same(&rt, host.dev_faults, 1);
         expect_asked(&rt, &host);
     }
     Ok(())
@@ -84,7 +85,7 @@ fn an_image_that_can_t_be_made_is_the_host_s_fault(rt: HostRuntime) -> Result<()
     let other = bare_image(alloc, 3, &[(0, small_heads())])?;
     let (end, host) = run_words(alloc, &["make", "b.img"], other, Vec::new(alloc))?;
     expect_end(&rt, &end, &host, 5, "host failed\n")?;
-    assert_eq!(rt; host.host_faults, 1);
-    assert_eq!(rt; host.asked.len(), 1);
+    same(&rt, host.host_faults, 1);
+    same(&rt, host.asked.len(), 1);
     Ok(())
 }

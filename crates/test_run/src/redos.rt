@@ -1,4 +1,5 @@
 //! Checks with a redo file beside the image.
+use super::same::same;
 use crate::runs::expect_end;
 use byte_fields::Block;
 use small_images::{
@@ -56,17 +57,17 @@ fn a_redo_file_is_looked_at_by_its_length_and_its_gate(rt: HostRuntime) -> Resul
         let redo = redo_of(alloc, *size, *first)?;
         let (end, host) = check_beside(alloc, small_image(alloc)?, redo)?;
         expect_end(&rt, &end, &host, *status, report)?;
-        assert_eq!(rt; host.asked.len(), 1);
+        same(&rt, host.asked.len(), 1);
         for asked in &host.asked {
-            assert_eq!(rt; asked.image.as_str(), "a.img");
-            assert_eq!(rt; asked.redo.as_deref(), Some("b"));
-            assert_eq!(rt; asked.purpose, Purpose::Check);
+            same(&rt, asked.image.as_str(), "a.img");
+            same(&rt, asked.redo.as_deref(), Some("b"));
+            same(&rt, asked.purpose, Purpose::Check);
         }
         let kept = host.redos.get("b");
         assert!(rt; kept.is_some());
         if let Some(kept) = kept {
-            assert_eq!(rt; kept.size, *size);
-            assert_eq!(rt; kept.blocks.get(&0), Some(&gate(*first)));
+            same(&rt, kept.size, *size);
+            same(&rt, kept.blocks.get(&0), Some(&gate(*first)));
         }
     }
     Ok(())
@@ -131,7 +132,7 @@ fn a_device_that_fails_at_the_gate_ends_the_check(rt: HostRuntime) -> Result<(),
     for (call, first) in [(0, 0), (0, 1), (1, 0)] {
         let (end, host) = check_failing(rt.alloc(), call, first)?;
         expect_end(&rt, &end, &host, 5, "device failed\n")?;
-        assert_eq!(rt; host.dev_faults, 1);
+        same(&rt, host.dev_faults, 1);
     }
     // A gate that is open ends it before that.
     let (end, host) = check_failing(rt.alloc(), 1, 1)?;

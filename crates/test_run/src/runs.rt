@@ -1,4 +1,5 @@
 //! How a run over a host in memory is to end.
+use super::same::same;
 use small_images::run_words;
 use std::process::Abort;
 use std::test::Fail;
@@ -13,7 +14,7 @@ pub(crate) fn expect_end<R: Abort>(
     report: &str,
 ) -> Result<(), Fail> {
     let shown = str::from_utf8(host.report.as_slice())?;
-    assert_eq!(rt; shown, report);
+    same(rt, shown, report);
     assert_eq!(rt; end.status, status, "after {report}");
     Ok(())
 }

@@ -1,4 +1,5 @@
 //! What is heard of a check while it goes on.
+use super::same::same;
 use blk_device::MemDevice;
 use check_watch::{Phase, Watch};
 use small_images::two_groups_with;
@@ -54,6 +55,6 @@ fn each_phase_is_heard_from_its_begin_to_its_end(rt: HostRuntime) -> Result<(), 
         (Phase::Space, 1, 2),
         (Phase::Space, 2, 2),
     ];
-    assert_eq!(rt; heard.words.as_slice(), words.as_slice());
+    same(&rt, heard.words.as_slice(), words.as_slice());
     Ok(())
 }

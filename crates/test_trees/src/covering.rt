@@ -1,6 +1,7 @@
 // Searches for the records that have a block of a run.
 ghost use Rattle.std.specs.Prelude.{◌≡◌};
 
+use super::same::same;
 use crate::build::{BNO, NONE, REFC, RMAP, header_of};
 use crate::read::tree_at;
 use crate::small::{device_of, one_group, summed, with_word, with_words};
@@ -186,7 +187,7 @@ fn expect_walk(
     for _ in 0..169u16 {
         let rec = found::<RmapKind>(alloc, &tree, 2, run, after)?;
         let expected = scanned(recs, run, owner);
-        assert_eq!(rt; rec, Ok(expected));
+        same(rt, rec, Ok(expected));
         let Some(rec) = expected else {
             return Ok(());
         };
@@ -235,13 +236,13 @@ fn a_fault_is_told_where_the_way_goes_through_it(rt: HostRuntime) -> Result<(), 
         ..sound
     };
     let first = found::<RmapKind>(alloc, &tree, 2, within(10, 1), None)?;
-    assert_eq!(rt; first, Err(bad(40, BlockFault::Place)));
+    same(&rt, first, Err(bad(40, BlockFault::Place)));
     let last = found::<RmapKind>(alloc, &tree, 2, within(2309, 1), None)?;
-    assert_eq!(rt; last, Err(bad(40, BlockFault::Place)));
+    same(&rt, last, Err(bad(40, BlockFault::Place)));
     let behind = found::<RmapKind>(alloc, &tree, 2, within(2310, 1), None)?;
-    assert_eq!(rt; behind, Ok(Some(mapping(96))));
+    same(&rt, behind, Ok(Some(mapping(96))));
     let none = found::<RmapKind>(alloc, &tree, 2, within(1, 9), None)?;
-    assert_eq!(rt; none, Ok(None));
+    same(&rt, none, Ok(None));
     Ok(())
 }
 
@@ -264,11 +265,15 @@ fn free_space_is_found_by_its_blocks(rt: HostRuntime) -> Result<(), Fail> {
     ];
     for (start, count, expected) in &rows {
         let rec = found::<BnoKind>(alloc, &tree, 2, within(*start, *count), None)?;
-        assert_eq!(rt; rec, Ok(expected.map(|start| SpanRec { start, count: 3 })));
+        same(
+            &rt,
+            rec,
+            Ok(expected.map(|start| SpanRec { start, count: 3 })),
+        );
     }
     let after = SpanRec { start: 2, count: 3 };
     let next = found::<BnoKind>(alloc, &tree, 2, within(4, 4), Some(after))?;
-    assert_eq!(rt; next, Ok(Some(SpanRec { start: 7, count: 3 })));
+    same(&rt, next, Ok(Some(SpanRec { start: 7, count: 3 })));
     Ok(())
 }
 
@@ -279,11 +284,11 @@ fn roots_and_levels_that_no_tree_has_are_faults(rt: HostRuntime) -> Result<(), F
     for root in [0, 4096] {
         let tree = Tree { root, ..tree };
         let rec = found::<BnoKind>(alloc, &tree, 2, within(4, 1), None)?;
-        assert_eq!(rt; rec, Err(bad(root, BlockFault::Range)));
+        same(&rt, rec, Err(bad(root, BlockFault::Range)));
     }
     for levels in [0, 1, 3, 10] {
         let rec = found::<BnoKind>(alloc, &tree, levels, within(4, 1), None)?;
-        assert_eq!(rt; rec, Err(bad(1, BlockFault::Level)));
+        same(&rt, rec, Err(bad(1, BlockFault::Level)));
     }
     Ok(())
 }

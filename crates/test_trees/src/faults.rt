@@ -1,5 +1,6 @@
 // A tree of reverse mappings with three levels, one word of which is another: a root at block 1,
 // nodes at blocks 2 and 3, and the leaves 100 to 144 and 145 to 189 below them.
+use super::same::same;
 use crate::build::{RMAP, device_of, put_block_sum, put_word, three_levels};
 use crate::read::{NO_RUN, claims_of, first_runs, read_tree};
 use blk_device::MemDevice;
@@ -106,9 +107,9 @@ fn wrong_keys_and_siblings_take_no_claim(rt: HostRuntime) -> Result<(), Fail> {
     ];
     for (change, expected) in rows {
         let mut device = changed(alloc, change, true)?;
-        assert_eq!(rt; fault_of(alloc, &mut device), expected);
+        same(&rt, fault_of(alloc, &mut device), expected);
         let claims = claims_of::<RmapKind>(alloc, &mut device, 1, 3)?;
-        assert_eq!(rt; first_runs(&claims), WHOLE);
+        same(&rt, first_runs(&claims), WHOLE);
     }
     Ok(())
 }
@@ -147,9 +148,9 @@ fn what_lies_below_a_refused_node_is_not_claimed(rt: HostRuntime) -> Result<(), 
     ];
     for (change, fault, expected) in rows {
         let mut device = changed(alloc, change, true)?;
-        assert_eq!(rt; fault_of(alloc, &mut device), fault);
+        same(&rt, fault_of(alloc, &mut device), fault);
         let claims = claims_of::<RmapKind>(alloc, &mut device, 1, 3)?;
-        assert_eq!(rt; first_runs(&claims), expected);
+        same(&rt, first_runs(&claims), expected);
     }
     Ok(())
 }
@@ -158,13 +159,21 @@ fn what_lies_below_a_refused_node_is_not_claimed(rt: HostRuntime) -> Result<(), 
 fn a_block_without_its_checksum_leads_nowhere(rt: HostRuntime) -> Result<(), Fail> {
     let alloc = rt.alloc();
     let mut node = changed(alloc, (3, 24, 9), false)?;
-    assert_eq!(rt; fault_of(alloc, &mut node), bad(3, BlockFault::Checksum));
+    same(
+        &rt,
+        fault_of(alloc, &mut node),
+        bad(3, BlockFault::Checksum),
+    );
     let claims = claims_of::<RmapKind>(alloc, &mut node, 1, 3)?;
-    assert_eq!(rt; first_runs(&claims), LEFT_HALF);
+    same(&rt, first_runs(&claims), LEFT_HALF);
     let mut leaf = changed(alloc, (145, 24, 9), false)?;
-    assert_eq!(rt; fault_of(alloc, &mut leaf), bad(145, BlockFault::Checksum));
+    same(
+        &rt,
+        fault_of(alloc, &mut leaf),
+        bad(145, BlockFault::Checksum),
+    );
     let claims = claims_of::<RmapKind>(alloc, &mut leaf, 1, 3)?;
-    assert_eq!(rt; first_runs(&claims), WHOLE);
+    same(&rt, first_runs(&claims), WHOLE);
     Ok(())
 }
 
@@ -187,9 +196,9 @@ fn pointers_to_blocks_of_the_tree_are_claimed_once(rt: HostRuntime) -> Result<()
     ];
     for (change, fault, expected) in rows {
         let mut device = changed(alloc, change, true)?;
-        assert_eq!(rt; fault_of(alloc, &mut device), fault);
+        same(&rt, fault_of(alloc, &mut device), fault);
         let claims = claims_of::<RmapKind>(alloc, &mut device, 1, 3)?;
-        assert_eq!(rt; first_runs(&claims), expected);
+        same(&rt, first_runs(&claims), expected);
     }
     Ok(())
 }
@@ -209,7 +218,7 @@ fn heads_that_no_tree_has_claim_the_root_at_most(rt: HostRuntime) -> Result<(), 
     for ((root, levels), expected) in rows {
         let mut device = device_of(alloc, three_levels(alloc, &RMAP)?)?;
         let claims = claims_of::<RmapKind>(alloc, &mut device, root, levels)?;
-        assert_eq!(rt; first_runs(&claims), expected);
+        same(&rt, first_runs(&claims), expected);
     }
     Ok(())
 }

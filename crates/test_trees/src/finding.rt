@@ -2,6 +2,7 @@
 ghost use Rattle.std.specs.Prelude.{◌≡◌};
 ghost use Rattle.sblock.specs.declared.kind.Kind.TheVariants.{Bno};
 
+use super::same::same;
 use crate::build::{BNO, NONE, header_of};
 use crate::read::tree_at;
 use crate::small::{device_of, one_group, summed, with_word, with_words};
@@ -241,18 +242,21 @@ fn blocks_beside_the_way_are_not_tested(rt: HostRuntime) -> Result<(), Fail> {
     let alloc = rt.alloc();
     let low = Ok((252, Some(free(2)), Some(free(504))));
     let wrong = bad(41, BlockFault::Place);
-    assert_eq!(rt;
+    same(
+        &rt,
         found(alloc, one_wrong_leaf(alloc)?, 1, 2, 4),
-        Ok(Some(free(4)))
+        Ok(Some(free(4))),
     );
-    assert_eq!(rt;
+    same(
+        &rt,
         found(alloc, one_wrong_leaf(alloc)?, 1, 2, 1000),
-        Err(wrong)
+        Err(wrong),
     );
-    assert_eq!(rt; next(alloc, one_wrong_leaf(alloc)?, 2, None), low);
-    assert_eq!(rt;
+    same(&rt, next(alloc, one_wrong_leaf(alloc)?, 2, None), low);
+    same(
+        &rt,
         next(alloc, one_wrong_leaf(alloc)?, 2, Some(free(504))),
-        Err(wrong)
+        Err(wrong),
     );
     Ok(())
 }
@@ -263,8 +267,8 @@ fn an_empty_root_leaf_has_no_records(rt: HostRuntime) -> Result<(), Fail> {
     let empty = summed(header_of(BNO.magic, 1, 0, 0, [NONE, NONE]));
     let first = device_of(alloc, [empty, empty, empty])?;
     let second = device_of(alloc, [empty, empty, empty])?;
-    assert_eq!(rt; found(alloc, first, 1, 1, 2), Ok(None));
-    assert_eq!(rt; next(alloc, second, 1, None), Ok((0, None, None)));
+    same(&rt, found(alloc, first, 1, 1, 2), Ok(None));
+    same(&rt, next(alloc, second, 1, None), Ok((0, None, None)));
     Ok(())
 }
 
@@ -273,17 +277,17 @@ fn a_root_that_no_tree_has_is_told(rt: HostRuntime) -> Result<(), Fail> {
     let alloc = rt.alloc();
     for root in [0, 4096] {
         let answer = found(alloc, two_leaves(alloc)?, root, 2, 4);
-        assert_eq!(rt; answer, Err(bad(root, BlockFault::Range)));
+        same(&rt, answer, Err(bad(root, BlockFault::Range)));
     }
     for levels in [0, 1, 3, 10] {
         let answer = found(alloc, two_leaves(alloc)?, 1, levels, 4);
-        assert_eq!(rt; answer, Err(bad(1, BlockFault::Level)));
+        same(&rt, answer, Err(bad(1, BlockFault::Level)));
         let answer = next(alloc, two_leaves(alloc)?, levels, None);
-        assert_eq!(rt; answer, Err(bad(1, BlockFault::Level)));
+        same(&rt, answer, Err(bad(1, BlockFault::Level)));
     }
     // A block of zeros has no magic.
     let answer = found(alloc, two_leaves(alloc)?, 2, 10, 4);
-    assert_eq!(rt; answer, Err(bad(2, BlockFault::Magic)));
+    same(&rt, answer, Err(bad(2, BlockFault::Magic)));
     Ok(())
 }
 
@@ -291,13 +295,13 @@ fn a_root_that_no_tree_has_is_told(rt: HostRuntime) -> Result<(), Fail> {
 fn the_last_record_is_that_of_the_last_leaf(rt: HostRuntime) -> Result<(), Fail> {
     let alloc = rt.alloc();
     let whole = last_of(alloc, two_leaves(alloc)?, 1, 2);
-    assert_eq!(rt; whole, Ok(Some(free(1502))));
+    same(&rt, whole, Ok(Some(free(1502))));
     let wrong = last_of(alloc, one_wrong_leaf(alloc)?, 1, 2);
-    assert_eq!(rt; wrong, Err(bad(41, BlockFault::Place)));
+    same(&rt, wrong, Err(bad(41, BlockFault::Place)));
     let leaf = last_of(alloc, two_leaves(alloc)?, 0, 2);
-    assert_eq!(rt; leaf, Err(bad(0, BlockFault::Range)));
+    same(&rt, leaf, Err(bad(0, BlockFault::Range)));
     let empty = summed(header_of(BNO.magic, 1, 0, 0, [NONE, NONE]));
     let none = last_of(alloc, device_of(alloc, [empty, empty, empty])?, 1, 1);
-    assert_eq!(rt; none, Ok(None));
+    same(&rt, none, Ok(None));
     Ok(())
 }

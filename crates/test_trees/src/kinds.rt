@@ -1,4 +1,5 @@
 // Trees of one, two and three levels of each kind.
+use super::same::same;
 use crate::build::{
     BNO, CNT, FINO, INO, REFC, RMAP, Shape, device_of, one_level, three_levels, two_levels,
 };
@@ -20,9 +21,9 @@ fn a_root_leaf_is_read_whole(rt: HostRuntime) -> Result<(), Fail> {
     };
     for shape in SHAPES {
         let mut device = device_of(alloc, one_level(alloc, &shape)?)?;
-        assert_eq!(rt; counted(alloc, &mut device, shape.kind, 1)?, counts);
+        same(&rt, counted(alloc, &mut device, shape.kind, 1)?, counts);
         let claims = claims_by_kind(alloc, &mut device, shape.kind, 1, 1)?;
-        assert_eq!(rt; first_runs(&claims), [root, NO_RUN, NO_RUN, NO_RUN]);
+        same(&rt, first_runs(&claims), [root, NO_RUN, NO_RUN, NO_RUN]);
     }
     Ok(())
 }
@@ -42,9 +43,9 @@ fn a_root_over_three_leaves_is_read_whole(rt: HostRuntime) -> Result<(), Fail> {
             blocks: 4,
             last: 42,
         };
-        assert_eq!(rt; counted(alloc, &mut device, shape.kind, 2)?, counts);
+        same(&rt, counted(alloc, &mut device, shape.kind, 2)?, counts);
         let claims = claims_by_kind(alloc, &mut device, shape.kind, 1, 2)?;
-        assert_eq!(rt; first_runs(&claims), [root, leaves, NO_RUN, NO_RUN]);
+        same(&rt, first_runs(&claims), [root, leaves, NO_RUN, NO_RUN]);
     }
     Ok(())
 }
@@ -61,13 +62,13 @@ fn a_root_over_two_nodes_is_read_whole(rt: HostRuntime) -> Result<(), Fail> {
             blocks: 3 + 2 * usize::from(shape.node),
             last: 99 + leaves,
         };
-        assert_eq!(rt; counted(alloc, &mut device, shape.kind, 3)?, counts);
+        same(&rt, counted(alloc, &mut device, shape.kind, 3)?, counts);
         let claims = claims_by_kind(alloc, &mut device, shape.kind, 1, 3)?;
         let low = Run {
             start: 100,
             count: leaves,
         };
-        assert_eq!(rt; first_runs(&claims), [top, low, NO_RUN, NO_RUN]);
+        same(&rt, first_runs(&claims), [top, low, NO_RUN, NO_RUN]);
     }
     Ok(())
 }
@@ -91,7 +92,7 @@ fn each_block_of_a_tree_of_300_leaves_is_read_once(rt: HostRuntime) -> Result<()
         blocks: 301,
         last: 339,
     };
-    assert_eq!(rt; counted(alloc, &mut walked, BNO.kind, 2)?, counts);
+    same(&rt, counted(alloc, &mut walked, BNO.kind, 2)?, counts);
     assert!(rt; were_read_once(&walked, 1, 1) && were_read_once(&walked, 40, 300));
     let mut looked_at = device_of(alloc, two_levels(alloc, &BNO, 300)?)?;
     let _ = claims_by_kind(alloc, &mut looked_at, BNO.kind, 1, 2)?;

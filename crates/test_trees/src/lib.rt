@@ -16,6 +16,8 @@ mod pieces;
 #[cfg(test)]
 mod read;
 #[cfg(test)]
+mod same;
+#[cfg(test)]
 mod single;
 #[cfg(test)]
 mod sites;

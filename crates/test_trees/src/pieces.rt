@@ -2,6 +2,7 @@
 // 100 to 144 and 145 to 189 below them, of 84 records each.
 ghost use Rattle.std.specs.Prelude.{◌≡◌};
 
+use super::same::same;
 use crate::build::{LENGTH, RMAP, device_of, three_levels};
 use crate::read::{one_group, read_tree, tree_at};
 use blk_cache::BlkCache;
@@ -72,8 +73,8 @@ fn a_block_is_met_with_the_first_leaf_below_it(rt: HostRuntime) -> Result<(), Fa
     ];
     for (after, count, blocks) in rows {
         let piece = piece_of(alloc, &mut device, after)?;
-        assert_eq!(rt; piece.recs.len(), count);
-        assert_eq!(rt; piece.blocks.as_slice(), blocks);
+        same(&rt, piece.recs.len(), count);
+        same(&rt, piece.blocks.as_slice(), blocks);
     }
     Ok(())
 }
@@ -99,7 +100,7 @@ fn pieces_are_in_sum_what_a_walk_reads(rt: HostRuntime) -> Result<(), Fail> {
         records = records.wrapping_add(piece.recs.len());
         after = piece.recs.as_slice().last().map(RmapKind::key_of);
     }
-    assert_eq!(rt; records, 7560);
-    assert_eq!(rt; blocks.as_slice(), walked.blocks.as_slice());
+    same(&rt, records, 7560);
+    same(&rt, blocks.as_slice(), walked.blocks.as_slice());
     Ok(())
 }

@@ -1,6 +1,7 @@
 // A leaf of free space by start, the root of its tree, in a group of 4,096 blocks.
 ghost use Rattle.std.specs.Prelude.{◌≡◌};
 
+use super::same::same;
 use crate::build::{BNO, NONE, UUID, header_of, put_word, put_words};
 use crate::small::summed;
 use blk_cache::BlkCache;
@@ -89,7 +90,7 @@ fn a_block_is_opened_whatever_its_left_sibling_is(rt: HostRuntime) -> Result<(),
     for left in [NONE, 7] {
         let leaf = leaf_of(left, NONE);
         let opened = open_root(alloc, device_of(alloc, leaf)?, 0)?;
-        assert_eq!(rt; opened.bytes, leaf.bytes);
+        same(&rt, opened.bytes, leaf.bytes);
     }
     Ok(())
 }
@@ -99,10 +100,15 @@ fn the_first_test_that_a_block_fails_is_told(rt: HostRuntime) -> Result<(), Fail
     let alloc = rt.alloc();
     let site = whole_group();
     let mut leaf = leaf_of(NONE, NONE);
-    assert_eq!(rt; lone_fault_of::<BnoKind>(&leaf, &site, 0, true, 1), None);
-    assert_eq!(rt;
+    same(
+        &rt,
+        lone_fault_of::<BnoKind>(&leaf, &site, 0, true, 1),
+        None,
+    );
+    same(
+        &rt,
         lone_fault_of::<BnoKind>(&leaf, &site, 0, true, 2),
-        Some(BlockFault::Place)
+        Some(BlockFault::Place),
     );
     put_word(&mut leaf, 60, 6);
     let device = device_of(alloc, leaf)?;
@@ -110,6 +116,6 @@ fn the_first_test_that_a_block_fails_is_told(rt: HostRuntime) -> Result<(), Fail
         block: 1,
         fault: BlockFault::Checksum,
     };
-    assert_eq!(rt; open_root(alloc, device, 0).err(), Some(expected));
+    same(&rt, open_root(alloc, device, 0).err(), Some(expected));
     Ok(())
 }

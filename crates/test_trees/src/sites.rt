@@ -1,5 +1,6 @@
 ghost use Rattle.std.specs.Prelude.{◌≡◌};
 
+use super::same::same;
 use geom::Geometry;
 use sblock::Bounds;
 use tree_defs::Site;
@@ -32,8 +33,9 @@ fn the_last_group_is_shorter(rt: HostRuntime) {
         last: 100,
         agblklog: 12,
     };
-    assert_eq!(rt; [middle.first, last.first], [4096, 8192]);
-    assert_eq!(rt; [middle.bounds.length, middle.bounds.last], [4096, 100]);
-    assert_eq!(rt; last.bounds, bounds);
-    assert_eq!(rt; (last.group, last.uuid), (2, [7; 16]));
+    same(&rt, [middle.first, last.first], [4096, 8192]);
+    same(&rt, [middle.bounds.length, middle.bounds.last], [4096, 100]);
+    same(&rt, last.bounds, bounds);
+    same(&rt, last.group, 2);
+    same(&rt, &last.uuid, &[7; 16]);
 }

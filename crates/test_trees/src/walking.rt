@@ -1,4 +1,5 @@
 // Trees in a group of 1,048,576 blocks, the only one.
+use super::same::same;
 use crate::build::{BNO, device_of, two_levels};
 use crate::read::read_tree;
 use sblock::BlockFault;
@@ -16,9 +17,9 @@ fn records_and_blocks_are_told_in_their_order(rt: HostRuntime) -> Result<(), Fai
         start: 1008,
         count: 1,
     };
-    assert_eq!(rt; read.blocks.as_slice(), [1, 40, 41].as_slice());
+    same(&rt, read.blocks.as_slice(), [1, 40, 41].as_slice());
     assert_eq!(rt; read.recs.len(), 504);
-    assert_eq!(rt; [read.recs[0], read.recs[503]], [first, last]);
+    same(&rt, [read.recs[0], read.recs[503]], [first, last]);
     Ok(())
 }
 
@@ -32,7 +33,7 @@ fn levels_that_no_tree_has_are_a_fault_of_the_root(rt: HostRuntime) -> Result<()
     for levels in [0, 1, 3, 10] {
         let mut device = device_of(alloc, two_levels(alloc, &BNO, 2)?)?;
         let answer = read_tree::<BnoKind>(alloc, &mut device, levels).err();
-        assert_eq!(rt; answer, Some(fault));
+        same(&rt, answer, Some(fault));
     }
     Ok(())
 }
