@@ -7,11 +7,11 @@ use crate::trees::{
 };
 use byte_fields::Block;
 use fresh_image::fresh_block;
+use image_hosts::MemImage;
 use rmap_recs::RmapRec;
 use span_recs::{RefcRec, SpanRec};
 use std::alloc::{AllocError, Global};
 use std::collections::BTreeMap;
-use xscrub::MemImage;
 
 /// The one group of the small image: 256 blocks, of which (19, 5) and (32, 224) are free.
 pub fn small_group() -> Group {

@@ -1,7 +1,8 @@
 //! Runs of the whole program over a host in memory.
+use image_hosts::{MemHost, MemImage};
 use std::alloc::{AllocError, Global};
 use std::collections::BTreeMap;
-use xscrub::{MemHost, MemImage, RunEnd, fsck_main};
+use xscrub::{RunEnd, fsck_main};
 
 /// What a check of one group shows before its free space, where its inodes and its reverse mappings
 /// are good.

@@ -1,22 +1,32 @@
 use super::same::same;
-use crate::runs::expect_end;
+use crate::runs::{MEMORY, expect_end, image_with, run_over, two_group_device};
 use blk_device::MemDevice;
 use byte_fields::Block;
 use check_watch::NoWatch;
 use fs_model::{AnyRec, Entry, Fault, Unit, Verdict};
+use image_hosts::{MemHost, MemImage, Purpose};
 use sblock::{BlockFault, Kind};
 use small_images::{
-    ALL_GOOD, SOUND, at, bno_leaf, run, run_words, small_image, small_with, two_groups_with,
+    ALL_GOOD, at, bno_leaf, run, run_words, small_image, small_with, two_groups_with,
 };
 use std::alloc::{AllocError, Global};
-use std::test::Fail;
-use xscrub::{MemHost, Purpose, RunEnd, judge};
+use std::process::Abort;
+use xscrub::{RunEnd, judge};
 
 const USAGE: &str =
     "usage: xscrub JOB TARGET [--redo FILE] [--script FILE] [--rebuild] [--turns N]\n";
 
+// Asserts how these words end, and that they open no image.
+fn expect_unopened(rt: &impl Abort, alloc: Global, words: &[&str], status: u8, report: &str) {
+    let image = small_image(alloc).expect(rt, MEMORY);
+    let (end, host) = run_over(rt, alloc, words, image);
+    expect_end(rt, &end, &host, status, report);
+    same(rt, host.asked.len(), 0);
+    same(rt, end.journal.len(), 0);
+}
+
 #[test]
-fn words_that_ask_for_no_check_open_no_image(rt: HostRuntime) -> Result<(), Fail> {
+fn words_that_ask_for_no_check_open_no_image(rt: HostRuntime) {
     let none: [&str; 0] = [];
     let rows: [(&[&str], u8, &str); 13] = [
         (&none, 2, USAGE),
@@ -38,79 +48,84 @@ fn words_that_ask_for_no_check_open_no_image(rt: HostRuntime) -> Result<(), Fail
         (&["make", "a.img", "--redo", "b"], 2, USAGE),
     ];
     for (words, status, report) in &rows {
-        let image = small_image(rt.alloc())?;
-        let (end, host) = run_words(rt.alloc(), words, image, Vec::new(rt.alloc()))?;
-        expect_end(&rt, &end, &host, *status, report)?;
-        same(&rt, host.asked.len(), 0);
-        same(&rt, end.journal.len(), 0);
+        expect_unopened(&rt, rt.alloc(), words, *status, report);
     }
-    Ok(())
 }
 
-#[test]
-fn a_sound_image_is_good(rt: HostRuntime) -> Result<(), Fail> {
-    let image = small_image(rt.alloc())?;
-    let words = ["check", "a.img"];
-    let (end, host) = run_words(rt.alloc(), &words, image, Vec::new(rt.alloc()))?;
-    expect_end(&rt, &end, &host, 0, ALL_GOOD)?;
-    let good = |unit| Entry::Verdict {
-        group: 0,
-        unit,
-        verdict: Verdict::Good,
-    };
-    let journal = [
-        good(Unit::Inode),
-        good(Unit::Rmap),
-        good(Unit::Free),
-        good(Unit::Refc),
-    ];
-    same(&rt, end.journal.as_slice(), journal.as_slice());
-    same(&rt, end.starts, [0, 4, 4]);
-    assert_eq!(rt; host.asked.len(), 1);
-    same(&rt, host.asked[0].image.as_str(), "a.img");
-    same(&rt, &host.asked[0].redo, &None);
-    same(&rt, host.asked[0].purpose, Purpose::Check);
-    same(
-        &rt,
-        [host.host_faults, host.dev_faults, host.sink_faults],
-        [0, 0, 0],
-    );
-    Ok(())
+// Asserts that the host was asked for the image alone, once, to be checked.
+fn expect_asked(rt: &impl Abort, host: &MemHost) {
+    same(rt, host.asked.len(), 1);
+    for asked in &host.asked {
+        same(rt, asked.image.as_str(), "a.img");
+        same(rt, &asked.redo, &None);
+        same(rt, asked.purpose, Purpose::Check);
+    }
 }
 
-#[test]
-fn faults_stand_before_the_verdict(rt: HostRuntime) -> Result<(), Fail> {
-    // Of the first group a free run is too short, and the second has no reverse mappings.
-    let short = bno_leaf(at(1), &[run(19, 5), run(32, 31)]);
-    let image = two_groups_with(rt.alloc(), &[(1, short), (69, Block::zeroed())])?;
-    let words = ["check", "a.img"];
-    let (end, _host) = run_words(rt.alloc(), &words, image, Vec::new(rt.alloc()))?;
-    let fault_of = |group, unit, fault| Entry::Fault { group, unit, fault };
-    let verdict_of = |group, unit, verdict| Entry::Verdict {
+fn verdict_of(group: u32, unit: Unit, verdict: Verdict) -> Entry {
+    Entry::Verdict {
         group,
         unit,
         verdict,
-    };
+    }
+}
+
+fn good(group: u32, unit: Unit) -> Entry {
+    verdict_of(group, unit, Verdict::Good)
+}
+
+#[test]
+fn a_sound_image_is_good(rt: HostRuntime) {
+    let alloc = rt.alloc();
+    let image = small_image(alloc).expect(&rt, MEMORY);
+    let (end, host) = run_over(&rt, alloc, &["check", "a.img"], image);
+    expect_end(&rt, &end, &host, 0, ALL_GOOD);
+    let journal = [
+        good(0, Unit::Inode),
+        good(0, Unit::Rmap),
+        good(0, Unit::Free),
+        good(0, Unit::Refc),
+    ];
+    same(&rt, end.journal.as_slice(), journal.as_slice());
+    same(&rt, end.starts, [0, 4, 4]);
+    expect_asked(&rt, &host);
+    let faults = [host.host_faults, host.dev_faults, host.sink_faults];
+    same(&rt, faults, [0, 0, 0]);
+}
+
+// An image of two groups: of the first a free run is too short, and the second has no reverse mappings.
+fn two_faulty_groups(rt: &impl Abort, alloc: Global) -> MemImage {
+    let short = bno_leaf(at(1), &[run(19, 5), run(32, 31)]);
+    two_groups_with(alloc, &[(1, short), (69, Block::zeroed())]).expect(rt, MEMORY)
+}
+
+fn fault_of(group: u32, unit: Unit, fault: Fault) -> Entry {
+    Entry::Fault { group, unit, fault }
+}
+
+#[test]
+fn faults_stand_before_the_verdict(rt: HostRuntime) {
+    let image = two_faulty_groups(&rt, rt.alloc());
+    let (end, _host) = run_over(&rt, rt.alloc(), &["check", "a.img"], image);
     let unread = Fault::Block {
         kind: Kind::Rmap,
         block: 5,
         fault: BlockFault::Magic,
     };
     let wanted = [
-        verdict_of(0, Unit::Inode, Verdict::Good),
-        verdict_of(1, Unit::Inode, Verdict::Good),
-        verdict_of(0, Unit::Rmap, Verdict::Good),
+        good(0, Unit::Inode),
+        good(1, Unit::Inode),
+        good(0, Unit::Rmap),
         fault_of(1, Unit::Rmap, unread),
         verdict_of(1, Unit::Rmap, Verdict::Faulty(1)),
         fault_of(0, Unit::Free, Fault::Missing(AnyRec::Bno(run(32, 32)))),
         fault_of(0, Unit::Free, Fault::Extra(AnyRec::Bno(run(32, 31)))),
         verdict_of(0, Unit::Free, Verdict::Faulty(2)),
-        verdict_of(0, Unit::Refc, Verdict::Good),
+        good(0, Unit::Refc),
         verdict_of(1, Unit::Free, Verdict::Skipped(1, Unit::Rmap)),
         verdict_of(1, Unit::Refc, Verdict::Skipped(1, Unit::Rmap)),
     ];
     same(&rt, end.journal.as_slice(), wanted.as_slice());
-    Ok(())
 }
 
 // What a check of the image with a run that is too short shows of its units, of none to all but the last,
@@ -123,6 +138,10 @@ const CUT_OFF: [&str; 4] = [
         device failed\n",
 ];
 
+// What the whole check of that image shows.
+const FAULTY_FREE: &str =
+    "0 inode good\n0 rmap good\n0 bno missing 32 224\n0 bno extra 32 223\n0 free faulty 2\n0 refc good\n";
+
 // Checks that image, of whose device this call fails.
 fn check_failing(alloc: Global, call: u64) -> Result<(RunEnd, MemHost), AllocError> {
     let short = bno_leaf(at(1), &[run(19, 5), run(32, 223)]);
@@ -131,92 +150,105 @@ fn check_failing(alloc: Global, call: u64) -> Result<(RunEnd, MemHost), AllocErr
     run_words(alloc, &["check", "a.img"], image, Vec::new(alloc))
 }
 
+// How many units are shown where this call fails, as many as where the call before it failed or one
+// more; asserts how the check ends then. No answer where the check makes no such call.
+fn units_shown(rt: &impl Abort, alloc: Global, call: u64, before: usize) -> Option<usize> {
+    let (end, host) = check_failing(alloc, call).expect(rt, MEMORY);
+    if end.status == 1 {
+        return None;
+    }
+    let shown = str::from_utf8(host.report.as_slice()).expect(rt, "a report is text");
+    let has_more = before < 3 && shown == CUT_OFF[before + 1];
+    let units = if has_more { before + 1 } else { before };
+    same(rt, (call, shown), (call, CUT_OFF[units.min(3)]));
+    same(rt, end.status, 5);
+    same(rt, (call, host.host_faults, host.dev_faults), (call, 0, 1));
+    Some(units)
+}
+
 #[test]
-fn each_read_of_the_device_may_fail(rt: HostRuntime) -> Result<(), Fail> {
+fn each_read_of_the_device_may_fail(rt: HostRuntime) {
     // Superblock and heads are read before any unit. From then on what was judged before the read that
     // fails is shown, each unit with all its lines, and each unit reads something.
     let mut units = 0usize;
     let mut most = 0;
     for call in 0..1000u64 {
-        let (end, host) = check_failing(rt.alloc(), call)?;
-        if end.status == 1 {
-            break;
+        match units_shown(&rt, rt.alloc(), call, units) {
+            Some(shown) => units = shown,
+            None => break,
         }
-        let report = str::from_utf8(host.report.as_slice())?;
-        if units < 3 && report == CUT_OFF[units + 1] {
-            units += 1;
-        }
-        assert_eq!(rt; report, CUT_OFF[units.min(3)], "read {call}");
-        same(&rt, end.status, 5);
-        assert_eq!(rt; [host.host_faults, host.dev_faults], [0, 1], "read {call}");
         most = call;
     }
     same(&rt, units, 3);
     // A check makes no call behind the last that it needs.
-    let (end, host) = check_failing(rt.alloc(), most.saturating_add(1))?;
-    let report = format!(in rt.alloc();
-        "{SOUND}0 bno missing 32 224\n0 bno extra 32 223\n0 free faulty 2\n0 refc good\n"
-    )?;
-    expect_end(&rt, &end, &host, 1, report.as_str())?;
+    let (end, host) = check_failing(rt.alloc(), most.saturating_add(1)).expect(&rt, MEMORY);
+    expect_end(&rt, &end, &host, 1, FAULTY_FREE);
     same(&rt, host.dev_faults, 0);
-    Ok(())
+}
+
+// Asserts how often each of these blocks was read, whose numbers count from block `group` on.
+fn expect_reads(rt: &impl Abort, dev: &MemDevice, group: u64, blocks: &[u64], reads: u64) {
+    for block in blocks {
+        let at = group.wrapping_add(*block);
+        same(rt, (at, dev.reads_at(at)), (at, reads));
+    }
 }
 
 #[test]
-fn how_often_each_block_is_read(rt: HostRuntime) -> Result<(), Fail> {
+fn how_often_each_block_is_read(rt: HostRuntime) {
     let alloc = rt.alloc();
-    let image = two_groups_with(alloc, &[])?;
-    let mut dev = MemDevice::with_image(alloc, image.size, 1, image.blocks, Vec::new(alloc))?;
+    let mut dev = two_group_device(&rt, alloc);
     assert!(rt; judge(alloc, &mut dev, &mut NoWatch).is_ok());
     // The superblock is in block 0, beside the heads of group 0.
-    same(&rt, dev.reads_at(0), 2);
-    same(&rt, dev.reads_at(64), 1);
-    for group in [0, 64u64] {
+    expect_reads(&rt, &dev, 0, &[0], 2);
+    expect_reads(&rt, &dev, 64, &[0], 1);
+    for group in [0, 64] {
         // Each btree is read for the inodes and for the reverse mappings; those of the group's space
         // besides for their own units.
-        for block in [1, 2, 5, 6] {
-            let at = group.wrapping_add(block);
-            assert_eq!(rt; dev.reads_at(at), 3, "block {at}");
-        }
-        for block in [3, 4] {
-            let at = group.wrapping_add(block);
-            assert_eq!(rt; dev.reads_at(at), 2, "block {at}");
-        }
+        expect_reads(&rt, &dev, group, &[1, 2, 5, 6], 3);
+        expect_reads(&rt, &dev, group, &[3, 4], 2);
     }
     // A chunk is read for its cores, which show the forks of its inodes too.
-    for block in 24..32 {
-        assert_eq!(rt; dev.reads_at(block), 1, "block {block}");
-    }
-    Ok(())
+    expect_reads(&rt, &dev, 0, &[24, 25, 26, 27, 28, 29, 30, 31], 1);
 }
 
 #[test]
-fn an_image_that_is_not_there_is_a_fault_of_the_host(rt: HostRuntime) -> Result<(), Fail> {
-    let image = small_image(rt.alloc())?;
-    let words = ["check", "b.img"];
-    let (end, host) = run_words(rt.alloc(), &words, image, Vec::new(rt.alloc()))?;
-    expect_end(&rt, &end, &host, 5, "host failed\n")?;
+fn an_image_that_is_not_there_is_a_fault_of_the_host(rt: HostRuntime) {
+    let image = small_image(rt.alloc()).expect(&rt, MEMORY);
+    let (end, host) = run_over(&rt, rt.alloc(), &["check", "b.img"], image);
+    expect_end(&rt, &end, &host, 5, "host failed\n");
     same(&rt, [host.host_faults, host.dev_faults], [1, 0]);
-    Ok(())
+}
+
+// Runs the words over this image, for a sink that refuses the call of this number.
+fn run_refusing(
+    alloc: Global,
+    words: &[&str],
+    image: MemImage,
+    call: u64,
+) -> Result<(RunEnd, MemHost), AllocError> {
+    let mut failing = Vec::new(alloc);
+    failing.push(call)?;
+    run_words(alloc, words, image, failing)
 }
 
 #[test]
-fn a_report_ends_where_the_sink_fails(rt: HostRuntime) -> Result<(), Fail> {
+fn a_report_ends_where_the_sink_fails(rt: HostRuntime) {
+    let alloc = rt.alloc();
     // The few lines of this report go to the sink at once.
-    let lines =
-        "0 inode good\n0 rmap good\n0 bno missing 32 224\n0 bno extra 32 223\n0 free faulty 2\n0 refc good\n";
-    for (call, status, report, counts) in [(0, 5, "host failed\n", [2, 1]), (1, 1, lines, [1, 0])] {
+    for (call, status, report, counts) in [
+        (0, 5, "host failed\n", [2, 1]),
+        (1, 1, FAULTY_FREE, [1, 0]),
+    ] {
         let short = bno_leaf(at(1), &[run(19, 5), run(32, 223)]);
-        let image = small_with(rt.alloc(), &[(1, short)])?;
-        let mut failing = Vec::new(rt.alloc());
-        failing.push(call)?;
-        let (end, host) = run_words(rt.alloc(), &["check", "a.img"], image, failing)?;
-        expect_end(&rt, &end, &host, status, report)?;
+        let image = image_with(&rt, alloc, &[(1, short)]);
+        let ran = run_refusing(alloc, &["check", "a.img"], image, call);
+        let (end, host) = ran.expect(&rt, MEMORY);
+        expect_end(&rt, &end, &host, status, report);
         same(&rt, [host.puts, host.sink_faults], counts);
         same(&rt, end.journal.len(), 6);
     }
-    let mut failing = Vec::new(rt.alloc());
-    failing.push(0)?;
-    let (end, host) = run_words(rt.alloc(), &["check"], small_image(rt.alloc())?, failing)?;
-    expect_end(&rt, &end, &host, 2, "")
+    let image = small_image(alloc).expect(&rt, MEMORY);
+    let (end, host) = run_refusing(alloc, &["check"], image, 0).expect(&rt, MEMORY);
+    expect_end(&rt, &end, &host, 2, "");
 }

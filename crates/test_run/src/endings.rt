@@ -1,11 +1,13 @@
 //! How a journal that isn't the whole one is told.
 use super::same::same;
+use crate::runs::MEMORY;
 use dinode_core::CoreFault;
 use fs_model::{Entry, Evidence, Reason, Unit, Verdict};
+use image_hosts::MemHost;
 use std::alloc::{AllocError, Global};
 use std::collections::BTreeMap;
-use std::test::Fail;
-use xscrub::{Finding, LastLine, MemHost, Status, Told, tell};
+use std::process::Abort;
+use xscrub::{Finding, LastLine, Status, Told, tell};
 
 // A journal of one entry, behind which this line stands.
 fn ended(alloc: Global, line: LastLine) -> Result<Finding, AllocError> {
@@ -31,40 +33,44 @@ fn tell_to(alloc: Global, finding: Finding, failing: u64) -> Result<(Told, MemHo
     Ok((told, host))
 }
 
+// Tells that journal and that line to a sink that refuses the call of this number, and asserts the report.
+fn told_of(rt: &impl Abort, alloc: Global, line: LastLine, failing: u64, report: &str) -> Told {
+    let finding = ended(alloc, line).expect(rt, MEMORY);
+    let (told, host) = tell_to(alloc, finding, failing).expect(rt, MEMORY);
+    let shown = str::from_utf8(host.report.as_slice()).expect(rt, "a report is text");
+    same(rt, shown, report);
+    told
+}
+
 #[test]
-fn what_was_found_is_told_and_then_why_there_is_no_more(rt: HostRuntime) -> Result<(), Fail> {
-    let shown = "0 free faulty 3\n";
+fn what_was_found_is_told_and_then_why_there_is_no_more(rt: HostRuntime) {
+    let full = "0 free faulty 3\njournal full\n";
+    let failed = "0 free faulty 3\ndevice failed\n";
+    let no_memory = "0 free faulty 3\nmemory\n";
     let rows = [
-        (LastLine::JournalFull, 9, Status::Full, "journal full\n"),
-        (LastLine::DeviceFailed, 9, Status::Failed, "device failed\n"),
-        (LastLine::Memory, 9, Status::Memory, "memory\n"),
+        (LastLine::JournalFull, 9, Status::Full, full),
+        (LastLine::DeviceFailed, 9, Status::Failed, failed),
+        (LastLine::Memory, 9, Status::Memory, no_memory),
         // The line that comes last isn't taken.
-        (LastLine::JournalFull, 1, Status::Full, ""),
-        (LastLine::DeviceFailed, 1, Status::Failed, ""),
-        (LastLine::Memory, 1, Status::Memory, ""),
+        (LastLine::JournalFull, 1, Status::Full, "0 free faulty 3\n"),
+        (
+            LastLine::DeviceFailed,
+            1,
+            Status::Failed,
+            "0 free faulty 3\n",
+        ),
+        (LastLine::Memory, 1, Status::Memory, "0 free faulty 3\n"),
     ];
     for (line, failing, status, report) in &rows {
-        let (told, host) = tell_to(rt.alloc(), ended(rt.alloc(), *line)?, *failing)?;
-        let wanted = format!(in rt.alloc(); "{shown}{report}")?;
-        same(
-            &rt,
-            str::from_utf8(host.report.as_slice())?,
-            wanted.as_str(),
-        );
+        let told = told_of(&rt, rt.alloc(), *line, *failing, report);
         same(&rt, told.status, *status);
         same(&rt, told.last, Some(*line));
         same(&rt, told.journal.len(), 1);
     }
     // An entry's line isn't taken.
-    let (told, host) = tell_to(rt.alloc(), ended(rt.alloc(), LastLine::JournalFull)?, 0)?;
-    same(
-        &rt,
-        str::from_utf8(host.report.as_slice())?,
-        "host failed\n",
-    );
+    let told = told_of(&rt, rt.alloc(), LastLine::JournalFull, 0, "host failed\n");
     same(&rt, told.status, Status::Failed);
     same(&rt, Status::Full.code(), 7);
-    Ok(())
 }
 
 // A line of 12 bytes, and how many of them are at most 64 KiB.
@@ -95,28 +101,41 @@ fn good_report(alloc: Global, lines: usize, last: &str) -> Result<String, AllocE
     Ok(report)
 }
 
+// How many lines the long journal has.
+const ALL_LINES: usize = 14_000;
+
+// Tells the long journal to a sink that refuses the call of this number, and asserts that the report has so
+// many of its lines and this one behind them.
+fn told_in_pieces(
+    rt: &impl Abort,
+    alloc: Global,
+    failing: u64,
+    lines: usize,
+    last: &str,
+) -> (Told, MemHost) {
+    let finding = good_journal(alloc, ALL_LINES).expect(rt, MEMORY);
+    let (told, host) = tell_to(alloc, finding, failing).expect(rt, MEMORY);
+    let wanted = good_report(alloc, lines, last).expect(rt, MEMORY);
+    // Not compared by `same`, which would show both texts.
+    assert!(rt; host.report.as_slice() == wanted.as_bytes(), "{failing}");
+    (told, host)
+}
+
 #[test]
-fn a_long_report_goes_to_the_sink_in_pieces(rt: HostRuntime) -> Result<(), Fail> {
-    let all = 14_000;
+fn a_long_report_goes_to_the_sink_in_pieces(rt: HostRuntime) {
     let rows = [
-        (9, Status::Clean, all, "", 3),
+        (9, Status::Clean, ALL_LINES, "", 3),
         // A piece isn't taken: the report ends before it, and the last line is put behind that.
         (0, Status::Failed, 0, "host failed\n", 2),
         (1, Status::Failed, PIECE_LINES, "host failed\n", 3),
         (2, Status::Failed, 2 * PIECE_LINES, "host failed\n", 4),
     ];
     for (failing, status, lines, last, puts) in &rows {
-        let (told, host) = tell_to(rt.alloc(), good_journal(rt.alloc(), all)?, *failing)?;
-        let wanted = good_report(rt.alloc(), *lines, *last)?;
-        assert!(rt;
-            str::from_utf8(host.report.as_slice())? == wanted.as_str(),
-            "{failing}"
-        );
+        let (told, host) = told_in_pieces(&rt, rt.alloc(), *failing, *lines, *last);
         same(&rt, told.status, *status);
-        same(&rt, told.journal.len(), all);
+        same(&rt, told.journal.len(), ALL_LINES);
         same(&rt, host.puts, *puts);
     }
-    Ok(())
 }
 
 // How a journal with these verdicts on free space is told.
@@ -134,7 +153,7 @@ fn status_of(alloc: Global, verdicts: &[Verdict]) -> Result<Status, AllocError> 
 }
 
 #[test]
-fn the_verdicts_decide_the_status(rt: HostRuntime) -> Result<(), Fail> {
+fn the_verdicts_decide_the_status(rt: HostRuntime) {
     let evidence = Evidence::BadChunk {
         block: 24,
         fault: CoreFault::Checksum,
@@ -151,9 +170,8 @@ fn the_verdicts_decide_the_status(rt: HostRuntime) -> Result<(), Fail> {
         (&[gave_up, Verdict::Faulty(2)], Status::GaveUp, 6),
     ];
     for (verdicts, status, code) in &rows {
-        let found = status_of(rt.alloc(), *verdicts)?;
+        let found = status_of(rt.alloc(), *verdicts).expect(&rt, MEMORY);
         same(&rt, found, *status);
         same(&rt, found.code(), *code);
     }
-    Ok(())
 }

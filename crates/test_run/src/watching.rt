@@ -1,10 +1,8 @@
 //! What is heard of a check while it goes on.
 use super::same::same;
-use blk_device::MemDevice;
+use crate::runs::two_group_device;
 use check_watch::{Phase, Watch};
-use small_images::two_groups_with;
 use std::alloc::Global;
-use std::test::Fail;
 use xscrub::judge;
 
 // Each word that was heard: the phase, how much of it was done then, and of how much.
@@ -35,10 +33,9 @@ impl Watch for Heard {
 }
 
 #[test]
-fn each_phase_is_heard_from_its_begin_to_its_end(rt: HostRuntime) -> Result<(), Fail> {
+fn each_phase_is_heard_from_its_begin_to_its_end(rt: HostRuntime) {
     let alloc = rt.alloc();
-    let image = two_groups_with(alloc, &[])?;
-    let mut dev = MemDevice::with_image(alloc, image.size, 1, image.blocks, Vec::new(alloc))?;
+    let mut dev = two_group_device(&rt, alloc);
     let mut heard = Heard::new(alloc);
     assert!(rt; judge(alloc, &mut dev, &mut heard).is_ok());
     // The one chunk, of 64 inodes, is in the first group.
@@ -56,5 +53,4 @@ fn each_phase_is_heard_from_its_begin_to_its_end(rt: HostRuntime) -> Result<(), 
         (Phase::Space, 2, 2),
     ];
     same(&rt, heard.words.as_slice(), words.as_slice());
-    Ok(())
 }

@@ -5,6 +5,8 @@
 #[cfg(test)]
 mod runs;
 #[cfg(test)]
+mod same;
+#[cfg(test)]
 mod spaces;
 #[cfg(test)]
 mod units;

@@ -1,20 +1,51 @@
 //! How a check of an image in memory is to end.
+use super::same::same;
+use image_hosts::{MemHost, MemImage};
 use small_images::run_words;
+use std::alloc::{AllocError, Global};
 use std::process::Abort;
-use std::test::Fail;
-use xscrub::MemImage;
+use xscrub::RunEnd;
 
-/// Asserts how a check of this image ends and what it reports.
-pub(crate) fn expect_check<R: Abort + AllocGlobal>(
-    rt: &R,
-    image: MemImage,
+/// What is expected where memory is asked for.
+pub(crate) const MEMORY: &str = "memory is there";
+
+// These texts, one behind the other.
+fn joined(alloc: Global, texts: &[&str]) -> Result<String, AllocError> {
+    let mut all = String::new(alloc);
+    for text in texts {
+        all.push_str(text)?;
+    }
+    Ok(all)
+}
+
+/// Checks an image.
+pub(crate) fn checked(
+    rt: &impl Abort,
+    alloc: Global,
+    image: Result<MemImage, AllocError>,
+) -> (RunEnd, MemHost) {
+    let image = image.expect(rt, MEMORY);
+    run_words(alloc, &["check", "a.img"], image, Vec::new(alloc)).expect(rt, MEMORY)
+}
+
+/// What a run reported.
+pub(crate) fn report_of<'a>(rt: &impl Abort, host: &'a MemHost) -> &'a str {
+    str::from_utf8(host.report.as_slice()).expect(rt, "a report is text")
+}
+
+/// Asserts how a check of this image ends, and that it reports these texts, one behind the other.
+pub(crate) fn expect_check(
+    rt: &impl Abort,
+    alloc: Global,
+    image: Result<MemImage, AllocError>,
     status: u8,
-    report: &str,
-) -> Result<(), Fail> {
-    let words = ["check", "a.img"];
-    let (end, host) = run_words(rt.alloc(), &words, image, Vec::new(rt.alloc()))?;
-    let shown = str::from_utf8(host.report.as_slice())?;
-    assert_eq!(rt; shown, report);
-    assert_eq!(rt; end.status, status, "after {report}");
-    Ok(())
+    texts: &[&str],
+) {
+    let (end, host) = checked(rt, alloc, image);
+    let report = joined(alloc, texts).expect(rt, MEMORY);
+    same(
+        rt,
+        (end.status, report_of(rt, &host)),
+        (status, report.as_str()),
+    );
 }

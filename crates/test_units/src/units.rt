@@ -2,6 +2,7 @@
 use crate::runs::expect_check;
 use byte_fields::Block;
 use fresh_image::fresh_block;
+use image_hosts::MemImage;
 use rmap_recs::RmapRec;
 use small_images::{
     SKIPPED, Stretch, altered, at, chunk_with, file_core, file_heads, first_of_two, heads_of,
@@ -10,14 +11,13 @@ use small_images::{
 };
 use std::alloc::{AllocError, Global};
 use std::process::Abort;
-use std::test::Fail;
-use xscrub::MemImage;
 
 // What follows inodes that aren't good.
 const NO_INODES: &str = "0 rmap skipped 0 inode\n0 free skipped 0 rmap\n0 refc skipped 0 rmap\n";
 
 #[test]
-fn reverse_mappings_are_compared(rt: HostRuntime) -> Result<(), Fail> {
+fn reverse_mappings_are_compared(rt: HostRuntime) {
+    let alloc = rt.alloc();
     let [a, b, c, d, e, list, chunk] = small_owned();
     let rows: [(&[RmapRec], &str); 7] = [
         (
@@ -62,16 +62,17 @@ fn reverse_mappings_are_compared(rt: HostRuntime) -> Result<(), Fail> {
         ),
     ];
     for (mappings, shown) in &rows {
-        let image = small_with(rt.alloc(), &[(5, rmap_leaf(at(5), *mappings))])?;
-        let report = format!(in rt.alloc(); "0 inode good\n0 rmap {shown}\n{SKIPPED}")?;
-        expect_check(&rt, image, 1, report.as_str())?;
+        let image = small_with(alloc, &[(5, rmap_leaf(at(5), *mappings))]);
+        let report = ["0 inode good\n0 rmap ", shown, "\n", SKIPPED];
+        expect_check(&rt, alloc, image, 1, &report);
     }
     let heads = mended_heads(altered(small_heads(), 592, 7));
-    let image = small_with(rt.alloc(), &[(0, heads)])?;
-    let report = format!(in rt.alloc();
-        "0 inode good\n0 rmap counter rmap_blocks 7 1\n0 rmap faulty 1\n{SKIPPED}"
-    )?;
-    expect_check(&rt, image, 1, report.as_str())
+    let image = small_with(alloc, &[(0, heads)]);
+    let report = [
+        "0 inode good\n0 rmap counter rmap_blocks 7 1\n0 rmap faulty 1\n",
+        SKIPPED,
+    ];
+    expect_check(&rt, alloc, image, 1, &report);
 }
 
 // The small image with inode 195 as a file with these mappings.
@@ -88,7 +89,8 @@ fn file_image(alloc: Global, stretches: &[Stretch]) -> Result<MemImage, AllocErr
 }
 
 #[test]
-fn what_an_inode_maps_is_derived(rt: HostRuntime) -> Result<(), Fail> {
+fn what_an_inode_maps_is_derived(rt: HostRuntime) {
+    let alloc = rt.alloc();
     // Two mappings that go on one another are one run; written data may be shared.
     let rows: [(&[Stretch], &str); 3] = [
         (
@@ -105,15 +107,15 @@ fn what_an_inode_maps_is_derived(rt: HostRuntime) -> Result<(), Fail> {
         ),
     ];
     for (stretches, shown) in &rows {
-        let image = file_image(rt.alloc(), *stretches)?;
-        let report = format!(in rt.alloc(); "0 inode good\n0 rmap {shown}\n{SKIPPED}")?;
-        expect_check(&rt, image, 1, report.as_str())?;
+        let image = file_image(alloc, *stretches);
+        let report = ["0 inode good\n0 rmap ", shown, "\n", SKIPPED];
+        expect_check(&rt, alloc, image, 1, &report);
     }
-    Ok(())
 }
 
 #[test]
-fn inodes_are_compared(rt: HostRuntime) -> Result<(), Fail> {
+fn inodes_are_compared(rt: HostRuntime) {
+    let alloc = rt.alloc();
     let rows = [
         (1040, 63, "count 63 64"),
         (1052, 60, "freecount 60 61"),
@@ -122,36 +124,32 @@ fn inodes_are_compared(rt: HostRuntime) -> Result<(), Fail> {
     ];
     for (place, value, shown) in &rows {
         let heads = mended_heads(altered(small_heads(), *place, *value));
-        let image = small_with(rt.alloc(), &[(0, heads)])?;
-        let report = format!(in rt.alloc();
-            "0 inode counter {shown}\n0 inode faulty 1\n{NO_INODES}"
-        )?;
-        expect_check(&rt, image, 1, report.as_str())?;
+        let image = small_with(alloc, &[(0, heads)]);
+        let report = ["0 inode counter ", shown, "\n0 inode faulty 1\n", NO_INODES];
+        expect_check(&rt, alloc, image, 1, &report);
     }
     let mask = mended(altered(fresh_block(1, 256, 3), 68, 0xffff_fff4));
-    let report = format!(in rt.alloc();
+    let report = [
         "0 ino missing 192 0 64 61 fffffffffffffff8\n0 ino extra 192 0 64 61 fffffffffffffff4\n\
-        0 inode faulty 2\n{NO_INODES}"
-    )?;
-    expect_check(
-        &rt,
-        small_with(rt.alloc(), &[(3, mask)])?,
-        1,
-        report.as_str(),
-    )?;
+        0 inode faulty 2\n",
+        NO_INODES,
+    ];
+    expect_check(&rt, alloc, small_with(alloc, &[(3, mask)]), 1, &report);
     // An inode that is allocated, where both btrees and the head say that it is free.
     let allocated = chunk_with(&file_core(&[]));
-    let report = format!(in rt.alloc();
+    let report = [
         "0 ino missing 192 0 64 60 fffffffffffffff0\n0 ino extra 192 0 64 61 fffffffffffffff8\n\
         0 fino missing 192 0 64 60 fffffffffffffff0\n0 fino extra 192 0 64 61 fffffffffffffff8\n\
-        0 inode counter freecount 61 60\n0 inode faulty 5\n{NO_INODES}"
-    )?;
+        0 inode counter freecount 61 60\n0 inode faulty 5\n",
+        NO_INODES,
+    ];
     expect_check(
         &rt,
-        small_with(rt.alloc(), &[(24, allocated)])?,
+        alloc,
+        small_with(alloc, &[(24, allocated)]),
         1,
-        report.as_str(),
-    )
+        &report,
+    );
 }
 
 // The block with one bit of this byte turned. Its checksum stays.
@@ -163,42 +161,39 @@ fn turned(mut block: Block, at: usize) -> Block {
 }
 
 // Asserts that a check of the small image with these blocks gives its inodes up for this.
-fn expect_inodes_given_up<R: Abort + AllocGlobal>(
-    rt: &R,
-    blocks: &[(u64, Block)],
-    evidence: &str,
-) -> Result<(), Fail> {
-    let image = small_with(rt.alloc(), blocks)?;
-    let report = format!(in rt.alloc(); "0 inode gaveup {evidence}\n{NO_INODES}")?;
-    expect_check(rt, image, 6, report.as_str())
+fn expect_inodes_given_up(rt: &impl Abort, alloc: Global, blocks: &[(u64, Block)], evidence: &str) {
+    let report = ["0 inode gaveup ", evidence, "\n", NO_INODES];
+    expect_check(rt, alloc, small_with(alloc, blocks), 6, &report);
 }
 
 #[test]
-fn inodes_are_given_up_for_each_evidence(rt: HostRuntime) -> Result<(), Fail> {
+fn inodes_are_given_up_for_each_evidence(rt: HostRuntime) {
+    let alloc = rt.alloc();
     let broken = turned(fresh_block(1, 256, 24), 600);
-    expect_inodes_given_up(&rt, &[(24, broken)], "badchunk 24 checksum")?;
+    expect_inodes_given_up(&rt, alloc, &[(24, broken)], "badchunk 24 checksum");
     let last = turned(fresh_block(1, 256, 31), 4095);
-    expect_inodes_given_up(&rt, &[(31, last)], "badchunk 31 checksum")?;
+    expect_inodes_given_up(&rt, alloc, &[(31, last)], "badchunk 31 checksum");
     // The chunk is listed by neither of two btrees that can't be read.
     let unread = [
         (3, turned(fresh_block(1, 256, 3), 70)),
         (5, turned(rmap_leaf(at(5), &small_owned()), 70)),
     ];
-    expect_inodes_given_up(&rt, &unread, "badtree rmap 5")?;
+    expect_inodes_given_up(&rt, alloc, &unread, "badtree rmap 5");
     // A record with a hole isn't supported yet.
     let hole = mended(altered(fresh_block(1, 256, 3), 60, 0x0001_403d));
-    expect_inodes_given_up(&rt, &[(3, hole)], "later ino 3")?;
+    expect_inodes_given_up(&rt, alloc, &[(3, hole)], "later ino 3");
     let hole = mended(altered(fresh_block(1, 256, 4), 60, 0x0001_403d));
-    expect_inodes_given_up(&rt, &[(4, hole)], "later fino 4")?;
+    expect_inodes_given_up(&rt, alloc, &[(4, hole)], "later fino 4");
     // The root of the reverse mappings and a block of the chunk stand in the free list, too.
     let list = mended_heads(altered(small_heads(), 1572, 5));
-    expect_inodes_given_up(&rt, &[(0, list)], "overlap 5 list tree-rmap")?;
+    expect_inodes_given_up(&rt, alloc, &[(0, list)], "overlap 5 list tree-rmap");
     let list = mended_heads(altered(small_heads(), 1572, 31));
-    expect_inodes_given_up(&rt, &[(0, list)], "overlap 31 list chunk")
+    expect_inodes_given_up(&rt, alloc, &[(0, list)], "overlap 31 list chunk");
 }
 
 #[test]
-fn reverse_mappings_are_given_up_for_a_fork(rt: HostRuntime) -> Result<(), Fail> {
+fn reverse_mappings_are_given_up_for_a_fork(rt: HostRuntime) {
+    let alloc = rt.alloc();
     let rows: [(&[Stretch], &str); 6] = [
         (&[written(0, 0, 1)], "overlap 0 heads data 195"),
         (&[written(0, 18, 2)], "overlap 18 list data 195"),
@@ -215,11 +210,10 @@ fn reverse_mappings_are_given_up_for_a_fork(rt: HostRuntime) -> Result<(), Fail>
         ),
     ];
     for (stretches, evidence) in &rows {
-        let image = file_image(rt.alloc(), *stretches)?;
-        let report = format!(in rt.alloc(); "0 inode good\n0 rmap gaveup {evidence}\n{SKIPPED}")?;
-        expect_check(&rt, image, 6, report.as_str())?;
+        let image = file_image(alloc, *stretches);
+        let report = ["0 inode good\n0 rmap gaveup ", evidence, "\n", SKIPPED];
+        expect_check(&rt, alloc, image, 6, &report);
     }
-    Ok(())
 }
 
 // What a check shows of the space of two groups whose reverse mappings aren't good.
@@ -227,22 +221,25 @@ const NO_SPACE: &str = "0 free skipped 0 rmap\n0 refc skipped 0 rmap\n\
     1 free skipped 1 rmap\n1 refc skipped 1 rmap\n";
 
 #[test]
-fn a_unit_keeps_others_from_being_judged(rt: HostRuntime) -> Result<(), Fail> {
+fn a_unit_keeps_others_from_being_judged(rt: HostRuntime) {
+    let alloc = rt.alloc();
     let count = mended_heads(altered(heads_of(&second_of_two()), 1040, 5));
-    let image = two_groups_with(rt.alloc(), &[(64, count)])?;
-    let report = format!(in rt.alloc();
+    let image = two_groups_with(alloc, &[(64, count)]);
+    let report = [
         "0 inode good\n1 inode counter count 5 0\n1 inode faulty 1\n\
-        0 rmap skipped 1 inode\n1 rmap skipped 1 inode\n{NO_SPACE}"
-    )?;
-    expect_check(&rt, image, 1, report.as_str())?;
+        0 rmap skipped 1 inode\n1 rmap skipped 1 inode\n",
+        NO_SPACE,
+    ];
+    expect_check(&rt, alloc, image, 1, &report);
     // The first of two that don't pass; one of them is given up.
     let broken = turned(fresh_block(1, 256, 24), 600);
-    let image = two_groups_with(rt.alloc(), &[(24, broken), (64, count)])?;
-    let report = format!(in rt.alloc();
+    let image = two_groups_with(alloc, &[(24, broken), (64, count)]);
+    let report = [
         "0 inode gaveup badchunk 24 checksum\n1 inode counter count 5 0\n1 inode faulty 1\n\
-        0 rmap skipped 0 inode\n1 rmap skipped 0 inode\n{NO_SPACE}"
-    )?;
-    expect_check(&rt, image, 6, report.as_str())?;
+        0 rmap skipped 0 inode\n1 rmap skipped 0 inode\n",
+        NO_SPACE,
+    ];
+    expect_check(&rt, alloc, image, 6, &report);
     // A bad fork may have blocks of every group.
     let blocks = [
         (0, file_heads(&first_of_two())),
@@ -250,16 +247,18 @@ fn a_unit_keeps_others_from_being_judged(rt: HostRuntime) -> Result<(), Fail> {
         (4, with_file(fresh_block(1, 256, 4))),
         (24, chunk_with(&file_core(&[written(0, 63, 2)]))),
     ];
-    let image = two_groups_with(rt.alloc(), &blocks)?;
-    let report = format!(in rt.alloc();
+    let image = two_groups_with(alloc, &blocks);
+    let report = [
         "0 inode good\n1 inode good\n0 rmap gaveup badfork 195 range\n\
-        1 rmap gaveup badfork 195 range\n{NO_SPACE}"
-    )?;
-    expect_check(&rt, image, 6, report.as_str())
+        1 rmap gaveup badfork 195 range\n",
+        NO_SPACE,
+    ];
+    expect_check(&rt, alloc, image, 6, &report);
 }
 
 #[test]
-fn a_file_may_have_blocks_of_another_group(rt: HostRuntime) -> Result<(), Fail> {
+fn a_file_may_have_blocks_of_another_group(rt: HostRuntime) {
+    let alloc = rt.alloc();
     // Block 30 of group 1 has the number 64 + 30.
     let blocks = [
         (0, file_heads(&first_of_two())),
@@ -267,8 +266,8 @@ fn a_file_may_have_blocks_of_another_group(rt: HostRuntime) -> Result<(), Fail> 
         (4, with_file(fresh_block(1, 256, 4))),
         (24, chunk_with(&file_core(&[written(4, 94, 2)]))),
     ];
-    let image = two_groups_with(rt.alloc(), &blocks)?;
+    let image = two_groups_with(alloc, &blocks);
     let report = "0 inode good\n1 inode good\n0 rmap good\n1 rmap missing 30 2 195 4 -\n\
         1 rmap faulty 1\n0 free good\n0 refc good\n1 free skipped 1 rmap\n1 refc skipped 1 rmap\n";
-    expect_check(&rt, image, 1, report)
+    expect_check(&rt, alloc, image, 1, &[report]);
 }

@@ -8,7 +8,7 @@ use Rattle.xscrub.proofs.ShownLemmas.{told_nothing}
 use Rattle.std.specs.List.{list_all, list_any}
 use Rattle.xscrub.specs.Ending.{IsShown, IsToldOf, IsFoundBy, Decides, EndsFor, HasOutcomeCause, IsSettled, IsOutcome, IsAsked, IsShort, IsOfImage, IsOfMake, IsWorded, IsImageLine, IsToldOrShort, EndsByWords, HasUnitsOf}
 use Rattle.xscrub.specs.Command.{Job, check_of, make_of, unbuilt, usage}
-use Rattle.xscrub.specs.Stored.{Request}
+use Rattle.image_hosts.specs.Stored.{Request}
 use Rattle.xscrub.specs.Units.{HasAllUnits, HasFirstUnits, HasUnits}
 use Rattle.xscrub.proofs.UnitLemmas.{no_units, all_are_first, most_are_first}
 use Rattle.xscrub.specs.Outcome.{Outcome, is_calm, is_given_up, is_refusal, judged_status, judged_outcome, filled_outcome, made_outcome, stopped_outcome, ended_outcome, outcome_of}

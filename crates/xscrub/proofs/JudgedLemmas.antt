@@ -17,7 +17,7 @@ use Rattle.xscrub.specs.Judged.{HasDeviceFront, HasFrontOf, IsDeviceJudged, IsJu
 use Rattle.xscrub.specs.Outcome.{Outcome}
 use Rattle.blk_device.specs.declared.device.Region.{Region}
 use Rattle.xscrub.specs.Ending.{stored_outcome}
-use Rattle.xscrub.specs.Stored.{Stored, IsOpened, opened}
+use Rattle.image_hosts.specs.Stored.{Stored, IsOpened, opened}
 use Rattle.xscrub.specs.Units.{HasFirstUnits}
 use Rattle.xscrub.proofs.SaysLemmas.{kept_behind, kept_first_block, kept_none, kept_unread}
 use Rattle.xscrub.proofs.UnitLemmas.{no_units}

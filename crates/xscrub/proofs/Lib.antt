@@ -1,7 +1,6 @@
 pub mod EndingLemmas
 pub mod JudgedLemmas
 pub mod LoanLemmas
-pub mod MemHostLemmas
 pub mod RedoLemmas
 pub mod SaysLemmas
 pub mod ShownLemmas

@@ -22,13 +22,11 @@ use Rattle.xscrub.proofs.EndingLemmas.{told_none}
 use Rattle.xscrub.specs.Image.{device_events}
 use Rattle.xscrub.specs.Judged.{ReadsForDevice, journal_in}
 use Rattle.xscrub.specs.Outcome.{Outcome, outcome_of}
-use Rattle.xscrub.specs.Stored.{Stored, Loan, Out, Back, Lends, HasRoomFor, IsLent, IsNew, IsOpened, redo_named, stored_image, stored_with}
+use Rattle.image_hosts.specs.Stored.{Stored, Loan, Out, Back, Lends, IsNew, IsOpened, redo_named, stored_image, stored_with}
 use Rattle.xscrub.specs.declared.ending.Finding.{Finding}
 use Rattle.xscrub.specs.declared.ending.Finding.TheVariants as findings
 use Rattle.xscrub.specs.declared.ending.Status.{Status}
 use Rattle.xscrub.specs.declared.ending.Status.TheVariants as statuses
-use Rattle.xscrub.specs.declared.host.Purpose.{Purpose}
-use Rattle.xscrub.specs.declared.host.Purpose.TheVariants.{Check, Change, Make}
 use Rattle.xscrub.specs.declared.judging.JudgeFault.{JudgeFault}
 use Rattle.xscrub.specs.declared.judging.Judgement.{Judgement}
 
@@ -227,14 +225,6 @@ told_by g (check_of name redo) stored redos a b c finding told k k' (inl none) s
 told_by {D = D} g (check_of name redo) stored redos a b c finding told k k' (inr came) same worded ends =
     let is = told_front (outcome_of finding) told k k' ends in
     inr ((outcome_of finding).journal, subst (λ (l : Option (List (Loan D))). CameBack g (is_some redo) (stored name) (redo_named redos redo) a l (outcome_of finding).journal) (sym same) came, is.0, is.1)
-
--- ---- a device over files
-
--- a device that tells nothing, with room for the purpose
-pub lent_file : (purpose : Purpose) (redo : Option Stored) (blocks : Region → ℕ) → HasRoomFor purpose (blocks Image) → IsLent purpose false None redo None blocks
-lent_file Check redo blocks room = refl
-lent_file Change redo blocks room = refl
-lent_file (Make n) redo blocks room = (refl, room)
 
 -- ---- an image that comes back as it was
 

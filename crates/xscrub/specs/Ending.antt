@@ -18,7 +18,7 @@ use Rattle.xscrub.specs.Outcome.{Outcome, outcome_of, is_given_up, is_calm, is_r
 use Rattle.run_text.specs.Report.{report_of}
 use Rattle.xscrub.specs.LastLines.{is_fixed}
 use Rattle.xscrub.specs.Shown.{StopsAt, TakesFronts, last_text}
-use Rattle.xscrub.specs.Stored.{Stored, Request, Loan, Out, Back, Lends, IsOpened, asks, opened, redo_named}
+use Rattle.image_hosts.specs.Stored.{Stored, Request, Loan, Out, Back, Lends, IsOpened, asks, opened, redo_named}
 use Rattle.xscrub.specs.Units.{HasAllUnits, HasItsMost, HasFirstUnits, HasUnits}
 use Rattle.xscrub.specs.declared.ending.Finding.{Finding}
 use Rattle.xscrub.specs.declared.ending.Finding.TheVariants as findings
@@ -27,8 +27,8 @@ use Rattle.xscrub.specs.declared.ending.Status.TheVariants as statuses
 use Rattle.xscrub.specs.declared.ending.Told.{Told}
 use Rattle.fs_model.specs.declared.entry.Entry.{Entry}
 use Rattle.image_check.specs.Image.{ReadsForEvents}
-use Rattle.xscrub.specs.declared.host.Host.{Ghosts as HostGhosts}
-use Rattle.xscrub.specs.declared.host.Purpose.TheVariants.{Check as ForCheck, Make as ForMake}
+use Rattle.image_hosts.specs.declared.host.Host.{Ghosts as HostGhosts}
+use Rattle.image_hosts.specs.declared.host.Purpose.TheVariants.{Check as ForCheck, Make as ForMake}
 use Rattle.xscrub.specs.declared.last_lines.LastLine.{LastLine}
 use Rattle.xscrub.specs.declared.last_lines.LastLine.TheVariants as lines
 use Rattle.xscrub.specs.declared.telling.TellStop.{TellStop}

@@ -1,13 +1,9 @@
-pub mod Asked
 pub mod Command
 pub mod Ending
 pub mod Image
 pub mod Judged
 pub mod LastLines
-pub mod MemFiles
-pub mod MemHost
 pub mod Outcome
 pub mod Run
 pub mod Shown
-pub mod Stored
 pub mod Units

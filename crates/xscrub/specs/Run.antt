@@ -5,9 +5,9 @@ use Rattle.blk_device.specs.declared.sink.Sink.{Ghosts as SinkGhosts}
 use Rattle.xscrub.specs.Command.{Job}
 use Rattle.xscrub.specs.Ending.{EndsByWords, EndsUnopened, HasOutcomeCause, HasUnitsOf, IsAsked, IsOutcome, IsShown, LeavesStored, TellsBy, decided_by}
 use Rattle.xscrub.specs.Outcome.{Outcome, code_of}
-use Rattle.xscrub.specs.Stored.{Stored, Request, Loan}
+use Rattle.image_hosts.specs.Stored.{Stored, Request, Loan}
 use Rattle.xscrub.specs.declared.ending.Status.TheVariants as statuses
-use Rattle.xscrub.specs.declared.host.Host.{Ghosts as HostGhosts}
+use Rattle.image_hosts.specs.declared.host.Host.{Ghosts as HostGhosts}
 use Rattle.xscrub.specs.declared.top.RunEnd.{RunEnd}
 
 -- a host as it stands before a run or after it

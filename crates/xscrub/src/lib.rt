@@ -3,31 +3,19 @@
 //! the group, its free space, its reference counts, and the counters of each.
 #![tactic(auto)]
 
-mod advice;
-mod asked;
 mod command;
 mod ending;
-mod file_host;
 mod gathering;
-mod host;
 mod judging;
 mod last_lines;
 mod making;
-mod mem_host;
-mod progress;
 mod redo;
 mod telling;
 mod top;
 
-pub use crate::advice::{NamedFile, explain, tell_failure, tell_status};
-pub use crate::asked::DeviceAsked;
 pub use crate::command::{Command, command_of};
 pub use crate::ending::{Finding, Status, Told};
-pub use crate::file_host::FileHost;
-pub use crate::host::{Host, OpenFault, Purpose, Watched};
 pub use crate::judging::{JudgeFault, Judgement, judge};
 pub use crate::last_lines::{LastLine, RedoRefusal, fixed_line, last_line};
-pub use crate::mem_host::{MemHost, MemImage, MemRedo};
-pub use crate::progress::Progress;
 pub use crate::telling::tell;
 pub use crate::top::{RunEnd, fsck_main};

@@ -4,9 +4,9 @@ ghost use Rattle.xscrub.specs.Ending.{Finds, FindsBy, IsAsked, IsOfMake, IsShort
 ghost use Rattle.xscrub.specs.Outcome.{made_outcome};
 
 use crate::ending::Finding;
-use crate::host::{Host, OpenFault, Purpose};
 use blk_device::DeviceFailed;
 use fresh_image::write_fresh;
+use image_hosts::{Host, OpenFault, Purpose};
 use std::alloc::Global;
 
 // A new image has one group.

@@ -2,17 +2,17 @@ ghost use Rattle.std.specs.Prelude.{◌≡◌, ℕ, List, is_some};
 ghost use Rattle.xscrub.specs.Ending.{Finds, IsOfImage, IsWorded, IsAsked, IsShort, IsUnopened, FindsBy, LeavesStored, decided_by, stored_outcome};
 ghost use Rattle.xscrub.specs.Command.{check_of, job_of};
 ghost use Rattle.xscrub.specs.Run.{RunsFor, seen};
-ghost use Rattle.xscrub.specs.Stored.{name_of, redo_asked};
+ghost use Rattle.image_hosts.specs.Stored.{name_of, redo_asked};
 
 use crate::command::{Command, command_of};
 use crate::ending::Finding;
-use crate::host::{Host, OpenFault, Purpose, Watched};
 use crate::judging::{JudgeFault, Judgement};
 use crate::last_lines::LastLine;
 use crate::making::make;
 use crate::redo::judge_device;
 use crate::telling::tell;
 use fs_model::Entry;
+use image_hosts::{Host, OpenFault, Purpose, Watched};
 use std::alloc::Global;
 
 /// How a run ended: the status of the process, the journal, and the journal's lengths at which

@@ -4,13 +4,14 @@
 #![tactic(auto)]
 
 use blk_device::reader_queue;
+use image_hosts::{FileHost, Host, tell_status};
 use std::alloc::Global;
 use std::io::{ErrorKind, IsTerminal};
 use std::process::ExitCode;
 use std::rt::Env;
 use std::thread::Threads;
 use std::{env, io, thread};
-use xscrub::{FileHost, Finding, Host, fsck_main, tell, tell_status};
+use xscrub::{Finding, fsck_main, tell};
 
 // So many bytes are asked for and given back before anything else.
 const KEPT_BYTES: usize = 8 << 20;

@@ -3,7 +3,7 @@ use Rattle.std.specs.Borrow.{Bor}
 use Rattle.std.specs.Option.{option_map}
 use Rattle.xscrub.specs.Ending.{stored_outcome}
 use Rattle.xscrub.specs.Judged.{ReadsForDevice, journal_in}
-use Rattle.xscrub.specs.Stored.{redo_named}
+use Rattle.image_hosts.specs.Stored.{redo_named}
 use Rattle.xscrub.specs.Units.{HasFirstUnits}
 use Rattle.xscrub.proofs.UnitLemmas.{no_units}
 use Rattle.xscrub.proofs.JudgedLemmas.{front_before}

@@ -1,0 +1,3 @@
+pub mod FileHostLemmas
+pub mod MemHostLemmas
+pub mod RedoFileLemmas

@@ -1,0 +1,4 @@
+pub mod Asked
+pub mod MemFiles
+pub mod MemHost
+pub mod Stored

@@ -1,0 +1,386 @@
+//! A host in memory, for tests.
+ghost use Rattle.std.specs.Prelude.{◌≡◌, ◌≤◌, ℕ, List, [], Some, IsSome, IsNone, IfOk, OnOk, map, true, if◌then◌else◌};
+ghost use Rattle.std.specs.BTreeMap.{get_by_text};
+ghost use Rattle.std.specs.Str.{bytes_eq};
+ghost use Rattle.blk_device.specs.Contents.{map_told};
+ghost use Rattle.blk_device.specs.Memory.{calls_asked, failing_calls};
+ghost use Rattle.blk_device.specs.Stored.{stored};
+ghost use Rattle.redo_area.specs.Counts.{raised};
+ghost use Rattle.image_hosts.specs.MemFiles.{calls_for_redo, calls_to_open, file_of, file_named, failing_named, redo_file_named, redo_of, with_redo};
+ghost use Rattle.image_hosts.specs.Stored.{IsNew, Lent, Opened, no_redo, redo_asked, stored_with};
+
+use crate::asked::{DeviceAsked, count_failed, count_fault, keep_request};
+use crate::host::{Host, OpenFault, Purpose, Watched};
+use blk_device::{Device, DeviceFailed, MemDevice, Region, Sink, SinkFailed};
+use byte_fields::Block;
+use check_watch::NoWatch;
+use redo_area::REDO_BLOCKS;
+use std::alloc::{AllocError, Global};
+use std::collections::BTreeMap;
+
+/// An image of so many blocks, zeros where there is none, and the numbers of the calls of its device
+/// that are to fail, counted from 0 each time that it is opened.
+#[derive(Drop)]
+pub struct MemImage {
+    pub size: u64,
+    pub blocks: BTreeMap<u64, Block>,
+    pub failing: Vec<u64>,
+}
+
+/// A redo file of so many blocks, zeros where there is none.
+#[derive(Drop)]
+pub struct MemRedo {
+    pub size: u64,
+    pub blocks: BTreeMap<u64, Block>,
+}
+
+/// Images and redo files by name, what was asked, and the report. Calls of `put` are numbered from 0, and those
+/// of chosen numbers fail; an image that isn't there is a fault of the host, also where it is to be
+/// made: a new image takes the place of one that is there. A redo file that isn't there is 162 blocks of
+/// zeros. Where there is one, a device's calls are counted from the first behind its opening on.
+#[derive(Drop)]
+pub struct MemHost {
+    pub images: BTreeMap<String, MemImage>,
+    pub redos: BTreeMap<String, MemRedo>,
+    pub failing_puts: Vec<u64>,
+    pub asked: Vec<DeviceAsked>,
+    pub report: Vec<u8>,
+    pub puts: u64,
+    pub sink_faults: u64,
+    pub host_faults: u64,
+    pub dev_faults: u64,
+}
+
+impl MemHost {
+    /// A host with these images and no redo file.
+    pub fn new(alloc: Global, images: BTreeMap<String, MemImage>, failing_puts: Vec<u64>) -> Self
+        ensures images { result.images ≡ images }
+        ensures redos { (n : List ℕ) → redo_file_named result.redos n ≡ Some no_redo }
+        ensures failing { result.failing_puts ≡ failing_puts }
+        ensures asked { result.asked.items ≡ [] }
+        ensures report { result.report.items ≡ [] }
+        ensures puts { result.puts ≡ 0 }
+        ensures host { result.host_faults ≡ 0 }
+        ensures devices { result.dev_faults ≡ 0 }
+        ensures sink { result.sink_faults ≡ 0 }
+    {
+        MemHost {
+            images,
+            redos: BTreeMap::new(alloc),
+            failing_puts,
+            asked: Vec::new(alloc),
+            report: Vec::new(alloc),
+            puts: 0,
+            sink_faults: 0,
+            host_faults: 0,
+            dev_faults: 0,
+        }
+    }
+}
+
+impl Sink for MemHost {
+    ghost use Rattle.std.proofs.Common.{rules};
+    ghost use Rattle.std.specs.Prelude.{◌<◌, length, take, OnErr, IsErr, Contains};
+    ghost use Rattle.blk_device.specs.Causes.{HasCause, any_error, one_more};
+    ghost use Rattle.blk_device.specs.Taken.{Takes};
+    ghost use Rattle.image_hosts.specs.MemHost.{KeepsFiles};
+
+    ghost taken = { λ h. Some h.report.items };
+
+    ghost sink_faults = { λ h. h.sink_faults };
+
+    ghost kept = { KeepsFiles };
+
+    ghost kept_at_rest = { λ a. Prim.search rules };
+
+    ghost kept_by_both = { λ a b c first second. Prim.search rules };
+
+    /// Takes the whole piece. Fails where this call's number is one of those that are chosen, and
+    /// where memory is refused.
+    fn put(&mut self, piece: &[u8]) -> Result<usize, SinkFailed>
+        ensures bound { IfOk result (λ n. n ≤ length piece.now) }
+        ensures progress { IfOk result (λ n. 0 < length piece.now → 0 < n) }
+        ensures bytes { IfOk result (λ n. Takes (take n piece.now) (Some self.old.report.items) (Some self.new.report.items)) }
+        ensures none { OnErr result (Some self.new.report.items ≡ Some self.old.report.items) }
+        ensures rest { KeepsFiles self.old self.new }
+        ensures cause { HasCause any_error self.old.sink_faults self.new.sink_faults result }
+        ensures chosen { Contains self.old.failing_puts.items self.old.puts → IsErr result }
+        ensures whole { IfOk result (λ n. n ≡ length piece.now) }
+        ensures asked { self.new.puts ≡ one_more self.old.puts }
+        ensures choice { self.new.failing_puts ≡ self.old.failing_puts }
+    {
+        let call = self.puts;
+        self.puts = self.puts.saturating_add(1);
+        if self.failing_puts.contains(&call) {
+            count_fault(&mut self.sink_faults);
+            return Err(SinkFailed);
+        }
+        match self.report.extend_from_slice(piece) {
+            Ok(()) => Ok(piece.len()),
+            Err(_) => {
+                count_fault(&mut self.sink_faults);
+                Err(SinkFailed)
+            }
+        }
+    }
+}
+
+fn copy_of(blocks: &BTreeMap<u64, Block>) -> Result<BTreeMap<u64, Block>, AllocError>
+    ensures { IfOk result (λ copy. copy.entries ≡ blocks.now.entries) }
+{
+    blocks.clone()
+}
+
+// Puts these blocks in the place of those of the named image.
+fn replace_image(
+    images: &mut BTreeMap<String, MemImage>,
+    name: &str,
+    size: u64,
+    blocks: BTreeMap<u64, Block>,
+)
+    requires { IsSome (get_by_text images.old name.now) }
+    ensures image { (n : List ℕ) → file_named images.new n
+        ≡ stored_with name.now (Some (record { size = size; at = stored blocks })) (file_named images.old) n }
+    ensures failing { (n : List ℕ) → failing_named images.new n ≡ failing_named images.old n }
+{
+    if let Some(file) = images.get_mut(name) {
+        file.size = size;
+        file.blocks = blocks;
+    }
+}
+
+// A device over a copy of the image, of whose calls those that are chosen will fail.
+fn open_copy(alloc: Global, image: &MemImage) -> Result<MemDevice, AllocError>
+    ensures told { IfOk result (Opened ⟦<MemDevice as Device>⟧ (Some (file_of image.now)) (Some no_redo)) }
+    ensures redo_blocks { IfOk result (λ d. ⟦<MemDevice as Device>⟧.blocks d Region.Redo ≡ REDO_BLOCKS) }
+    ensures fresh { IfOk result (λ d. ⟦<MemDevice as Device>⟧.faults d ≡ 0) }
+    ensures failing { IfOk result (λ d. failing_calls d ≡ image.now.failing.items) }
+    ensures asked { IfOk result (λ d. calls_asked d ≡ 0) }
+{
+    let blocks = copy_of(&image.blocks)?;
+    let failing = image.failing.clone()?;
+    let dev = MemDevice::with_image(alloc, image.size, REDO_BLOCKS, blocks, failing)?;
+    Ok(dev)
+}
+
+// A device over a new image, of whose calls those that are chosen for the image in whose place it comes
+// will fail.
+fn open_new(alloc: Global, image: &MemImage, blocks: u64) -> Result<MemDevice, AllocError>
+    ensures told { IfOk result (λ d. IsNew true blocks
+        (⟦<MemDevice as Device>⟧.content d) (⟦<MemDevice as Device>⟧.blocks d)) }
+    ensures redo_blocks { IfOk result (λ d. ⟦<MemDevice as Device>⟧.blocks d Region.Redo ≡ REDO_BLOCKS) }
+    ensures fresh { IfOk result (λ d. ⟦<MemDevice as Device>⟧.faults d ≡ 0) }
+    ensures failing { IfOk result (λ d. failing_calls d ≡ image.now.failing.items) }
+    ensures asked { IfOk result (λ d. calls_asked d ≡ 0) }
+{
+    let failing = image.failing.clone()?;
+    let dev = MemDevice::new(alloc, blocks, REDO_BLOCKS, failing);
+    Ok(dev)
+}
+
+// Puts the blocks of a redo file on a device, one after the other, by as many calls.
+fn put_redo(dev: &mut MemDevice, redo: &MemRedo) -> Result<(), DeviceFailed>
+    requires room { redo.now.size ≤ ⟦<MemDevice as Device>⟧.blocks dev.old Region.Redo }
+    requires unasked { calls_asked dev.old ≡ 0 }
+    ensures written { OnOk result (⟦<MemDevice as Device>⟧.content dev.new ≡ map_told (with_redo (stored redo.now.blocks) redo.now.size) (⟦<MemDevice as Device>⟧.content dev.old)) }
+    ensures sizes { ⟦<MemDevice as Device>⟧.blocks dev.new ≡ ⟦<MemDevice as Device>⟧.blocks dev.old }
+    ensures calm { OnOk result (⟦<MemDevice as Device>⟧.faults dev.new ≡ ⟦<MemDevice as Device>⟧.faults dev.old) }
+    ensures failing { failing_calls dev.new ≡ failing_calls dev.old }
+    ensures asked { OnOk result (calls_asked dev.new ≡ redo.now.size) }
+{
+    let count = redo.size;
+    for at in 0..count {
+        let block = block_of(&redo.blocks, at);
+        dev.write(Region::Redo, at, &block)?;
+    }
+    Ok(())
+}
+
+// The block that a map has there, or zeros.
+fn block_of(blocks: &BTreeMap<u64, Block>, at: u64) -> Block
+    ensures { result.bytes ≡ stored blocks.now at }
+{
+    match blocks.get(&at) {
+        Some(block) => *block,
+        None => Block::zeroed(),
+    }
+}
+
+// The number of a call behind so many others. At 2^64 - 1 the count stays there.
+fn call_behind(call: u64, others: u64) -> u64
+    ensures { result ≡ raised call others }
+{
+    call.saturating_add(others)
+}
+
+// The numbers of these calls behind so many others.
+fn calls_behind(alloc: Global, calls: &[u64], others: u64) -> Result<Vec<u64>, AllocError>
+    ensures { IfOk result (λ behind. behind.items ≡ map (λ call. raised call others) calls.now) }
+{
+    calls
+        .iter()
+        .map(|call| call_behind(*call, others))
+        .collect(alloc)
+}
+
+// A device over a copy of the image and of a redo file. Its first calls put the redo file there; of those
+// behind them the chosen ones will fail.
+fn open_beside(alloc: Global, image: &MemImage, redo: &MemRedo) -> Result<MemDevice, AllocError>
+    ensures told { IfOk result (Opened ⟦<MemDevice as Device>⟧ (Some (file_of image.now)) (Some (redo_of redo.now))) }
+    ensures fresh { IfOk result (λ d. ⟦<MemDevice as Device>⟧.faults d ≡ 0) }
+    ensures failing { IfOk result (λ d. failing_calls d ≡ map (λ call. raised call redo.now.size) image.now.failing.items) }
+    ensures asked { IfOk result (λ d. calls_asked d ≡ redo.now.size) }
+{
+    let blocks = copy_of(&image.blocks)?;
+    let failing = calls_behind(alloc, image.failing.as_slice(), redo.size)?;
+    let mut dev = MemDevice::with_image(alloc, image.size, redo.size, blocks, failing)?;
+    match put_redo(&mut dev, redo) {
+        Ok(()) => Ok(dev),
+        Err(_) => Err(AllocError),
+    }
+}
+
+// A device over a copy of the image, with its redo region.
+fn open_stored(
+    alloc: Global,
+    image: &MemImage,
+    redos: &BTreeMap<String, MemRedo>,
+    redo: Option<&str>,
+) -> Result<MemDevice, AllocError>
+    ensures told { IfOk result (Opened ⟦<MemDevice as Device>⟧ (Some (file_of image.now)) (redo_asked (redo_file_named redos.now) redo.entry)) }
+    ensures redo_blocks { IsNone redo.entry → IfOk result (λ d. ⟦<MemDevice as Device>⟧.blocks d Region.Redo ≡ REDO_BLOCKS) }
+    ensures fresh { IfOk result (λ d. ⟦<MemDevice as Device>⟧.faults d ≡ 0) }
+    ensures failing { IfOk result (λ d. failing_calls d ≡ map (λ call. raised call (calls_for_redo redos.now redo.entry)) image.now.failing.items) }
+    ensures asked { IfOk result (λ d. calls_asked d ≡ calls_for_redo redos.now redo.entry) }
+{
+    let Some(name) = redo else {
+        return open_copy(alloc, image);
+    };
+    match redos.get(name) {
+        Some(file) => open_beside(alloc, image, file),
+        None => open_copy(alloc, image),
+    }
+}
+
+// A device over this image, or over a new one in its place.
+fn open_for(
+    alloc: Global,
+    image: &MemImage,
+    redos: &BTreeMap<String, MemRedo>,
+    redo: Option<&str>,
+    purpose: Purpose,
+) -> Result<MemDevice, AllocError>
+    ensures told { IfOk result (Lent ⟦<MemDevice as Device>⟧ purpose true (Some (file_of image.now)) (redo_asked (redo_file_named redos.now) redo.entry)) }
+    ensures redo_blocks { IsNone redo.entry → IfOk result (λ d. ⟦<MemDevice as Device>⟧.blocks d Region.Redo ≡ REDO_BLOCKS) }
+    ensures fresh { IfOk result (λ d. ⟦<MemDevice as Device>⟧.faults d ≡ 0) }
+    ensures failing { IfOk result (λ d. failing_calls d ≡ map (λ call. raised call (calls_to_open purpose redos.now redo.entry)) image.now.failing.items) }
+    ensures asked { IfOk result (λ d. calls_asked d ≡ calls_to_open purpose redos.now redo.entry) }
+{
+    match purpose {
+        Purpose::Check => open_stored(alloc, image, redos, redo),
+        Purpose::Change => open_stored(alloc, image, redos, redo),
+        Purpose::Make(blocks) => open_new(alloc, image, blocks),
+    }
+}
+
+impl Watched for MemHost {
+    type Eye = NoWatch;
+
+    fn watch(&self) -> NoWatch {
+        NoWatch
+    }
+}
+
+impl Host for MemHost {
+    type Dev = MemDevice;
+
+    ghost use Rattle.std.specs.Prelude.{◌==◌, ◌∷◌, IsErrOf, OnErr, IfSome, false};
+    ghost use Rattle.blk_device.specs.Causes.{Rose, one_more};
+    ghost use Rattle.image_hosts.specs.MemHost.{stored_by, redo_files_by, Awaits, asked_of, failing_behind, failing_by, loans_of};
+    ghost use Rattle.image_hosts.specs.Stored.{Out, Back, Lends, IsAskedFor, asks, image_of, name_of};
+
+    ghost tells = { λ h. true };
+
+    ghost stored = { stored_by };
+
+    ghost redo_files = { redo_files_by };
+
+    ghost awaits = { Awaits };
+
+    ghost asked = { asked_of };
+
+    ghost loans = { loans_of };
+
+    ghost host_faults = { λ h. h.host_faults };
+
+    ghost dev_faults = { λ h. h.dev_faults };
+
+    ghost report_keeps = { λ a b kept. kept };
+
+    /// Opens a copy of the image, or a new one, on which the calls that are chosen for this image will
+    /// fail, counted behind those that put a redo file there, one for each of its blocks. The host
+    /// fails exactly where there is no image of that name.
+    fn device(
+        &mut self,
+        image: &str,
+        redo: Option<&str>,
+        purpose: Purpose,
+    ) -> Result<MemDevice, OpenFault>
+        ensures told { IfOk result (Lent ⟦<MemDevice as Device>⟧ purpose true (stored_by self.old image.now)
+            (redo_asked (redo_files_by self.old) redo.entry)) }
+        ensures redo_blocks { IsNone redo.entry → IfOk result (λ dev. ⟦<MemDevice as Device>⟧.blocks dev Region.Redo ≡ REDO_BLOCKS) }
+        ensures fresh { IfOk result (λ dev. ⟦<MemDevice as Device>⟧.faults dev ≡ 0) }
+        ensures lent { IfOk result (λ dev. Lends (Out dev ∷ []) (loans_of self.old) (loans_of self.new)) }
+        ensures unlent { OnErr result (loans_of self.new ≡ loans_of self.old) }
+        ensures place { OnOk result (Awaits self.new image.now) }
+        ensures others { (n : List ℕ) → bytes_eq n image.now ≡ false
+            → stored_by self.new n ≡ stored_by self.old n }
+        ensures none { OnErr result ((n : List ℕ) → stored_by self.new n ≡ stored_by self.old n) }
+        ensures redo { (n : List ℕ) → redo_files_by self.new n ≡ redo_files_by self.old n }
+        ensures failed { IsErrOf result OpenFault.Failed → Rose self.old.host_faults self.new.host_faults }
+        ensures calm { OnOk result (self.new.host_faults ≡ self.old.host_faults) }
+        ensures later { self.old.host_faults ≤ self.new.host_faults }
+        ensures memory { IsErrOf result OpenFault.Memory → self.new.host_faults ≡ self.old.host_faults }
+        ensures asked { IsAskedFor (IsErrOf result OpenFault.Memory)
+            (asks image.now (name_of redo.entry) purpose) (asked_of self.old) (asked_of self.new) }
+        ensures devices { self.new.dev_faults ≡ self.old.dev_faults }
+        ensures report { Some self.new.report.items ≡ Some self.old.report.items }
+        ensures sink { self.new.sink_faults ≡ self.old.sink_faults }
+        ensures missing { IsErrOf result OpenFault.Failed → IsNone (failing_by self.old image.now) }
+        ensures failing { IfOk result (λ dev. failing_behind (calls_to_open purpose self.old.redos redo.entry) self.old image.now ≡ Some (failing_calls dev)) }
+        ensures first { IfOk result (λ dev. calls_asked dev ≡ calls_to_open purpose self.old.redos redo.entry) }
+        ensures kept { (n : List ℕ) → failing_by self.new n ≡ failing_by self.old n }
+    {
+        let alloc = *self.asked.allocator();
+        keep_request(alloc, &mut self.asked, image, redo, purpose)?;
+        let Some(file) = self.images.get(image) else {
+            count_fault(&mut self.host_faults);
+            return Err(OpenFault::Failed);
+        };
+        // A copy: where there is no memory for it, the image is still there.
+        let dev = open_for(alloc, file, &self.redos, redo, purpose)?;
+        Ok(dev)
+    }
+
+    /// Keeps the device's image under this name, and with it which calls are to fail.
+    fn put_back(&mut self, image: &str, dev: MemDevice)
+        requires { Awaits self.old image.now }
+        ensures lent { Lends (Back dev ∷ []) (loans_of self.old) (loans_of self.new) }
+        ensures image { (n : List ℕ) → stored_by self.new n ≡ stored_with image.now
+            (image_of ⟦<MemDevice as Device>⟧ dev) (stored_by self.old) n }
+        ensures redo { (n : List ℕ) → redo_files_by self.new n ≡ redo_files_by self.old n }
+        ensures host { self.new.host_faults ≡ self.old.host_faults }
+        ensures devices { self.new.dev_faults ≡ (if ⟦<MemDevice as Device>⟧.faults dev == 0
+            then self.old.dev_faults
+            else one_more self.old.dev_faults) }
+        ensures asked { asked_of self.new ≡ asked_of self.old }
+        ensures report { Some self.new.report.items ≡ Some self.old.report.items }
+        ensures sink { self.new.sink_faults ≡ self.old.sink_faults }
+        ensures kept { (n : List ℕ) → failing_by self.new n ≡ failing_by self.old n }
+    {
+        count_failed(&mut self.dev_faults, dev.fault_count());
+        let size = dev.size(Region::Image);
+        let blocks = dev.into_image();
+        replace_image(&mut self.images, image, size, blocks);
+    }
+}

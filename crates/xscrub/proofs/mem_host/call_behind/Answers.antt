@@ -1,6 +1,0 @@
-use Rattle.std.proofs.Common.{arith, ◌∙◌}
-use Rattle.xscrub.proofs.RedoLemmas.{raised_by}
-use Rattle.xscrub.proofs.mem_host.call_behind.Goals as goal
-
-pub returns : goal.returns
-returns c = c.saturating_add.ensures ∙ raised_by c.args.call c.args.others (omega arith)
