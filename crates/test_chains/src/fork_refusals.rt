@@ -4,7 +4,6 @@ use dinode_core::Mapping;
 use fork_change::{ForkChange, MOST_MAPPED, add, convert, take};
 use geom::Geometry;
 use std::alloc::Global;
-use std::test::Fail;
 
 // One more than the greatest offset.
 const END: u64 = 18_014_398_509_481_984;
@@ -63,7 +62,7 @@ fn added(
 }
 
 #[test]
-fn an_offset_that_is_mapped_is_occupied(rt: HostRuntime) -> Result<(), Fail> {
+fn an_offset_that_is_mapped_is_occupied(rt: HostRuntime) {
     let rows = [
         (0, 5, Ok(2)),
         (0, 6, Err(ForkChange::Occupied)),
@@ -76,11 +75,10 @@ fn an_offset_that_is_mapped_is_occupied(rt: HostRuntime) -> Result<(), Fail> {
     for (offset, count, answer) in rows {
         same(&rt, added(rt.alloc(), offset, 100, count, 2), answer);
     }
-    Ok(())
 }
 
 #[test]
-fn a_list_is_full_where_one_more_has_no_room(rt: HostRuntime) -> Result<(), Fail> {
+fn a_list_is_full_where_one_more_has_no_room(rt: HostRuntime) {
     let rows = [
         (9, 44, 1, 1, Err(ForkChange::Full(2))),
         (9, 44, 1, 2, Ok(2)),
@@ -93,7 +91,6 @@ fn a_list_is_full_where_one_more_has_no_room(rt: HostRuntime) -> Result<(), Fail
     for (offset, block, count, room, answer) in rows {
         same(&rt, added(rt.alloc(), offset, block, count, room), answer);
     }
-    Ok(())
 }
 
 // The first offset of the piece that is taken out of a list of one mapping.
@@ -111,7 +108,7 @@ fn taken(alloc: Global, m: &Mapping, offset: u64) -> Result<u64, ForkChange> {
 }
 
 #[test]
-fn beside_a_mapping_there_is_a_hole(rt: HostRuntime) -> Result<(), Fail> {
+fn beside_a_mapping_there_is_a_hole(rt: HostRuntime) {
     let rows = [
         (WHOLE, 4, Err(ForkChange::Hole)),
         (WHOLE, 5, Ok(5)),
@@ -126,7 +123,6 @@ fn beside_a_mapping_there_is_a_hole(rt: HostRuntime) -> Result<(), Fail> {
     for (m, offset, answer) in rows {
         same(&rt, taken(rt.alloc(), &m, offset), answer);
     }
-    Ok(())
 }
 
 // How many mappings a list of one has once a block of it is made written, in so much room.
@@ -137,7 +133,7 @@ fn converted(alloc: Global, offset: u64, room: u32) -> Result<usize, ForkChange>
 }
 
 #[test]
-fn a_written_piece_wants_room_beside_what_stays(rt: HostRuntime) -> Result<(), Fail> {
+fn a_written_piece_wants_room_beside_what_stays(rt: HostRuntime) {
     let rows = [
         (4, 3, Err(ForkChange::Hole)),
         (5, 1, Err(ForkChange::Full(2))),
@@ -150,5 +146,4 @@ fn a_written_piece_wants_room_beside_what_stays(rt: HostRuntime) -> Result<(), F
     for (offset, room, answer) in rows {
         same(&rt, converted(rt.alloc(), offset, room), answer);
     }
-    Ok(())
 }

@@ -1,82 +1,39 @@
 // Blocks of an image file that another thread reads ahead.
 use super::same::same;
-use blk_device::{Device, FileDevice, Region, reader_queue};
+use blk_device::{Device, FileDevice, ReaderQueue, Region, reader_queue};
 use byte_fields::Block;
-use std::fs::{File, Files, Metadata, OpenFile};
-use std::io::{ErrorKind, Read, Seek, SeekFrom, Write};
+use std::alloc::Global;
+use std::fs::{File, Files};
+use std::io::{Seek, SeekFrom, Write};
+use std::process::Abort;
 use std::rt::Clock;
-use std::test::Fail;
+use std::thread::{JoinHandle, Threads};
 use std::time::Duration;
-use std::{fs, io, thread};
+use std::{fs, thread};
 
 // How often a block is asked for until the other thread has read it, and the time between.
 const TRIES: u32 = 20_000;
 
 const PAUSE_MICROS: u64 = 500;
 
-// A file that can't be read, but written.
-#[derive(Drop)]
-struct Unreadable<F: Drop> {
-    file: F,
-}
+// How many blocks a file has.
+const BLOCKS: u8 = 16;
 
-impl<F: Drop> Read for Unreadable<F> {
-    fn read(&mut self, _buf: &mut [u8]) -> io::Result<usize> {
-        Err(io::Error::from(ErrorKind::Other))
+// A new file whose blocks have their number and one in each byte: a handle that can only write it, so
+// that no read by it is answered, and one that can only read it.
+fn numbered_file<R: Files + Abort>(rt: &R, name: &str) -> (R::File, R::File) {
+    let mut writer = match File::create(rt, name) {
+        Ok(file) => file,
+        Err(_) => panic!(rt; "no new file {name}"),
+    };
+    for number in 0..BLOCKS {
+        let is_filled = writer.write_all(&[number.saturating_add(1); 4096]).is_ok();
+        assert!(rt; is_filled);
     }
-}
-
-impl<F: Write + Drop> Write for Unreadable<F> {
-    fn write(&mut self, buf: &[u8]) -> io::Result<usize> {
-        self.file.write(buf)
+    match fs::open(rt, name) {
+        Ok(reader) => (writer, reader),
+        Err(_) => panic!(rt; "no second handle of {name}"),
     }
-
-    fn flush(&mut self) -> io::Result<()> {
-        self.file.flush()
-    }
-}
-
-impl<F: Seek + Drop> Seek for Unreadable<F> {
-    fn seek(&mut self, to: SeekFrom) -> io::Result<u64> {
-        self.file.seek(to)
-    }
-}
-
-impl<F: OpenFile + Drop> OpenFile for Unreadable<F> {
-    fn metadata(&self) -> io::Result<Metadata> {
-        self.file.metadata()
-    }
-
-    fn set_len(&self, size: u64) -> io::Result<()> {
-        self.file.set_len(size)
-    }
-
-    fn sync_all(&self) -> io::Result<()> {
-        self.file.sync_all()
-    }
-
-    fn sync_data(&self) -> io::Result<()> {
-        self.file.sync_data()
-    }
-}
-
-// A new file of so many blocks, each of whose bytes are its number and one.
-fn numbered_file<R: Files>(files: &R, name: &str, blocks: u8) -> io::Result<R::File> {
-    let mut file = File::options()
-        .read(true)
-        .write(true)
-        .create(true)
-        .truncate(true)
-        .open(files, name)?;
-    for number in 0..blocks {
-        file.write_all(&[number.saturating_add(1); 4096])?;
-    }
-    Ok(file)
-}
-
-// A handle of the file that nothing is read by.
-fn handle_to_write<R: Files>(files: &R, name: &str) -> io::Result<R::File> {
-    File::options().write(true).open(files, name)
 }
 
 // Removes the file, and says whether it was there.
@@ -115,68 +72,82 @@ fn is_written<D: Device>(device: &mut D, at: u64) -> bool {
 // Blocks of a run of eleven from block 2 on, in their order with gaps, and what each reads as.
 const ROWS: [(u64, u8); 6] = [(2, 3), (3, 4), (9, 10), (10, 11), (11, 12), (12, 13)];
 
-#[test]
-fn what_another_thread_read_is_taken_until_the_image_is_written(
-    rt: HostRuntime,
-) -> Result<(), Fail> {
-    let file = numbered_file(&rt, "told.image", 16).map_err(|_| "no image file")?;
-    let other = fs::open(&rt, "told.image").map_err(|_| "no second handle")?;
-    let (mut queue, readers) = reader_queue(rt.alloc())?;
-    let clock = rt;
-    let thread = thread::spawn(&rt, move || readers.serve(&clock))?;
-    let ahead = queue.begin(rt.alloc(), other);
+// A device over one handle, for which another thread reads by the other.
+fn device_with_thread<R: Abort + Threads, C: Clock + Send + Drop + 'static>(
+    rt: &R,
+    clock: C,
+    alloc: Global,
+    own: File,
+    other: File,
+    blocks: u64,
+) -> (FileDevice<File>, ReaderQueue<File>, JoinHandle<()>) {
+    let (mut queue, readers) = reader_queue(alloc).expect(rt, "memory is there");
+    let thread = thread::spawn(rt, move || readers.serve(&clock)).expect(rt, "the thread starts");
+    let ahead = queue.begin(alloc, other);
     assert!(rt; ahead.is_some());
-    let device = FileDevice::new(rt.alloc(), Unreadable { file }, None, 20, 162);
-    let mut device = device.with_ahead(ahead);
+    let device = FileDevice::new(alloc, own, None, blocks, 162).with_ahead(ahead);
+    (device, queue, thread)
+}
+
+// Asserts what the device takes of what the other thread read, and what it doesn't.
+fn expect_what_is_told<R: Abort + Clock, D: Device>(rt: &R, device: &mut D) {
     device.will_read(Region::Image, 2, 11);
     for (at, number) in ROWS {
-        assert_eq!(rt;
-            number_soon(&rt, &mut device, at),
-            Some(number),
-            "block {at}"
-        );
+        let found = number_soon(rt, device, at);
+        assert_eq!(rt; found, Some(number), "block {at}");
     }
     // Neither a block that wasn't told nor one that was used up.
-    same(&rt, number_at(&mut device, 13), None);
-    same(&rt, number_at(&mut device, 2), None);
+    same(rt, number_at(device, 13), None);
+    same(rt, number_at(device, 2), None);
     // Of a run past the file's end what stands in the file, and nothing behind it.
     device.will_read(Region::Image, 13, 7);
-    same(&rt, number_soon(&rt, &mut device, 13), Some(14));
-    same(&rt, number_at(&mut device, 15), Some(16));
-    same(&rt, number_at(&mut device, 16), None);
-    same(&rt, number_at(&mut device, 19), None);
+    same(rt, number_soon(rt, device, 13), Some(14));
+    same(rt, number_at(device, 15), Some(16));
+    same(rt, number_at(device, 16), None);
+    same(rt, number_at(device, 19), None);
+}
+
+// Asserts that nothing more is taken once the image is written.
+fn expect_none_behind_a_write<R: Abort + Clock, D: Device>(rt: &R, device: &mut D) {
     device.will_read(Region::Image, 0, 2);
-    same(&rt, number_soon(&rt, &mut device, 0), Some(1));
-    assert!(rt; is_written(&mut device, 15));
-    same(&rt, number_at(&mut device, 1), None);
+    same(rt, number_soon(rt, device, 0), Some(1));
+    assert!(rt; is_written(device, 15));
+    same(rt, number_at(device, 1), None);
+}
+
+#[test]
+fn what_another_thread_read_is_taken_until_the_image_is_written(rt: HostRuntime) {
+    let (writer, reader) = numbered_file(&rt, "told.image");
+    let (mut device, queue, thread) = device_with_thread(&rt, rt, rt.alloc(), writer, reader, 20);
+    expect_what_is_told(&rt, &mut device);
+    expect_none_behind_a_write(&rt, &mut device);
     drop(device);
     drop(queue);
     thread.join(&rt);
     assert!(rt; is_removed(&rt, "told.image"));
-    Ok(())
+}
+
+// Asserts that the device itself reads each block.
+fn expect_own_reads<R: Abort + Clock, D: Device>(rt: &R, device: &mut D) {
+    device.will_read(Region::Image, 0, 16);
+    for at in 0..BLOCKS {
+        thread::sleep(rt, Duration::from_micros(PAUSE_MICROS));
+        let number = number_at(device, u64::from(at));
+        assert_eq!(rt; number, Some(at.saturating_add(1)), "block {at}");
+    }
+    same(rt, device.fault_count(), 0);
 }
 
 #[test]
-fn what_another_thread_cannot_read_the_device_reads(rt: HostRuntime) -> Result<(), Fail> {
-    let file = numbered_file(&rt, "untold.image", 16).map_err(|_| "no image file")?;
-    let other = handle_to_write(&rt, "untold.image").map_err(|_| "no second handle")?;
-    let (mut queue, readers) = reader_queue(rt.alloc())?;
-    let clock = rt;
-    let thread = thread::spawn(&rt, move || readers.serve(&clock))?;
-    let ahead = queue.begin(rt.alloc(), other);
-    assert!(rt; ahead.is_some());
-    let device = FileDevice::new(rt.alloc(), file, None, 16, 162);
-    let mut device = device.with_ahead(ahead);
-    device.will_read(Region::Image, 0, 16);
-    for at in 0..16u8 {
-        thread::sleep(&rt, Duration::from_micros(PAUSE_MICROS));
-        let number = number_at(&mut device, u64::from(at));
-        assert_eq!(rt; number, Some(at.saturating_add(1)), "block {at}");
-    }
-    same(&rt, device.fault_count(), 0);
+fn what_another_thread_cannot_read_the_device_reads(rt: HostRuntime) {
+    let (writer, mut reader) = numbered_file(&rt, "untold.image");
+    // The device is handed a file that stands elsewhere than at its begin.
+    let is_moved = reader.seek(SeekFrom::End(0)).is_ok();
+    assert!(rt; is_moved);
+    let (mut device, queue, thread) = device_with_thread(&rt, rt, rt.alloc(), reader, writer, 16);
+    expect_own_reads(&rt, &mut device);
     drop(device);
     drop(queue);
     thread.join(&rt);
     assert!(rt; is_removed(&rt, "untold.image"));
-    Ok(())
 }

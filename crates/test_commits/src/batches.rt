@@ -6,7 +6,7 @@ use blk_device::{Device, FuseDevice, MemDevice, Region, Unsynced};
 use byte_fields::{Block, put_u32, put_u64};
 use redo_area::{BatchFault, RedoFault, close_gate, install, open_gate, prepare, recover, waiting};
 use std::alloc::{AllocError, Global};
-use std::test::Fail;
+use std::process::Abort;
 
 const IMAGE: u64 = 200;
 
@@ -25,6 +25,10 @@ fn batch_of(alloc: Global, count: u8) -> Result<Vec<(u64, Block)>, AllocError> {
         batch.push((u64::from(i) + 20, filled(i.saturating_add(1))))?;
     }
     Ok(batch)
+}
+
+fn new_batch(rt: &impl Abort, alloc: Global, count: u8) -> Vec<(u64, Block)> {
+    batch_of(alloc, count).expect(rt, "memory is there")
 }
 
 // Whether a number comes at its place: not below the least, and below the size.
@@ -120,37 +124,35 @@ fn does_stop_whole(alloc: Global, batch: &[(u64, Block)], calls: u64) -> Result<
 }
 
 // The same of each stop from one number of calls to another.
-fn do_stop_whole(alloc: Global, count: u8, from: u64, to: u64) -> Result<bool, AllocError> {
-    let batch = batch_of(alloc, count)?;
+fn do_stop_whole(rt: &impl Abort, alloc: Global, count: u8, from: u64, to: u64) -> bool {
+    let batch = new_batch(rt, alloc, count);
     for calls in from..to {
-        if !does_stop_whole(alloc, &batch, calls)? {
-            return Ok(false);
+        if !does_stop_whole(alloc, &batch, calls).expect(rt, "memory is there") {
+            return false;
         }
     }
-    Ok(true)
+    true
 }
 
 #[test]
-fn a_stopped_commit_leaves_all_of_it_or_nothing(rt: HostRuntime) -> Result<(), Fail> {
+fn a_stopped_commit_leaves_all_of_it_or_nothing(rt: HostRuntime) {
     let alloc = rt.alloc();
-    assert!(rt; do_stop_whole(alloc, 1, 0, 10)?);
-    assert!(rt; do_stop_whole(alloc, 2, 0, 12)?);
-    assert!(rt; do_stop_whole(alloc, 160, 0, 328)?);
-    Ok(())
+    assert!(rt; do_stop_whole(&rt, alloc, 1, 0, 10));
+    assert!(rt; do_stop_whole(&rt, alloc, 2, 0, 12));
+    assert!(rt; do_stop_whole(&rt, alloc, 160, 0, 328));
 }
 
 // A commit makes one call for the table and each copy, block and gate, and four syncs.
-fn does_commit_in(alloc: Global, count: u8, calls: u64) -> Result<bool, AllocError> {
+fn does_commit_in(rt: &impl Abort, alloc: Global, count: u8, calls: u64) -> bool {
     let mut fuse = FuseDevice::new(new_device(alloc), calls);
-    Ok(commit(&mut fuse, &batch_of(alloc, count)?))
+    commit(&mut fuse, &new_batch(rt, alloc, count))
 }
 
 #[test]
-fn a_commit_makes_two_calls_a_block_and_seven(rt: HostRuntime) -> Result<(), Fail> {
+fn a_commit_makes_two_calls_a_block_and_seven(rt: HostRuntime) {
     let alloc = rt.alloc();
-    assert!(rt; does_commit_in(alloc, 1, 9)? && !does_commit_in(alloc, 1, 8)?);
-    assert!(rt; does_commit_in(alloc, 160, 327)? && !does_commit_in(alloc, 160, 326)?);
-    Ok(())
+    assert!(rt; does_commit_in(&rt, alloc, 1, 9) && !does_commit_in(&rt, alloc, 1, 8));
+    assert!(rt; does_commit_in(&rt, alloc, 160, 327) && !does_commit_in(&rt, alloc, 160, 326));
 }
 
 // A device on which the batch waits, and none of it is written yet.
@@ -173,21 +175,28 @@ fn is_kept(
     Ok(is_stopped && is_recovered(&mut left, batch, true))
 }
 
-#[test]
-fn a_stopped_recovery_keeps_the_batch(rt: HostRuntime) -> Result<(), Fail> {
-    let alloc = rt.alloc();
-    let batch = batch_of(alloc, 2)?;
-    let mut all_kept = true;
+// Whether each recovery that stops before its end leaves the batch to the next, with unsynced writes
+// absent, present and torn.
+fn is_always_kept(alloc: Global, batch: &[(u64, Block)]) -> Result<bool, AllocError> {
     for calls in 0u64..11 {
-        let absent = is_kept(alloc, &batch, calls, &[Unsynced::Absent])?;
-        let present = is_kept(alloc, &batch, calls, &[Unsynced::Present])?;
-        let torn = is_kept(alloc, &batch, calls, &[Unsynced::Torn])?;
-        all_kept = all_kept && absent && present && torn;
+        if !is_kept(alloc, batch, calls, &[Unsynced::Absent])?
+            || !is_kept(alloc, batch, calls, &[Unsynced::Present])?
+            || !is_kept(alloc, batch, calls, &[Unsynced::Torn])?
+        {
+            return Ok(false);
+        }
     }
-    assert!(rt; all_kept);
-    let mut whole = FuseDevice::new(waiting_device(alloc, &batch)?, 11);
+    Ok(true)
+}
+
+#[test]
+fn a_stopped_recovery_keeps_the_batch(rt: HostRuntime) {
+    let alloc = rt.alloc();
+    let batch = new_batch(&rt, alloc, 2);
+    assert!(rt; is_always_kept(alloc, &batch).expect(&rt, "memory is there"));
+    let device = waiting_device(alloc, &batch).expect(&rt, "memory is there");
+    let mut whole = FuseDevice::new(device, 11);
     same(&rt, recover(&mut whole), Ok(true));
-    Ok(())
 }
 
 fn write_redo(dev: &mut MemDevice, at: u64, block: &Block) -> bool {
@@ -260,15 +269,15 @@ fn a_redo_region_of_161_blocks_is_short(rt: HostRuntime) {
 }
 
 #[test]
-fn a_batch_of_161_blocks_is_refused(rt: HostRuntime) -> Result<(), Fail> {
+fn a_batch_of_161_blocks_is_refused(rt: HostRuntime) {
     let alloc = rt.alloc();
-    let batch = batch_of(alloc, 161)?;
+    let batch = new_batch(&rt, alloc, 161);
     let mut dev = new_device(alloc);
     if batch.is_empty()
         || dev.size(Region::Redo) < 162
         || !does_rise(&batch, dev.size(Region::Image))
     {
-        return Err("no batch".into());
+        panic!(rt; "no batch");
     }
     same(
         &rt,
@@ -277,14 +286,13 @@ fn a_batch_of_161_blocks_is_refused(rt: HostRuntime) -> Result<(), Fail> {
     );
     assert!(rt; holds(&mut dev, Region::Redo, 1, &Block::zeroed()));
     assert!(rt; holds(&mut dev, Region::Redo, 2, &Block::zeroed()));
-    Ok(())
 }
 
 // What stands in the redo region after a batch of two blocks was prepared.
 #[test]
-fn table_and_copies_stand_behind_the_gate(rt: HostRuntime) -> Result<(), Fail> {
+fn table_and_copies_stand_behind_the_gate(rt: HostRuntime) {
     let alloc = rt.alloc();
-    let batch = batch_of(alloc, 2)?;
+    let batch = new_batch(&rt, alloc, 2);
     let mut fuse = FuseDevice::new(new_device(alloc), 4);
     commit(&mut fuse, &batch);
     let mut dev = fuse.into_inner();
@@ -297,5 +305,4 @@ fn table_and_copies_stand_behind_the_gate(rt: HostRuntime) -> Result<(), Fail> {
     assert!(rt; holds(&mut dev, Region::Redo, 2, &filled(1)));
     assert!(rt; holds(&mut dev, Region::Redo, 3, &filled(2)));
     same(&rt, waiting(&mut dev), Ok(false));
-    Ok(())
 }

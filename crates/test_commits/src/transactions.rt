@@ -4,7 +4,7 @@ ghost use Rattle.blk_device.specs.declared.device.Region.TheVariants.{Image};
 ghost use Rattle.meta_txn.specs.Joined.{IsInside};
 
 use super::same::same;
-use blk_cache::BlkCache;
+use blk_cache::{BlkCache, Memory};
 use blk_device::{Device, FuseDevice, MemDevice, Region, Unsynced};
 use byte_fields::{Block, Steps};
 use meta_txn::{Txn, TxnFault};
@@ -12,7 +12,6 @@ use redo_area::recover;
 use std::alloc::{AllocError, Global};
 use std::marker::Brand;
 use std::sync::ledger::{Blank, Ledger};
-use std::test::Fail;
 
 // One call of a transaction, or a look through the cache.
 #[derive(Clone, Copy)]
@@ -123,12 +122,18 @@ fn act<D: Device, L: Ledger>(
     }
 }
 
+// A call of its own, since `Memory` is not made of an error that hands the byte back.
+fn keep(seen: &mut Vec<u8>, byte: u8) -> Result<(), AllocError> {
+    seen.push(byte)?;
+    Ok(())
+}
+
 fn play<L: Ledger>(
     alloc: Global,
     dev: FuseDevice,
     deeds: &[Deed],
     blank: Blank,
-) -> Result<Played, Fail>
+) -> Result<Played, Memory>
     requires name { blank.name ≡ L.name }
     requires parts { blank.parts ≡ L.parts }
     requires three { blank.parts ≡ 3 }
@@ -140,7 +145,7 @@ fn play<L: Ledger>(
     let mut seen = Vec::new(alloc);
     for deed in deeds {
         match act(&mut txn, &mut dev, &mut cache, *deed, &mut steps) {
-            Ok(byte) => seen.push(byte)?,
+            Ok(byte) => keep(&mut seen, byte)?,
             Err(refused) => {
                 return Ok(Played {
                     dev,
@@ -158,7 +163,7 @@ fn play<L: Ledger>(
 }
 
 // An image of 200 blocks of zeros, after these deeds; the device passes so many calls on.
-fn outcome_of(alloc: Global, calls: u64, deeds: &[Deed]) -> Result<Played, Fail> {
+fn outcome_of(alloc: Global, calls: u64, deeds: &[Deed]) -> Result<Played, Memory> {
     let dev = MemDevice::new(alloc, 200, 162, Vec::new(alloc));
     let blank = Blank::new(3);
     play::<Brand>(alloc, FuseDevice::new(dev, calls), deeds, blank)
@@ -180,7 +185,7 @@ fn bytes_of(dev: &mut MemDevice) -> Option<[u8; 2]> {
 }
 
 #[test]
-fn a_commit_writes_its_blocks_and_tells_the_cache(rt: HostRuntime) -> Result<(), Fail> {
+fn a_commit_writes_its_blocks_and_tells_the_cache(rt: HostRuntime) {
     let deeds = [
         Deed::Look(3),
         Deed::Change(5, 10),
@@ -193,7 +198,7 @@ fn a_commit_writes_its_blocks_and_tells_the_cache(rt: HostRuntime) -> Result<(),
         Deed::Abandon,
         Deed::Commit,
     ];
-    let played = outcome_of(rt.alloc(), 1000, &deeds)?;
+    let played = outcome_of(rt.alloc(), 1000, &deeds).expect(&rt, "memory is there");
     same(&rt, played.fault, None);
     same(
         &rt,
@@ -201,11 +206,10 @@ fn a_commit_writes_its_blocks_and_tells_the_cache(rt: HostRuntime) -> Result<(),
         [0, 0, 0, 10, 0, 20, 30, 30, 0, 0].as_slice(),
     );
     same(&rt, bytes_of(&mut played.dev.into_inner()), Some([20, 30]));
-    Ok(())
 }
 
 #[test]
-fn back_returns_to_the_mark(rt: HostRuntime) -> Result<(), Fail> {
+fn back_returns_to_the_mark(rt: HostRuntime) {
     let deeds = [
         Deed::Change(5, 1),
         Deed::Back,
@@ -220,7 +224,7 @@ fn back_returns_to_the_mark(rt: HostRuntime) -> Result<(), Fail> {
         Deed::Back,
         Deed::Change(5, 6),
     ];
-    let played = outcome_of(rt.alloc(), 1000, &deeds)?;
+    let played = outcome_of(rt.alloc(), 1000, &deeds).expect(&rt, "memory is there");
     same(&rt, played.fault, None);
     same(
         &rt,
@@ -228,7 +232,6 @@ fn back_returns_to_the_mark(rt: HostRuntime) -> Result<(), Fail> {
         [0, 0, 0, 0, 2, 0, 0, 0, 0, 0, 0, 2].as_slice(),
     );
     same(&rt, bytes_of(&mut played.dev.into_inner()), Some([0, 2]));
-    Ok(())
 }
 
 // What a crash and a recovery leave of blocks 3 and 5 after a commit that stops after so many calls,
@@ -237,7 +240,7 @@ fn left_by(
     alloc: Global,
     calls: u64,
     choices: &[Unsynced],
-) -> Result<(Option<[u8; 2]>, bool), Fail> {
+) -> Result<(Option<[u8; 2]>, bool), Memory> {
     let deeds = [Deed::Change(5, 2), Deed::Change(3, 1), Deed::Commit];
     let played = outcome_of(alloc, calls, &deeds)?;
     let is_done = played.fault.is_none();
@@ -250,18 +253,17 @@ fn left_by(
 
 // Two reads of the joins, and two calls a block and seven of the commit.
 #[test]
-fn a_stopped_commit_leaves_both_blocks_or_none(rt: HostRuntime) -> Result<(), Fail> {
+fn a_stopped_commit_leaves_both_blocks_or_none(rt: HostRuntime) {
     let alloc = rt.alloc();
     let mixed = [Unsynced::Present, Unsynced::Torn, Unsynced::Absent];
     for calls in 2..14u64 {
         for choices in [[Unsynced::Absent; 3], [Unsynced::Present; 3], mixed] {
-            let (left, is_done) = left_by(alloc, calls, &choices)?;
+            let (left, is_done) = left_by(alloc, calls, &choices).expect(&rt, "memory is there");
             same(&rt, is_done, calls == 13);
             let is_old = !is_done && left == Some([0, 0]);
             assert!(rt; is_old || left == Some([1, 2]), "after {calls} calls");
         }
     }
-    Ok(())
 }
 
 // As many joins as this, of the first blocks.
@@ -274,10 +276,10 @@ fn joins(alloc: Global, count: u8) -> Result<Vec<Deed>, AllocError> {
 }
 
 #[test]
-fn a_block_more_than_160_is_refused(rt: HostRuntime) -> Result<(), Fail> {
+fn a_block_more_than_160_is_refused(rt: HostRuntime) {
     let alloc = rt.alloc();
-    let played = outcome_of(alloc, 1000, &joins(alloc, 161)?)?;
+    let deeds = joins(alloc, 161).expect(&rt, "memory is there");
+    let played = outcome_of(alloc, 1000, &deeds).expect(&rt, "memory is there");
     same(&rt, played.seen.len(), 160);
     same(&rt, played.fault, Some(TxnFault::TooMany(161)));
-    Ok(())
 }

@@ -7,7 +7,7 @@ use std::cell::Cell;
 use std::fs::{Files, Metadata, OpenFile};
 use std::io;
 use std::io::{ErrorKind, Read, Seek, SeekFrom, Write};
-use std::test::Fail;
+use std::process::Abort;
 
 // A file of which no read that touches one of its blocks is answered. Its reads are counted.
 #[derive(Drop)]
@@ -75,19 +75,18 @@ impl<F: OpenFile + Drop> OpenFile for BadBlock<'_, F> {
 }
 
 // An empty file with one block that can't be read; a block behind its end leaves all to be read.
-fn bad_file<'a, R: Files>(
-    files: &R,
+fn bad_file<'a, R: Files + Abort>(
+    rt: &R,
     name: &str,
     bad: u64,
     asked: &'a Cell<u64>,
-) -> io::Result<BadBlock<'a, R::File>> {
-    let file = empty_file(files, name)?;
-    Ok(BadBlock {
-        file,
+) -> BadBlock<'a, R::File> {
+    BadBlock {
+        file: empty_file(rt, name),
         place: 0,
         bad,
         asked,
-    })
+    }
 }
 
 // Writes the block and the three behind it, whose bytes are the number and its followers.
@@ -126,37 +125,39 @@ fn four_at<D: Device>(device: &mut D, at: u64) -> [Option<u8>; 4] {
     ]
 }
 
+// What four blocks read as that were written with this number and its followers.
+fn four_from(number: u8) -> [Option<u8>; 4] {
+    [
+        Some(number),
+        Some(number.saturating_add(1)),
+        Some(number.saturating_add(2)),
+        Some(number.saturating_add(3)),
+    ]
+}
+
+// Asserts what is read in order, and by how many calls.
+fn expect_in_order<D: Device>(rt: &impl Abort, device: &mut D, asked: &Cell<u64>) {
+    same(rt, four_at(device, 0), four_from(1));
+    same(rt, four_at(device, 4), four_from(5));
+    same(rt, asked.get(), 1);
+    same(rt, four_at(device, 8), four_from(9));
+    same(rt, asked.get(), 2);
+    same(rt, number_at(device, 11), Some(12));
+    same(rt, number_at(device, 1), Some(2));
+    same(rt, asked.get(), 3);
+}
+
 #[test]
-fn blocks_in_order_are_read_eight_at_once(rt: HostRuntime) -> Result<(), Fail> {
+fn blocks_in_order_are_read_eight_at_once(rt: HostRuntime) {
     let asked = Cell::new(0);
-    let image = bad_file(&rt, "ahead.image", 99, &asked).map_err(|_| "no image file")?;
+    let image = bad_file(&rt, "ahead.image", 99, &asked);
     let mut device = FileDevice::new(rt.alloc(), image, None, 12, 162);
     let done = write_four(&mut device, 0, 1)
         && write_four(&mut device, 4, 5)
         && write_four(&mut device, 8, 9);
     assert!(rt; done);
-    same(
-        &rt,
-        four_at(&mut device, 0),
-        [Some(1), Some(2), Some(3), Some(4)],
-    );
-    same(
-        &rt,
-        four_at(&mut device, 4),
-        [Some(5), Some(6), Some(7), Some(8)],
-    );
-    same(&rt, asked.get(), 1);
-    same(
-        &rt,
-        four_at(&mut device, 8),
-        [Some(9), Some(10), Some(11), Some(12)],
-    );
-    same(&rt, asked.get(), 2);
-    same(&rt, number_at(&mut device, 11), Some(12));
-    same(&rt, number_at(&mut device, 1), Some(2));
-    same(&rt, asked.get(), 3);
+    expect_in_order(&rt, &mut device, &asked);
     assert!(rt; is_removed(&rt, "ahead.image"));
-    Ok(())
 }
 
 // Blocks, and how often the system was called to read once each was asked for: block 8 is read alone,
@@ -176,63 +177,61 @@ const CALLS: [(u64, u64); 11] = [
     (1, 4),
 ];
 
+// Asserts how often the system was called to read.
+fn expect_calls<D: Device>(rt: &impl Abort, device: &mut D, asked: &Cell<u64>) {
+    for (at, calls) in CALLS {
+        let number = number_at(device, at);
+        assert!(rt; number.is_some() && asked.get() == calls, "block {at}");
+    }
+}
+
 #[test]
-fn blocks_behind_one_are_read_with_it_while_they_are_asked_for(
-    rt: HostRuntime,
-) -> Result<(), Fail> {
+fn blocks_behind_one_are_read_with_it_while_they_are_asked_for(rt: HostRuntime) {
     let asked = Cell::new(0);
-    let image = bad_file(&rt, "vain.image", 99, &asked).map_err(|_| "no image file")?;
+    let image = bad_file(&rt, "vain.image", 99, &asked);
     let mut device = FileDevice::new(rt.alloc(), image, None, 16, 162);
     let done = write_four(&mut device, 0, 1) && write_four(&mut device, 12, 13);
     assert!(rt; done);
-    for (at, calls) in CALLS {
-        let number = number_at(&mut device, at);
-        assert!(rt; number.is_some() && asked.get() == calls, "block {at}");
-    }
+    expect_calls(&rt, &mut device, &asked);
     assert!(rt; is_removed(&rt, "vain.image"));
-    Ok(())
 }
 
-#[test]
-fn a_block_read_ahead_is_read_anew_once_written(rt: HostRuntime) -> Result<(), Fail> {
-    let asked = Cell::new(0);
-    let image = bad_file(&rt, "anew.image", 99, &asked).map_err(|_| "no image file")?;
-    let mut device = FileDevice::new(rt.alloc(), image, None, 8, 162);
-    let done = write_four(&mut device, 0, 1) && write_four(&mut device, 4, 5);
-    let first = number_at(&mut device, 0);
-    let second = number_at(&mut device, 1);
-    let is_changed = write_four(&mut device, 2, 21);
+// Asserts what is read of blocks that are written once they were read ahead.
+fn expect_read_anew<D: Device>(rt: &impl Abort, device: &mut D) {
+    let done = write_four(device, 0, 1) && write_four(device, 4, 5);
+    let first = number_at(device, 0);
+    let second = number_at(device, 1);
+    let is_changed = write_four(device, 2, 21);
     assert!(rt; done && is_changed);
-    same(&rt, [first, second], [Some(1), Some(2)]);
-    same(
-        &rt,
-        four_at(&mut device, 2),
-        [Some(21), Some(22), Some(23), Some(24)],
-    );
-    same(&rt, number_at(&mut device, 7), Some(8));
-    assert!(rt; is_removed(&rt, "anew.image"));
-    Ok(())
+    same(rt, [first, second], [Some(1), Some(2)]);
+    same(rt, four_at(device, 2), four_from(21));
+    same(rt, number_at(device, 7), Some(8));
 }
 
 #[test]
-fn a_bad_block_fails_at_its_own_read_alone(rt: HostRuntime) -> Result<(), Fail> {
+fn a_block_read_ahead_is_read_anew_once_written(rt: HostRuntime) {
     let asked = Cell::new(0);
-    let image = bad_file(&rt, "bad.image", 3, &asked).map_err(|_| "no image file")?;
+    let image = bad_file(&rt, "anew.image", 99, &asked);
     let mut device = FileDevice::new(rt.alloc(), image, None, 8, 162);
-    let done = write_four(&mut device, 0, 1) && write_four(&mut device, 4, 5);
+    expect_read_anew(&rt, &mut device);
+    assert!(rt; is_removed(&rt, "anew.image"));
+}
+
+// Asserts what is read of the blocks beside the one that can't be.
+fn expect_around_the_bad_one<D: Device>(rt: &impl Abort, device: &mut D) {
+    let done = write_four(device, 0, 1) && write_four(device, 4, 5);
     assert!(rt; done);
-    same(
-        &rt,
-        four_at(&mut device, 0),
-        [Some(1), Some(2), Some(3), None],
-    );
-    same(&rt, device.fault_count(), 1);
-    same(
-        &rt,
-        four_at(&mut device, 4),
-        [Some(5), Some(6), Some(7), Some(8)],
-    );
-    same(&rt, device.fault_count(), 1);
+    same(rt, four_at(device, 0), [Some(1), Some(2), Some(3), None]);
+    same(rt, device.fault_count(), 1);
+    same(rt, four_at(device, 4), four_from(5));
+    same(rt, device.fault_count(), 1);
+}
+
+#[test]
+fn a_bad_block_fails_at_its_own_read_alone(rt: HostRuntime) {
+    let asked = Cell::new(0);
+    let image = bad_file(&rt, "bad.image", 3, &asked);
+    let mut device = FileDevice::new(rt.alloc(), image, None, 8, 162);
+    expect_around_the_bad_one(&rt, &mut device);
     assert!(rt; is_removed(&rt, "bad.image"));
-    Ok(())
 }

@@ -6,7 +6,6 @@ use blk_cache::{BlkCache, Memory};
 use blk_device::{Device, MemDevice, Region};
 use byte_fields::Block;
 use std::alloc::Global;
-use std::test::Fail;
 
 fn block_of(byte: u8) -> Block {
     let mut block = Block::zeroed();
@@ -68,7 +67,7 @@ fn reads_in(alloc: Global, capacity: usize, gets: &[u64]) -> Result<[u64; 3], Me
 }
 
 #[test]
-fn the_block_used_longest_ago_gives_way(rt: HostRuntime) -> Result<(), Fail> {
+fn the_block_used_longest_ago_gives_way(rt: HostRuntime) {
     let gets = [0, 0, 1, 0, 2, 0, 1, 1];
     let table = [
         (0, [4, 3, 1]),
@@ -77,31 +76,29 @@ fn the_block_used_longest_ago_gives_way(rt: HostRuntime) -> Result<(), Fail> {
         (3, [1, 1, 1]),
     ];
     for (capacity, reads) in table {
-        let found = reads_in(rt.alloc(), capacity, &gets)?;
+        let found = reads_in(rt.alloc(), capacity, &gets).expect(&rt, "memory is there");
         assert_eq!(rt; found, reads, "at a capacity of {capacity}");
     }
-    Ok(())
 }
 
 #[test]
-fn the_newest_written_block_wins(rt: HostRuntime) -> Result<(), Fail> {
+fn the_newest_written_block_wins(rt: HostRuntime) {
     let alloc = rt.alloc();
     let mut device = three_blocks(alloc);
-    let mut cache = BlkCache::new(alloc, 1)?;
+    let mut cache = BlkCache::new(alloc, 1).expect(&rt, "memory is there");
     let read = byte_at(&mut cache, &mut device, 1);
     let written = write_byte(&mut cache, &mut device, 1, 20);
     let noted = byte_at(&mut cache, &mut device, 1);
     assert!(rt; written);
     same(&rt, [read, noted], [Some(11), Some(20)]);
     same(&rt, device.reads_at(1), 1);
-    Ok(())
 }
 
 #[test]
-fn another_block_that_was_written_takes_the_one_place(rt: HostRuntime) -> Result<(), Fail> {
+fn another_block_that_was_written_takes_the_one_place(rt: HostRuntime) {
     let alloc = rt.alloc();
     let mut device = three_blocks(alloc);
-    let mut cache = BlkCache::new(alloc, 1)?;
+    let mut cache = BlkCache::new(alloc, 1).expect(&rt, "memory is there");
     let before = byte_at(&mut cache, &mut device, 0);
     let written = write_byte(&mut cache, &mut device, 2, 22);
     let other = byte_at(&mut cache, &mut device, 2);
@@ -109,15 +106,14 @@ fn another_block_that_was_written_takes_the_one_place(rt: HostRuntime) -> Result
     assert!(rt; written);
     same(&rt, [before, other, after], [Some(10), Some(22), Some(10)]);
     same(&rt, [device.reads_at(0), device.reads_at(2)], [2, 0]);
-    Ok(())
 }
 
 #[test]
-fn a_read_that_fails_is_told_and_tried_again(rt: HostRuntime) -> Result<(), Fail> {
+fn a_read_that_fails_is_told_and_tried_again(rt: HostRuntime) {
     let alloc = rt.alloc();
-    let failing = [0u64, 2].to_vec(alloc)?;
+    let failing = [0u64, 2].to_vec(alloc).expect(&rt, "memory is there");
     let mut device = MemDevice::new(alloc, 3, 1, failing);
-    let mut cache = BlkCache::new(alloc, 2)?;
+    let mut cache = BlkCache::new(alloc, 2).expect(&rt, "memory is there");
     let first = byte_at(&mut cache, &mut device, 1);
     let second = byte_at(&mut cache, &mut device, 1);
     let kept = byte_at(&mut cache, &mut device, 1);
@@ -128,7 +124,6 @@ fn a_read_that_fails_is_told_and_tried_again(rt: HostRuntime) -> Result<(), Fail
         [None, Some(0), Some(0), None],
     );
     same(&rt, device.fault_count(), 2);
-    Ok(())
 }
 
 fn sent<T: Send>(value: T) -> T
@@ -138,10 +133,9 @@ fn sent<T: Send>(value: T) -> T
 }
 
 #[test]
-fn a_cache_can_be_sent_to_another_thread(rt: HostRuntime) -> Result<(), Fail> {
+fn a_cache_can_be_sent_to_another_thread(rt: HostRuntime) {
     let alloc = rt.alloc();
     let mut device = three_blocks(alloc);
-    let mut cache = sent(BlkCache::new(alloc, 1)?);
+    let mut cache = sent(BlkCache::new(alloc, 1).expect(&rt, "memory is there"));
     same(&rt, byte_at(&mut cache, &mut device, 2), Some(12));
-    Ok(())
 }

@@ -31,12 +31,15 @@ fn do_stand<K: Sample>(alloc: Global) -> Result<bool, Fail> {
 #[test]
 fn each_kind_is_edited_at_each_place(rt: HostRuntime) -> Result<(), Fail> {
     let alloc = rt.alloc();
-    assert!(rt; do_stand::<BnoKind>(alloc)?);
-    assert!(rt; do_stand::<CntKind>(alloc)?);
-    assert!(rt; do_stand::<RmapKind>(alloc)?);
-    assert!(rt; do_stand::<RefcKind>(alloc)?);
-    assert!(rt; do_stand::<InoKind>(alloc)?);
-    assert!(rt; do_stand::<FinoKind>(alloc)?);
+    let found = [
+        do_stand::<BnoKind>(alloc)?,
+        do_stand::<CntKind>(alloc)?,
+        do_stand::<RmapKind>(alloc)?,
+        do_stand::<RefcKind>(alloc)?,
+        do_stand::<InoKind>(alloc)?,
+        do_stand::<FinoKind>(alloc)?,
+    ];
+    same(&rt, found, [true; 6]);
     Ok(())
 }
 
@@ -83,12 +86,15 @@ fn do_shapes_change<K: Sample>(alloc: Global, most: u32) -> Result<bool, Fail> {
 #[test]
 fn each_kind_changes_its_shape(rt: HostRuntime) -> Result<(), Fail> {
     let alloc = rt.alloc();
-    assert!(rt; do_shapes_change::<BnoKind>(alloc, 505)?);
-    assert!(rt; do_shapes_change::<CntKind>(alloc, 505)?);
-    assert!(rt; do_shapes_change::<RmapKind>(alloc, 168)?);
-    assert!(rt; do_shapes_change::<RefcKind>(alloc, 336)?);
-    assert!(rt; do_shapes_change::<InoKind>(alloc, 252)?);
-    assert!(rt; do_shapes_change::<FinoKind>(alloc, 252)?);
+    let found = [
+        do_shapes_change::<BnoKind>(alloc, 505)?,
+        do_shapes_change::<CntKind>(alloc, 505)?,
+        do_shapes_change::<RmapKind>(alloc, 168)?,
+        do_shapes_change::<RefcKind>(alloc, 336)?,
+        do_shapes_change::<InoKind>(alloc, 252)?,
+        do_shapes_change::<FinoKind>(alloc, 252)?,
+    ];
+    same(&rt, found, [true; 6]);
     Ok(())
 }
 

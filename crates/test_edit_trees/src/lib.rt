@@ -2,9 +2,9 @@
 #![tactic(auto)]
 
 #[cfg(test)]
-mod build;
-#[cfg(test)]
 mod edits;
+#[cfg(test)]
+mod groups;
 #[cfg(test)]
 mod kind_rows;
 #[cfg(test)]

@@ -4,7 +4,7 @@ ghost use Rattle.blk_cache.specs.Cache.{AgreesTold};
 ghost use Rattle.blk_device.specs.declared.device.Region.TheVariants.{Image};
 ghost use Rattle.meta_txn.specs.Joined.{AreBelow};
 
-use crate::build::{LENGTH, REDO, free_list, three_groups};
+use crate::groups::{LENGTH, REDO, free_list, three_groups};
 use crate::kinds::{Sample, list_of};
 use ag_headers::Agfl;
 use blk_cache::BlkCache;
@@ -34,8 +34,8 @@ pub struct State {
     pub limbo: Vec<u32>,
 }
 
-/// One edit of a tree of group 0, in a transaction; refused as Failed where the device is too small or
-/// the record isn't in range.
+/// One edit of a tree of group 0, in a transaction; refused as Failed where the device is too small, or
+/// where a record that is put in or changed isn't in range.
 pub fn apply<K: RecKind, D: Device, L: Ledger>(
     alloc: Global,
     dev: &mut D,
@@ -61,20 +61,16 @@ pub fn apply<K: RecKind, D: Device, L: Ledger>(
     if dev.size(Region::Image) < 3 * u64::from(LENGTH) {
         return Err(EditFault::Failed);
     }
+    if how == Edit::Remove {
+        return remove::<K, D, L>(alloc, dev, cache, &geo, txn, tree, list, limbo, rec, steps);
+    }
     if !K::is_in_range(&rec, &site.bounds) || !K::is_supported(&rec) {
         return Err(EditFault::Failed);
     }
-    match how {
-        Edit::Insert => {
-            insert::<K, D, L>(alloc, dev, cache, &geo, txn, tree, list, limbo, rec, steps)
-        }
-        Edit::Remove => {
-            remove::<K, D, L>(alloc, dev, cache, &geo, txn, tree, list, limbo, rec, steps)
-        }
-        Edit::Change => {
-            change::<K, D, L>(alloc, dev, cache, &geo, txn, tree, list, limbo, rec, steps)
-        }
+    if how == Edit::Insert {
+        return insert::<K, D, L>(alloc, dev, cache, &geo, txn, tree, list, limbo, rec, steps);
     }
+    change::<K, D, L>(alloc, dev, cache, &geo, txn, tree, list, limbo, rec, steps)
 }
 
 /// Writes what the transaction has joined.
@@ -274,7 +270,15 @@ pub fn records_of<K: RecKind>(
 
 /// Whether two lists have the same records in the same order.
 pub fn are_same<K: RecKind>(read: &[K::Rec], list: &[K::Rec]) -> bool {
-    read.len() == list.len() && read.iter().zip(list).all(|(a, b)| K::is_same(a, b))
+    if read.len() != list.len() {
+        return false;
+    }
+    for (a, b) in read.iter().zip(list) {
+        if !K::is_same(a, b) {
+            return false;
+        }
+    }
+    true
 }
 
 /// Whether the state's tree has exactly these records.

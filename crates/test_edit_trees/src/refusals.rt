@@ -44,7 +44,8 @@ fn free_space_refuses_what_does_not_fit(rt: HostRuntime) -> Result<(), Fail> {
             step::<BnoKind>(alloc, &mut state, how, rec),
             Err(fault),
         );
-        assert!(rt; is_as_before(&state, 500, 4) && reads::<BnoKind>(alloc, &mut state, &base));
+        same(&rt, is_as_before(&state, 500, 4), true);
+        same(&rt, reads::<BnoKind>(alloc, &mut state, &base), true);
     }
     Ok(())
 }
@@ -63,7 +64,7 @@ fn a_changed_record_stands_in_the_place_of_its_key(rt: HostRuntime) -> Result<()
             step::<BnoKind>(alloc, &mut state, Edit::Change, rec),
             Ok(()),
         );
-        assert!(rt; reads::<BnoKind>(alloc, &mut state, &wanted));
+        same(&rt, reads::<BnoKind>(alloc, &mut state, &wanted), true);
     }
     Ok(())
 }
@@ -85,7 +86,8 @@ fn shared_blocks_are_counted_anew(rt: HostRuntime) -> Result<(), Fail> {
             answer,
         );
         let kept = if answer.is_ok() { rec } else { base[0] };
-        assert!(rt; reads::<RefcKind>(alloc, &mut state, &[kept, base[1]]));
+        let is_read = reads::<RefcKind>(alloc, &mut state, &[kept, base[1]]);
+        same(&rt, is_read, true);
     }
     Ok(())
 }
@@ -106,7 +108,7 @@ fn a_bad_root_is_told_first(rt: HostRuntime) -> Result<(), Fail> {
         (Edit::Change, span(20, 1)),
     ] {
         same(&rt, step::<BnoKind>(alloc, &mut state, how, rec), Err(bad));
-        assert!(rt; is_as_before(&state, 501, 0));
+        same(&rt, is_as_before(&state, 501, 0), true);
     }
     Ok(())
 }

@@ -1,4 +1,5 @@
 // Many edits in a row of one tree, chosen by a generator, beside a list that says which records stand.
+use super::same::same;
 use crate::kinds::{Sample, list_of};
 use crate::play::{State, has_numbers, state_of, step};
 use ino_recs::FinoKind;
@@ -80,8 +81,11 @@ fn does_follow<K: Sample>(alloc: Global, records: u32, seed: u32) -> Result<bool
 #[test]
 fn a_long_sequence_follows_a_sorted_list(rt: HostRuntime) -> Result<(), Fail> {
     let alloc = rt.alloc();
-    assert!(rt; does_follow::<BnoKind>(alloc, 504, 1)?);
-    assert!(rt; does_follow::<RmapKind>(alloc, 168, 2)?);
-    assert!(rt; does_follow::<FinoKind>(alloc, 252, 3)?);
+    let found = [
+        does_follow::<BnoKind>(alloc, 504, 1)?,
+        does_follow::<RmapKind>(alloc, 168, 2)?,
+        does_follow::<FinoKind>(alloc, 252, 3)?,
+    ];
+    same(&rt, found, [true; 3]);
     Ok(())
 }

@@ -7,7 +7,7 @@ ghost use Rattle.meta_txn.specs.Joined.{AreBelow};
 ghost use Rattle.sblock.specs.declared.kind.Kind.TheVariants.{Bno, Cnt};
 
 use super::same::same;
-use crate::build::free_list;
+use crate::groups::free_list;
 use crate::kinds::{evens, list_of};
 use crate::play::{apply, are_same, device_with, lay, records_of, tree_at, write};
 use ag_headers::Agfl;

@@ -1,6 +1,6 @@
 // A commit of an edit that stops after so many calls of the device, and a crash then.
-use super::same::same;
-use crate::build::free_list;
+use super::same::{same, same_in_row};
+use crate::groups::free_list;
 use crate::kinds::{evens, list_of};
 use crate::play::{device_with, edit_in, lay, records_of, tree_at};
 use blk_device::{FuseDevice, MemDevice, Unsynced};
@@ -61,6 +61,12 @@ fn left_by(
     ])
 }
 
+// Whether what is left is the tree before the edit, unless that was done, or the one afterwards.
+fn is_either(left: [Option<usize>; 2], is_done: bool) -> bool {
+    let is_old = !is_done && left == [Some(505), None];
+    is_old || left == [None, Some(506)]
+}
+
 // One read of the walk and two of the list's blocks, then two calls a block and seven of the commit.
 #[test]
 fn a_stopped_edit_leaves_the_tree_before_or_afterwards(rt: HostRuntime) -> Result<(), Fail> {
@@ -71,8 +77,7 @@ fn a_stopped_edit_leaves_the_tree_before_or_afterwards(rt: HostRuntime) -> Resul
         same(&rt, is_done, calls >= 16);
         for choices in [[Unsynced::Absent; 3], [Unsynced::Present; 3], mixed] {
             let left = left_by(alloc, &stopped, &choices)?;
-            let is_old = !is_done && left == [Some(505), None];
-            assert!(rt; is_old || left == [None, Some(506)], "after {calls} calls");
+            same_in_row(&rt, calls, is_either(left, is_done), true);
         }
     }
     Ok(())

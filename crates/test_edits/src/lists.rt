@@ -3,7 +3,8 @@ use super::same::same;
 use list_edit::{Edit, ListFault, edit_list};
 use rmap_recs::{RmapKind, RmapRec};
 use span_recs::{BnoKind, CntKind, RefcKind, RefcRec, SpanRec};
-use std::alloc::AllocError;
+use std::alloc::{AllocError, Global};
+use std::process::Abort;
 
 fn span(start: u32, count: u32) -> SpanRec {
     SpanRec { start, count }
@@ -26,61 +27,53 @@ fn owned(start: u32, count: u32, owner: u64, word: u64) -> RmapRec {
     }
 }
 
-#[test]
-fn free_space_by_start_is_edited(rt: HostRuntime) -> Result<(), AllocError> {
-    for (how, rec, wanted) in [
-        (
-            Edit::Insert,
-            span(1, 2),
-            [span(1, 2), span(19, 5), span(32, 224)],
-        ),
-        (
-            Edit::Insert,
-            span(24, 8),
-            [span(19, 5), span(24, 8), span(32, 224)],
-        ),
-        (
-            Edit::Insert,
-            span(256, 4),
-            [span(19, 5), span(32, 224), span(256, 4)],
-        ),
-    ] {
-        let mut list = Vec::from_array(rt.alloc(), [span(19, 5), span(32, 224)])?;
-        same(&rt, edit_list::<BnoKind>(&mut list, how, &rec), Ok(()));
-        same(&rt, list.as_slice(), wanted.as_slice());
-    }
-    for (how, rec, wanted) in [
-        (Edit::Remove, span(19, 5), [span(32, 224)]),
-        (Edit::Remove, span(32, 224), [span(19, 5)]),
-    ] {
-        let mut list = Vec::from_array(rt.alloc(), [span(19, 5), span(32, 224)])?;
-        same(&rt, edit_list::<BnoKind>(&mut list, how, &rec), Ok(()));
-        same(&rt, list.as_slice(), wanted.as_slice());
-    }
-    Ok(())
+// Edits the list of two free runs by start, and compares the answer and the list.
+fn expect_by_start(
+    rt: &impl Abort,
+    alloc: Global,
+    how: Edit,
+    rec: SpanRec,
+    answer: Result<(), ListFault>,
+    wanted: &[SpanRec],
+) {
+    let mut list = Vec::from_array(alloc, [span(19, 5), span(32, 224)]).expect(
+        rt,
+        "memory is there",
+    );
+    same(rt, edit_list::<BnoKind>(&mut list, how, &rec), answer);
+    same(rt, list.as_slice(), wanted);
 }
 
 #[test]
-fn free_space_by_start_refuses(rt: HostRuntime) -> Result<(), AllocError> {
-    for (how, rec, fault) in [
-        (Edit::Remove, span(20, 1), ListFault::Missing),
-        (Edit::Remove, span(19, 4), ListFault::Missing),
-        (Edit::Change, span(20, 4), ListFault::Missing),
-        (Edit::Insert, span(22, 4), ListFault::Overlap),
-        (Edit::Insert, span(18, 2), ListFault::Overlap),
-        (Edit::Insert, span(1, 255), ListFault::Overlap),
-        (Edit::Insert, span(19, 5), ListFault::Overlap),
-        (Edit::Change, span(19, 14), ListFault::Overlap),
+fn free_space_by_start_is_edited(rt: HostRuntime) {
+    for (rec, wanted) in [
+        (span(1, 2), [span(1, 2), span(19, 5), span(32, 224)]),
+        (span(24, 8), [span(19, 5), span(24, 8), span(32, 224)]),
+        (span(256, 4), [span(19, 5), span(32, 224), span(256, 4)]),
     ] {
-        let mut list = Vec::from_array(rt.alloc(), [span(19, 5), span(32, 224)])?;
-        same(&rt, edit_list::<BnoKind>(&mut list, how, &rec), Err(fault));
-        same(
-            &rt,
-            list.as_slice(),
-            [span(19, 5), span(32, 224)].as_slice(),
-        );
+        expect_by_start(&rt, rt.alloc(), Edit::Insert, rec, Ok(()), &wanted);
     }
-    Ok(())
+    for (rec, wanted) in [(span(19, 5), span(32, 224)), (span(32, 224), span(19, 5))] {
+        expect_by_start(&rt, rt.alloc(), Edit::Remove, rec, Ok(()), &[wanted]);
+    }
+}
+
+#[test]
+fn free_space_by_start_refuses(rt: HostRuntime) {
+    let unchanged = [span(19, 5), span(32, 224)];
+    for (how, start, count, fault) in [
+        (Edit::Remove, 20, 1, ListFault::Missing),
+        (Edit::Remove, 19, 4, ListFault::Missing),
+        (Edit::Change, 20, 4, ListFault::Missing),
+        (Edit::Insert, 22, 4, ListFault::Overlap),
+        (Edit::Insert, 18, 2, ListFault::Overlap),
+        (Edit::Insert, 1, 255, ListFault::Overlap),
+        (Edit::Insert, 19, 5, ListFault::Overlap),
+        (Edit::Change, 19, 14, ListFault::Overlap),
+    ] {
+        let rec = span(start, count);
+        expect_by_start(&rt, rt.alloc(), how, rec, Err(fault), &unchanged);
+    }
 }
 
 #[test]

@@ -5,6 +5,7 @@ ghost use Rattle.geom.specs.Layout.{group_len_of};
 ghost use Rattle.geom.specs.Places.{layout};
 ghost use Rattle.inode_pass.specs.Notes.{AreFit};
 
+use super::same::same;
 use blk_device::{Device, MemDevice, Region};
 use byte_fields::{Block, Steps, put_sum, put_u16, put_u32, put_u64, sum_at};
 use check_watch::NoWatch;
@@ -17,8 +18,8 @@ use inode_pass::{GroupInodes, PassStop, see_units};
 use run_sets::Run;
 use std::alloc::Global;
 use std::marker::Brand;
+use std::process::Abort;
 use std::sync::ledger::{Blank, Ledger};
-use std::test::Fail;
 use unit_plan::Among;
 
 // What an inode says: its mode, the format of its data fork with the number of its mappings, the first
@@ -239,124 +240,100 @@ fn bad_fork(ino: u64, fault: ForkFault) -> Option<Evidence> {
     Some(Evidence::BadFork { ino, fault })
 }
 
-#[test]
-fn forks_claim_what_they_map(rt: HostRuntime) -> Result<(), Fail> {
-    let alloc = rt.alloc();
-    for (first, second, found) in [
-        // Written file data may be shared; attributes may not, and data that isn't written may not.
-        (
-            FILE,
-            Shape {
-                attr: (0, (111 << 21) + 1),
-                ..FILE
-            },
-            None,
-        ),
-        (FILE, FILE, overlap(110, Claim::Attr(195), Claim::Attr(196))),
-        (
-            FILE,
-            Shape {
-                data: (1 << 63, (109 << 21) + 2),
-                attr: (0, (111 << 21) + 1),
-                ..FILE
-            },
-            overlap(110, Claim::Data(196), Claim::Attr(195)),
-        ),
-        // A free inode claims nothing.
-        (FILE, Shape { mode: 0, ..FILE }, None),
-        (Shape { mode: 0, ..FILE }, FILE, None),
-        // The leaf of a btree, and the block that it maps.
-        (
-            TREE,
-            Shape {
-                data: (0, (40 << 21) + 1),
-                attr: (0, (111 << 21) + 1),
-                ..FILE
-            },
-            overlap(40, Claim::Data(196), Claim::ForkTree(195)),
-        ),
-        (
-            TREE,
-            Shape {
-                attr: (0, (120 << 21) + 1),
-                ..FILE
-            },
-            overlap(120, Claim::Data(195), Claim::Attr(196)),
-        ),
-    ] {
-        assert_eq!(rt; shown(alloc, first, second), Some(found));
-    }
-    Ok(())
+fn expect_shown(
+    rt: &impl Abort,
+    alloc: Global,
+    first: Shape,
+    second: Shape,
+    found: Option<Evidence>,
+) {
+    same(rt, shown(alloc, first, second), Some(found));
+}
+
+// A file with these words in its forks.
+fn file(data: (u64, u64), attr: (u64, u64)) -> Shape {
+    Shape { data, attr, ..FILE }
+}
+
+// Attributes in a block that no other shape has.
+const APART: (u64, u64) = (0, (111 << 21) + 1);
+
+// Written file data may be shared; attributes may not, and data that isn't written may not.
+fn expect_of_files(rt: &impl Abort, alloc: Global) {
+    let attributes = overlap(110, Claim::Attr(195), Claim::Attr(196));
+    let unwritten = overlap(110, Claim::Data(196), Claim::Attr(195));
+    expect_shown(rt, alloc, FILE, file(FILE.data, APART), None);
+    expect_shown(rt, alloc, FILE, FILE, attributes);
+    let second = file((1 << 63, (109 << 21) + 2), APART);
+    expect_shown(rt, alloc, FILE, second, unwritten);
+}
+
+// The leaf of a btree, and the block that it maps.
+fn expect_of_trees(rt: &impl Abort, alloc: Global) {
+    let leaf = overlap(40, Claim::Data(196), Claim::ForkTree(195));
+    let second = file((0, (40 << 21) + 1), APART);
+    expect_shown(rt, alloc, TREE, second, leaf);
+    let mapped = overlap(120, Claim::Data(195), Claim::Attr(196));
+    let second = file(FILE.data, (0, (120 << 21) + 1));
+    expect_shown(rt, alloc, TREE, second, mapped);
 }
 
 #[test]
-fn the_first_bad_fork_is_shown(rt: HostRuntime) -> Result<(), Fail> {
+fn forks_claim_what_they_map(rt: HostRuntime) {
     let alloc = rt.alloc();
-    // A mapping without a block, and one that passes the group's end.
-    let none = (0, 100 << 21);
-    let far = (0, (255 << 21) + 2);
-    for (first, second, found) in [
-        (
-            Shape { data: none, ..FILE },
-            FILE,
-            bad_fork(195, ForkFault::Range),
-        ),
-        (
-            Shape { attr: far, ..FILE },
-            FILE,
-            bad_fork(195, ForkFault::Range),
-        ),
-        (
-            FILE,
-            Shape { attr: far, ..FILE },
-            bad_fork(196, ForkFault::Range),
-        ),
-        // More mappings than fit; of two bad forks the data fork's fault, of two bad inodes the first's.
-        (
-            Shape { count: 13, ..FILE },
-            FILE,
-            bad_fork(195, ForkFault::Count),
-        ),
-        (
-            Shape {
-                count: 13,
-                attr: far,
-                ..FILE
-            },
-            FILE,
-            bad_fork(195, ForkFault::Count),
-        ),
-        (
-            Shape { format: 9, ..FILE },
-            Shape { count: 13, ..FILE },
-            bad_fork(195, ForkFault::Format),
-        ),
-        // A btree with another number of mappings than its core says, and with a bad block.
-        (
-            Shape { count: 2, ..TREE },
-            FILE,
-            bad_fork(195, ForkFault::Count),
-        ),
-        (
-            Shape {
-                pointer: 41,
-                ..TREE
-            },
-            FILE,
-            bad_fork(195, ForkFault::Block),
-        ),
-        // A bad fork of a free inode is none.
-        (
-            Shape {
-                mode: 0,
-                count: 13,
-                ..FILE
-            },
-            FILE,
-            None,
-        ),
-    ] {
-        assert_eq!(rt; shown(alloc, first, second), Some(found));
-    }
-    Ok(())
+    expect_of_files(&rt, alloc);
+    // A free inode claims nothing.
+    let free = Shape { mode: 0, ..FILE };
+    expect_shown(&rt, alloc, FILE, free, None);
+    expect_shown(&rt, alloc, free, FILE, None);
+    expect_of_trees(&rt, alloc);
+}
+
+// A mapping without a block, and one that passes the group's end.
+fn expect_out_of_range(rt: &impl Abort, alloc: Global) {
+    let none = file((0, 100 << 21), FILE.attr);
+    let far = file(FILE.data, (0, (255 << 21) + 2));
+    let fault = ForkFault::Range;
+    expect_shown(rt, alloc, none, FILE, bad_fork(195, fault));
+    expect_shown(rt, alloc, far, FILE, bad_fork(195, fault));
+    expect_shown(rt, alloc, FILE, far, bad_fork(196, fault));
+}
+
+// More mappings than fit; of two bad forks the data fork's fault, of two bad inodes the first's.
+fn expect_first_fault(rt: &impl Abort, alloc: Global) {
+    let many = Shape { count: 13, ..FILE };
+    let both = Shape {
+        attr: (0, (255 << 21) + 2),
+        ..many
+    };
+    let unknown = Shape { format: 9, ..FILE };
+    expect_shown(rt, alloc, many, FILE, bad_fork(195, ForkFault::Count));
+    expect_shown(rt, alloc, both, FILE, bad_fork(195, ForkFault::Count));
+    expect_shown(rt, alloc, unknown, many, bad_fork(195, ForkFault::Format));
+}
+
+// A btree with another number of mappings than its core says, and with a bad block.
+fn expect_bad_trees(rt: &impl Abort, alloc: Global) {
+    let two = Shape { count: 2, ..TREE };
+    let lost = Shape {
+        pointer: 41,
+        ..TREE
+    };
+    expect_shown(rt, alloc, two, FILE, bad_fork(195, ForkFault::Count));
+    expect_shown(rt, alloc, lost, FILE, bad_fork(195, ForkFault::Block));
+}
+
+#[test]
+fn the_first_bad_fork_is_shown(rt: HostRuntime) {
+    let alloc = rt.alloc();
+    expect_out_of_range(&rt, alloc);
+    expect_first_fault(&rt, alloc);
+    expect_bad_trees(&rt, alloc);
+    // A bad fork of a free inode is none.
+    let free = Shape {
+        mode: 0,
+        count: 13,
+        ..FILE
+    };
+    expect_shown(&rt, alloc, free, FILE, None);
 }

@@ -3,3 +3,5 @@
 
 #[cfg(test)]
 mod forks;
+#[cfg(test)]
+mod same;

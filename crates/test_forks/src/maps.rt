@@ -1,7 +1,10 @@
 ghost use Rattle.std.specs.Prelude.{◌≡◌, true, false};
 
+use super::same::same;
 use dinode_core::Mapping;
 use geom::Geometry;
+use std::alloc::Global;
+use std::process::Abort;
 
 /// Two groups of 4,194,304 blocks, so that a file system block is the block of that number.
 pub fn two_groups() -> Geometry {
@@ -39,4 +42,16 @@ pub fn unwritten(offset: u64, block: u64, count: u32) -> Mapping
         count,
         unwritten: true,
     }
+}
+
+/// A list of these mappings.
+pub fn new_list(rt: &impl Abort, alloc: Global, mappings: &[Mapping]) -> Vec<Mapping>
+    ensures { result.items ≡ mappings.now }
+{
+    Vec::from_slice(alloc, mappings).expect(rt, "memory is there")
+}
+
+/// Compares the mappings of a list.
+pub fn expect_list(rt: &impl Abort, list: &[Mapping], wanted: &[Mapping]) {
+    same(rt, list, wanted);
 }

@@ -1,11 +1,12 @@
 // Lists that are written into an inode.
 ghost use Rattle.fork_change.specs.Lists.{AllFit};
 
-use super::same::same;
-use crate::maps::{two_groups, unwritten, written};
+use super::same::{same, same_in_row};
+use crate::maps::{expect_list, two_groups, unwritten, written};
 use dinode_core::{Core3, Fork, Format, Mapping, fork_format, inline_fork};
 use fork_change::{ForkChange, put_list};
-use std::test::Fail;
+use std::alloc::Global;
+use std::process::Abort;
 
 // A file in extents format whose data fork has so many units of 8 bytes, or all 336 bytes for 0.
 fn file(forkoff: u8, flags2: u64) -> Core3 {
@@ -41,11 +42,24 @@ fn put(core: &mut Core3, list: &[Mapping]) -> Result<(), ForkChange>
     put_list(core, list)
 }
 
+// A file without attributes, with this list written into it.
+fn file_with(rt: &impl Abort, flags2: u64, list: &[Mapping]) -> Core3
+    requires { AllFit list.now }
+{
+    let mut core = file(0, flags2);
+    same(rt, put(&mut core, list), Ok(()));
+    core
+}
+
+fn expect_bytes(rt: &impl Abort, bytes: &[u8], rows: &[(usize, u8)]) {
+    for row in rows {
+        same_in_row(rt, row.0, bytes.get(row.0).copied(), Some(row.1));
+    }
+}
+
 #[test]
-fn a_list_stands_packed_in_its_inode(rt: HostRuntime) -> Result<(), Fail> {
-    let mut core = file(0, 0);
-    let list = [written(0, 40, 1), unwritten(1, 50, 2)];
-    same(&rt, put(&mut core, &list), Ok(()));
+fn a_list_stands_packed_in_its_inode(rt: HostRuntime) {
+    let core = file_with(&rt, 0, &[written(0, 40, 1), unwritten(1, 50, 2)]);
     same(&rt, core.nextents, 2);
     let rows = [
         (0, 0),
@@ -58,28 +72,26 @@ fn a_list_stands_packed_in_its_inode(rt: HostRuntime) -> Result<(), Fail> {
         (31, 0x02),
         (32, 0),
     ];
-    for (at, byte) in rows {
-        assert_eq!(rt; core.literal.get(at).copied(), Some(byte), "byte {at}");
+    expect_bytes(&rt, &core.literal, &rows);
+}
+
+fn expect_read(rt: &impl Abort, alloc: Global, core: &Core3, list: &[Mapping]) {
+    match inline_fork(alloc, core, Fork::Data, &two_groups()) {
+        Ok(read) => expect_list(rt, &read, list),
+        Err(fault) => same(rt, Some(fault), None),
     }
-    Ok(())
 }
 
 #[test]
-fn a_list_is_read_back(rt: HostRuntime) -> Result<(), Fail> {
-    let mut core = file(0, 16);
+fn a_list_is_read_back(rt: HostRuntime) {
     let list = [written(0, 40, 1), unwritten(1, 50, 2)];
-    same(&rt, put(&mut core, &list), Ok(()));
+    let core = file_with(&rt, 16, &list);
     same(&rt, core.big_nextents, 2);
-    let geo = two_groups();
-    match inline_fork(rt.alloc(), &core, Fork::Data, &geo) {
-        Ok(read) => same(&rt, read.as_slice(), list.as_slice()),
-        Err(fault) => same(&rt, Some(fault), None),
-    }
-    Ok(())
+    expect_read(&rt, rt.alloc(), &core, &list);
 }
 
 #[test]
-fn a_list_needs_room_in_its_fork(rt: HostRuntime) -> Result<(), Fail> {
+fn a_list_needs_room_in_its_fork(rt: HostRuntime) {
     let list = [written(0, 40, 1), unwritten(1, 50, 2)];
     let mut none = file(1, 0);
     same(&rt, put(&mut none, &list), Err(ForkChange::Full(2)));
@@ -90,5 +102,4 @@ fn a_list_needs_room_in_its_fork(rt: HostRuntime) -> Result<(), Fail> {
     same(&rt, put(&mut two, &list), Ok(()));
     same(&rt, put(&mut two, &[]), Ok(()));
     same(&rt, two.nextents, 0);
-    Ok(())
 }

@@ -1,4 +1,4 @@
-use super::same::same;
+use super::same::{same, same_in_row};
 use crate::pieces::geometry;
 use byte_fields::{put_sum, put_u16, put_u32, put_u64, sum_at};
 use dinode_core::{
@@ -6,6 +6,7 @@ use dinode_core::{
     fork_size, inline_fork, inline_is_whole, is_in_btree, mapping_at, mapping_count, pack, unpack,
 };
 use std::alloc::{AllocError, Global};
+use std::fmt::Display;
 
 const UUID: [u8; 16] = [1, 2, 3, 4, 5, 6, 7, 8, 9, 10, 11, 12, 13, 14, 15, 16];
 
@@ -81,6 +82,10 @@ fn fault_with(at: usize, value: u8, mend: bool) -> Option<CoreFault> {
     decode_core(&bytes, 195, &UUID).err()
 }
 
+fn shown(alloc: Global, fault: &impl Display) -> Result<String, AllocError> {
+    format!(in alloc; "{fault}")
+}
+
 #[test]
 fn each_core_fault_has_an_inode_and_a_word(rt: HostRuntime) -> Result<(), AllocError> {
     for (at, value, mend, fault, word) in [
@@ -92,9 +97,8 @@ fn each_core_fault_has_an_inode_and_a_word(rt: HostRuntime) -> Result<(), AllocE
         (6, 0, false, CoreFault::Checksum, "checksum"),
         (175, 17, true, CoreFault::Uuid, "uuid"),
     ] {
-        assert_eq!(rt; fault_with(at, value, mend), Some(fault), "at {at}");
-        let shown = format!(in rt.alloc(); "{fault}")?;
-        same(&rt, shown.as_str(), word);
+        same_in_row(&rt, at, fault_with(at, value, mend), Some(fault));
+        same(&rt, shown(rt.alloc(), &fault)?.as_str(), word);
     }
     // A byte that no field has, and the sum after it.
     same(&rt, fault_with(6, 0, true), None);
@@ -139,16 +143,25 @@ fn fault_of(alloc: Global, core: &Core3, fork: Fork) -> Option<ForkError> {
     inline_fork(alloc, core, fork, &geometry()).err()
 }
 
+// What is wrong with the data fork and with the attribute fork.
+fn faults_of(alloc: Global, core: &Core3) -> [Option<ForkError>; 2] {
+    [
+        fault_of(alloc, core, Fork::Data),
+        fault_of(alloc, core, Fork::Attr),
+    ]
+}
+
 // A core with no mappings: a data fork and an attribute fork in extents format.
 fn empty_core(forkoff: u8) -> Core3 {
-    let mut core = CORE;
-    core.aformat = 2;
-    core.flags2 = 0;
-    core.nextents = 0;
-    core.anextents = 0;
-    core.forkoff = forkoff;
-    core.literal = [0; 336];
-    core
+    Core3 {
+        aformat: 2,
+        flags2: 0,
+        nextents: 0,
+        anextents: 0,
+        forkoff,
+        literal: [0; 336],
+        ..CORE
+    }
 }
 
 #[test]
@@ -176,16 +189,7 @@ fn counts_and_formats_at_their_ends(rt: HostRuntime) {
         let mut core = empty_core(forkoff);
         (core.format, core.aformat) = formats;
         (core.nextents, core.anextents) = counts;
-        assert_eq!(rt;
-            fault_of(rt.alloc(), &core, Fork::Data),
-            data,
-            "data at {forkoff}"
-        );
-        assert_eq!(rt;
-            fault_of(rt.alloc(), &core, Fork::Attr),
-            attr,
-            "attr at {forkoff}"
-        );
+        same_in_row(&rt, forkoff, faults_of(rt.alloc(), &core), [data, attr]);
     }
 }
 
@@ -224,11 +228,8 @@ fn roots_of_btrees_are_judged(rt: HostRuntime) {
         core.format = 3;
         put_u16(&mut core.literal, 0, level);
         put_u16(&mut core.literal, 2, keys);
-        assert_eq!(rt;
-            fault_of(rt.alloc(), &core, Fork::Data),
-            fault,
-            "at {level}"
-        );
+        let found = fault_of(rt.alloc(), &core, Fork::Data);
+        same_in_row(&rt, level, found, fault);
     }
 }
 
@@ -292,16 +293,8 @@ fn each_bad_mapping_has_its_fault(rt: HostRuntime) {
     ] {
         let core = with_two(&first, &second);
         let wanted = fault.map(ForkError::Fault);
-        assert_eq!(rt;
-            fault_of(rt.alloc(), &core, Fork::Data),
-            wanted,
-            "{first:?}"
-        );
-        assert_eq!(rt;
-            fault_of(rt.alloc(), &core, Fork::Attr),
-            wanted,
-            "{second:?}"
-        );
+        let found = faults_of(rt.alloc(), &core);
+        same_in_row(&rt, (first, second), found, [wanted, wanted]);
     }
 }
 
@@ -331,10 +324,9 @@ fn faults_of_forks_have_words(rt: HostRuntime) -> Result<(), AllocError> {
         (ForkFault::Range, "range"),
         (ForkFault::Block, "block"),
     ] {
-        let shown = format!(in rt.alloc(); "{fault}")?;
-        same(&rt, shown.as_str(), word);
-        let shown = format!(in rt.alloc(); "{}", ForkError::Fault(fault))?;
-        same(&rt, shown.as_str(), word);
+        same(&rt, shown(rt.alloc(), &fault)?.as_str(), word);
+        let error = ForkError::Fault(fault);
+        same(&rt, shown(rt.alloc(), &error)?.as_str(), word);
     }
     Ok(())
 }

@@ -1,7 +1,7 @@
 // Pieces of forks whose btrees are laid out by hand.
 ghost use Rattle.std.specs.Prelude.{◌≡◌, ◌≤◌};
 
-use super::same::same;
+use super::same::{same, same_in_row};
 use blk_cache::BlkCache;
 use blk_device::{Device, MemDevice, Region};
 use byte_fields::{Block, Steps, put_sum, put_u16, put_u32, put_u64, sum_at};
@@ -111,23 +111,29 @@ fn root_places(fork: Fork) -> (usize, usize)
     }
 }
 
-// Block 24, whose slot 3 has inode 195 with a root of this level, of so many keys, of which three are
-// here beside the blocks that they lead to.
-fn inodes(fork: Fork, level: u16, keys: u16, entries: [(u64, u64); 3]) -> Block {
-    let mut block = Block::zeroed();
+// The inode 195 up to its forks.
+fn inode_head(fork: Fork) -> [u8; 512] {
     let mut bytes = [0; 512];
-    let (root, pointers) = root_places(fork);
     put_u32(&mut bytes, 0, 0x494e_81a4);
     match fork {
         Fork::Data => put_u16(&mut bytes, 4, 0x0303),
-        Fork::Attr => put_u16(&mut bytes, 4, 0x0302),
-    }
-    if fork == Fork::Attr {
-        put_u32(&mut bytes, 80, 0x000d_1803);
+        Fork::Attr => {
+            put_u16(&mut bytes, 4, 0x0302);
+            put_u32(&mut bytes, 80, 0x000d_1803);
+        }
     }
     put_u64(&mut bytes, 152, 195);
     put_u64(&mut bytes, 160, UUID.0);
     put_u64(&mut bytes, 168, UUID.1);
+    bytes
+}
+
+// Block 24, whose slot 3 has inode 195 with a root of this level, of so many keys, of which three are
+// here beside the blocks that they lead to.
+fn inodes(fork: Fork, level: u16, keys: u16, entries: [(u64, u64); 3]) -> Block {
+    let mut block = Block::zeroed();
+    let mut bytes = inode_head(fork);
+    let (root, pointers) = root_places(fork);
     put_u16(&mut bytes, root, level);
     put_u16(&mut bytes, root + 2, keys);
     put_u64(&mut bytes, root + 4, entries[0].0);
@@ -234,9 +240,9 @@ fn pieces_go_through_three_leaves(rt: HostRuntime) -> Result<(), Fail> {
             (1005, 0, 0, None),
         ] {
             let piece = piece_at(alloc, three_leaves(alloc, fork, ONE)?, fork, from)?;
-            assert_eq!(rt; piece.mappings.len(), count, "from {from}");
-            assert_eq!(rt; piece.tree_blocks.len(), blocks, "from {from}");
-            assert_eq!(rt; piece.next, next, "from {from}");
+            same_in_row(&rt, from, piece.mappings.len(), count);
+            same_in_row(&rt, from, piece.tree_blocks.len(), blocks);
+            same_in_row(&rt, from, piece.next, next);
         }
     }
     Ok(())
@@ -247,18 +253,9 @@ fn a_full_leafs_last_mapping_overlaps(rt: HostRuntime) -> Result<(), Fail> {
     let alloc = rt.alloc();
     // Its last mapping passes the first offset of the leaf behind it.
     for from in [0, 2, 500, 501, 502, 1002, 1004] {
-        let found = piece_at(
-            alloc,
-            three_leaves(alloc, Fork::Data, ONE + 2)?,
-            Fork::Data,
-            from,
-        )
-        .err();
-        assert_eq!(rt;
-            found,
-            Some(ReadFault::Fork(ForkFault::Overlap)),
-            "from {from}"
-        );
+        let device = three_leaves(alloc, Fork::Data, ONE + 2)?;
+        let found = piece_at(alloc, device, Fork::Data, from).err();
+        same_in_row(&rt, from, found, Some(ReadFault::Fork(ForkFault::Overlap)));
     }
     Ok(())
 }
@@ -354,6 +351,10 @@ fn bad_mappings_have_their_faults(rt: HostRuntime) -> Result<(), Fail> {
     Ok(())
 }
 
+fn has_unwritten(piece: &ForkPiece) -> bool {
+    piece.mappings.iter().any(|m| m.unwritten)
+}
+
 #[test]
 fn unwritten_mappings_are_for_data(rt: HostRuntime) -> Result<(), Fail> {
     let alloc = rt.alloc();
@@ -370,7 +371,7 @@ fn unwritten_mappings_are_for_data(rt: HostRuntime) -> Result<(), Fail> {
         match piece_at(alloc, device, fork, 0) {
             Ok(piece) => {
                 same(&rt, fault, None);
-                assert!(rt; piece.mappings.iter().any(|m| m.unwritten));
+                same(&rt, has_unwritten(&piece), true);
             }
             Err(found) => same(&rt, Some(found), fault),
         }

@@ -1,10 +1,13 @@
 // The bytes of loaded blocks.
+use super::same::same_in_row;
 use crate::read_back::loaded_kind;
 use crate::trees::{large_group, last_group, tree_in};
 use byte_fields::{Block, get_u32};
 use ino_recs::{InoKind, InoRec};
 use rmap_recs::{RmapKind, RmapRec};
 use sblock::Kind;
+use std::alloc::{AllocError, Global};
+use std::process::Abort;
 use std::test::Fail;
 
 // The word at this place.
@@ -20,6 +23,15 @@ fn word_in(placed: &[(u32, Block)], number: usize, at: usize) -> u32 {
     match placed.get(number) {
         Some((_, block)) => word_at(block, at),
         None => 0,
+    }
+}
+
+// Compares the words of a block from this place on.
+fn expect_words(rt: &impl Abort, placed: &[(u32, Block)], number: usize, at: usize, words: &[u32]) {
+    let mut at = at;
+    for word in words {
+        same_in_row(rt, (number, at), word_in(placed, number, at), *word);
+        at = at.saturating_add(4);
     }
 }
 
@@ -56,9 +68,7 @@ fn records_are_written_as_the_format_has_them(rt: HostRuntime) -> Result<(), Fai
         5,
         0,
     ];
-    for (i, word) in words.iter().enumerate() {
-        assert_eq!(rt; word_in(&leaf, 0, 56 + 4 * i), *word, "number {i}");
-    }
+    expect_words(&rt, &leaf, 0, 56, &words);
     let chunk = InoRec {
         startino: 192,
         holemask: 0,
@@ -68,21 +78,24 @@ fn records_are_written_as_the_format_has_them(rt: HostRuntime) -> Result<(), Fai
     };
     let leaf = tree_in::<InoKind>(alloc, &[chunk], &site, &[9])?;
     let words = [0xc0, 0x0000_403d, 0xffff_ffff, 0xffff_fff8, 0];
-    for (i, word) in words.iter().enumerate() {
-        assert_eq!(rt; word_in(&leaf, 0, 56 + 4 * i), *word, "number {i}");
-    }
+    expect_words(&rt, &leaf, 0, 56, &words);
     Ok(())
 }
 
-#[test]
-fn headers_keys_and_pointers_stand_in_their_places(rt: HostRuntime) -> Result<(), Fail> {
-    let alloc = rt.alloc();
-    // The first record ends behind all others: its end is the greatest key of the first leaf.
+// A list whose first record ends behind all others: its end is the greatest key of the first leaf.
+fn list_below_its_first(alloc: Global) -> Result<Vec<RmapRec>, AllocError> {
     let mut list = Vec::new(alloc);
     list.push(mapping(7, 17, 195, 0))?;
     for owner in 200..368 {
         list.push(mapping(8, 1, owner, 0))?;
     }
+    Ok(list)
+}
+
+#[test]
+fn headers_keys_and_pointers_stand_in_their_places(rt: HostRuntime) -> Result<(), Fail> {
+    let alloc = rt.alloc();
+    let list = list_below_its_first(alloc)?;
     let placed = tree_in::<RmapKind>(alloc, &list, &last_group(), &[100, 101, 102])?;
     // Magic, level and count, siblings, place, log sequence number, UUID, group.
     let none = 0xffff_ffff;
@@ -101,25 +114,15 @@ fn headers_keys_and_pointers_stand_in_their_places(rt: HostRuntime) -> Result<()
         2,
     ];
     for (number, head) in heads.iter().enumerate() {
-        for (i, word) in head.iter().chain(&rest).enumerate() {
-            assert_eq!(rt;
-                word_in(&placed, number, 4 * i),
-                *word,
-                "{number}, number {i}"
-            );
-        }
+        expect_words(&rt, &placed, number, 0, head);
+        expect_words(&rt, &placed, number, 24, &rest);
     }
     // The low and the high key of both leaves, and behind the room of 91 keys the pointers.
     let keys = [
         7, 0, 195, 0, 0, 0x17, 0, 0xc3, 0, 0x10, 8, 0, 284, 0, 0, 8, 0, 367, 0, 0, 0,
     ];
-    for (i, word) in keys.iter().enumerate() {
-        assert_eq!(rt; word_in(&placed, 2, 56 + 4 * i), *word, "number {i}");
-    }
-    assert_eq!(rt;
-        [word_in(&placed, 2, 3696), word_in(&placed, 2, 3700)],
-        [100, 101]
-    );
+    expect_words(&rt, &placed, 2, 56, &keys);
+    expect_words(&rt, &placed, 2, 3696, &[100, 101]);
     Ok(())
 }
 
@@ -156,11 +159,7 @@ fn records_and_children_are_spread_evenly(rt: HostRuntime) -> Result<(), Fail> {
     for (kind, n, words) in rows {
         let placed = loaded_kind(alloc, kind, n)?;
         for (number, word) in words {
-            assert_eq!(rt;
-                word_in(&placed, number, 4),
-                word,
-                "{kind:?} {n}, number {number}"
-            );
+            same_in_row(&rt, (kind, n, number), word_in(&placed, number, 4), word);
         }
     }
     Ok(())

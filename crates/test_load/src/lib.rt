@@ -10,6 +10,8 @@ mod read_back;
 #[cfg(test)]
 mod refused;
 #[cfg(test)]
+mod same;
+#[cfg(test)]
 mod shapes;
 #[cfg(test)]
 mod trees;

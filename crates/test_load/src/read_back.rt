@@ -1,6 +1,7 @@
 // Trees of each kind, loaded and read again by a walk.
 ghost use Rattle.std.specs.Prelude.{◌≡◌, ◌+◌};
 
+use super::same::same_in_row;
 use crate::lists::{Sample, blocks_of, list_of};
 use crate::trees::{LENGTH, large_group, three_groups, tree_in};
 use blk_cache::BlkCache;
@@ -74,13 +75,22 @@ fn read_tree<K: RecKind>(
 
 // Whether two lists have the same records in the same order.
 fn are_same<K: RecKind>(read: &[K::Rec], list: &[K::Rec]) -> bool {
-    read.len() == list.len() && read.iter().zip(list).all(|(a, b)| K::is_same(a, b))
+    if read.len() != list.len() {
+        return false;
+    }
+    for (a, b) in read.iter().zip(list) {
+        if !K::is_same(a, b) {
+            return false;
+        }
+    }
+    true
 }
 
 // Whether these are the blocks downwards from 1,000,000, in whatever order.
 fn are_claimed(mut read: Vec<u32>, claimed: &[u32]) -> bool {
     read.sort_unstable();
-    read.len() == claimed.len() && read.iter().rev().zip(claimed).all(|(a, b)| a == b)
+    read.reverse();
+    read.as_slice() == claimed
 }
 
 // What a tree of some records has: its levels and blocks, and whether a walk reads exactly these
@@ -136,9 +146,21 @@ fn read_kind(alloc: Global, kind: Kind, n: u32) -> Result<Back, Fail> {
     }
 }
 
+// A tree of the first `n` records has these levels and blocks, and a walk reads exactly it.
+fn expect_back(
+    rt: &impl Abort,
+    alloc: Global,
+    kind: Kind,
+    n: u32,
+    (levels, blocks): (u32, u64),
+) -> Result<(), Fail> {
+    let found = read_kind(alloc, kind, n)?;
+    same_in_row(rt, (kind, n), found, (levels, blocks, true, true));
+    Ok(())
+}
+
 #[test]
 fn a_walk_reads_up_to_two_leaves(rt: HostRuntime) -> Result<(), Fail> {
-    let alloc = rt.alloc();
     // The most that a leaf holds.
     let rows = [
         (Kind::Bno, 505),
@@ -150,14 +172,9 @@ fn a_walk_reads_up_to_two_leaves(rt: HostRuntime) -> Result<(), Fail> {
     ];
     for (kind, most) in rows {
         for n in [0, 1, most] {
-            assert_eq!(rt;
-                read_kind(alloc, kind, n)?,
-                (1, 1, true, true),
-                "{kind:?} {n}"
-            );
+            expect_back(&rt, rt.alloc(), kind, n, (1, 1))?;
         }
-        let above = read_kind(alloc, kind, most + 1)?;
-        assert_eq!(rt; above, (2, 3, true, true), "{kind:?} {}", most + 1);
+        expect_back(&rt, rt.alloc(), kind, most + 1, (2, 3))?;
     }
     Ok(())
 }
@@ -170,11 +187,8 @@ fn expect_levels(
     most: u32,
     blocks: [u64; 2],
 ) -> Result<(), Fail> {
-    let whole = read_kind(alloc, kind, most)?;
-    assert_eq!(rt; whole, (2, blocks[0], true, true));
-    let above = read_kind(alloc, kind, most.wrapping_add(1))?;
-    assert_eq!(rt; above, (3, blocks[1], true, true));
-    Ok(())
+    expect_back(rt, alloc, kind, most, (2, blocks[0]))?;
+    expect_back(rt, alloc, kind, most.wrapping_add(1), (3, blocks[1]))
 }
 
 #[test]

@@ -8,6 +8,7 @@ use run_sets::Run;
 use sblock::Kind;
 use span_recs::SpanRec;
 use std::alloc::Global;
+use std::process::Abort;
 use std::test::Fail;
 use unit_plan::{ClaimSet, Memory, Piece};
 
@@ -43,8 +44,36 @@ fn claims(alloc: Global) -> Result<ClaimSet, Memory>
     Ok(set)
 }
 
+// The same with inode btrees of two blocks each.
+fn claims_with_inodes(alloc: Global) -> Result<ClaimSet, Memory>
+    ensures below { IfOk result (λ set. LieBelow 32 (pieces_of set)) }
+{
+    let mut set = claims(alloc)?;
+    claim(&mut set, Claim::Tree(Kind::Ino), 20, 1)?;
+    claim(&mut set, Claim::Tree(Kind::Fino), 4, 1)?;
+    claim(&mut set, Claim::Tree(Kind::Ino), 22, 1)?;
+    claim(&mut set, Claim::Tree(Kind::Fino), 21, 1)?;
+    Ok(set)
+}
+
 fn run(start: u32, count: u32) -> Run {
     Run { start, count }
+}
+
+// Ends the test where other blocks are lost of the inode btrees that could be read.
+fn expect_lost(
+    rt: &impl Abort,
+    alloc: Global,
+    set: &ClaimSet,
+    readable: (bool, bool),
+    wanted: &[Run],
+)
+    requires below { LieBelow 32 (pieces_of set.now) }
+{
+    match set.lost_trees(alloc, 32, readable.0, readable.1) {
+        Ok(lost) => same(rt, lost.as_slice(), wanted),
+        Err(_) => panic!(rt; "memory is there"),
+    }
 }
 
 #[test]
@@ -94,18 +123,10 @@ fn what_nobody_claims_of_an_owner_is_lost(rt: HostRuntime) -> Result<(), Fail> {
 #[test]
 fn the_old_inode_btrees_that_could_be_read_are_lost(rt: HostRuntime) -> Result<(), Fail> {
     let alloc = rt.alloc();
-    let mut set = claims(alloc)?;
-    claim(&mut set, Claim::Tree(Kind::Ino), 20, 1)?;
-    claim(&mut set, Claim::Tree(Kind::Fino), 4, 1)?;
-    claim(&mut set, Claim::Tree(Kind::Ino), 22, 1)?;
-    claim(&mut set, Claim::Tree(Kind::Fino), 21, 1)?;
-    let both = set.lost_trees(alloc, 32, true, true)?;
-    same(&rt, both.as_slice(), [run(4, 1), run(20, 3)].as_slice());
-    let first = set.lost_trees(alloc, 32, true, false)?;
-    same(&rt, first.as_slice(), [run(20, 1), run(22, 1)].as_slice());
-    let second = set.lost_trees(alloc, 32, false, true)?;
-    same(&rt, second.as_slice(), [run(4, 1), run(21, 1)].as_slice());
-    let none = set.lost_trees(alloc, 32, false, false)?;
-    same(&rt, none.as_slice().len(), 0);
+    let set = claims_with_inodes(alloc)?;
+    expect_lost(&rt, alloc, &set, (true, true), &[run(4, 1), run(20, 3)]);
+    expect_lost(&rt, alloc, &set, (true, false), &[run(20, 1), run(22, 1)]);
+    expect_lost(&rt, alloc, &set, (false, true), &[run(4, 1), run(21, 1)]);
+    expect_lost(&rt, alloc, &set, (false, false), &[]);
     Ok(())
 }

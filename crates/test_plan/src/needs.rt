@@ -1,11 +1,11 @@
 use super::same::same;
-use crate::pieces::piece;
-use fs_model::{Claim, Evidence, Unit};
+use crate::pieces::{overlap, piece};
+use fs_model::{Claim, Unit};
 use std::test::Fail;
 use unit_plan::{Among, ClaimSet, need};
 
 #[test]
-fn the_need_is_a_sum_of_shapes(rt: HostRuntime) -> Result<(), Fail> {
+fn the_need_is_a_sum_of_shapes(rt: HostRuntime) {
     let rows = [
         (Unit::Free, 2, 2, 2),
         (Unit::Rmap, 7, 0, 1),
@@ -22,7 +22,6 @@ fn the_need_is_a_sum_of_shapes(rt: HostRuntime) -> Result<(), Fail> {
     for (unit, first, second, wanted) in rows {
         same(&rt, need(unit, first, second), wanted);
     }
-    Ok(())
 }
 
 #[test]
@@ -30,14 +29,7 @@ fn a_file_on_the_heads_is_an_overlap(rt: HostRuntime) -> Result<(), Fail> {
     let mut set = ClaimSet::new(rt.alloc());
     set.put(piece(Claim::Data(195), 0, 1))?;
     set.put(piece(Claim::Heads, 0, 1))?;
-    same(
-        &rt,
-        set.first_overlap(Among::All),
-        Some(Evidence::Overlap {
-            block: 0,
-            first: Claim::Heads,
-            second: Claim::Data(195),
-        }),
-    );
+    let wanted = overlap(0, Claim::Heads, Claim::Data(195));
+    same(&rt, set.first_overlap(Among::All), wanted);
     Ok(())
 }

@@ -1,8 +1,9 @@
 use super::same::same;
-use crate::pieces::{piece, unwritten};
+use crate::pieces::{overlap, piece, unwritten};
 use fs_model::{Claim, Evidence};
 use sblock::Kind;
 use std::alloc::Global;
+use std::process::Abort;
 use std::test::Fail;
 use unit_plan::{Among, ClaimSet, Memory, Piece};
 
@@ -43,53 +44,60 @@ fn wanted(block: u32, first: Claim, second: Claim) -> Option<Evidence> {
     if is_data(first) && is_data(second) {
         return None;
     }
-    Some(Evidence::Overlap {
-        block,
-        first,
-        second,
-    })
+    overlap(block, first, second)
 }
 
-#[test]
-fn each_pair_of_sorts_crosses(rt: HostRuntime) -> Result<(), Fail> {
-    let alloc = rt.alloc();
+// Two runs, and the block where claims on them overlap first.
+type Crossing = ((u32, u32), (u32, u32), u32);
+
+fn expect_crossing(rt: &impl Abort, alloc: Global, sorts: (Claim, Claim), crossing: Crossing) {
+    let (first, second) = sorts;
+    let (run, other, block) = crossing;
+    let found = overlap_of(
+        alloc,
+        piece(first, run.0, run.1),
+        piece(second, other.0, other.1),
+    );
+    same(rt, found, Ok(wanted(block, first, second)));
+}
+
+// Each pair of sorts, the first on the first run and the second on the second.
+fn expect_crossings(rt: &impl Abort, alloc: Global, crossings: [Crossing; 2]) {
     for i in 0..17usize {
         for j in i..17usize {
-            let (first, second) = (SORTS[i], SORTS[j]);
-            let found = overlap_of(alloc, piece(first, 8, 3), piece(second, 10, 4))?;
-            same(&rt, found, wanted(10, first, second));
-            let found = overlap_of(alloc, piece(first, 10, 4), piece(second, 8, 3))?;
-            same(&rt, found, wanted(10, first, second));
+            expect_crossing(rt, alloc, (SORTS[i], SORTS[j]), crossings[0]);
+            expect_crossing(rt, alloc, (SORTS[i], SORTS[j]), crossings[1]);
         }
     }
-    Ok(())
 }
 
 #[test]
-fn each_pair_of_sorts_nests_or_is_the_same(rt: HostRuntime) -> Result<(), Fail> {
-    let alloc = rt.alloc();
-    for i in 0..17usize {
-        for j in i..17usize {
-            let (first, second) = (SORTS[i], SORTS[j]);
-            let found = overlap_of(alloc, piece(first, 8, 9), piece(second, 11, 2))?;
-            same(&rt, found, wanted(11, first, second));
-            let found = overlap_of(alloc, piece(first, 9, 2), piece(second, 9, 2))?;
-            same(&rt, found, wanted(9, first, second));
-        }
-    }
-    Ok(())
+fn each_pair_of_sorts_crosses(rt: HostRuntime) {
+    expect_crossings(
+        &rt,
+        rt.alloc(),
+        [((8, 3), (10, 4), 10), ((10, 4), (8, 3), 10)],
+    );
 }
 
 #[test]
-fn each_pair_of_sorts_touches(rt: HostRuntime) -> Result<(), Fail> {
+fn each_pair_of_sorts_nests_or_is_the_same(rt: HostRuntime) {
+    expect_crossings(
+        &rt,
+        rt.alloc(),
+        [((8, 9), (11, 2), 11), ((9, 2), (9, 2), 9)],
+    );
+}
+
+#[test]
+fn each_pair_of_sorts_touches(rt: HostRuntime) {
     let alloc = rt.alloc();
-    for i in 0..17usize {
-        for j in 0..17usize {
-            let found = overlap_of(alloc, piece(SORTS[i], 8, 3), piece(SORTS[j], 11, 1))?;
-            same(&rt, found, None);
+    for first in SORTS {
+        for second in SORTS {
+            let found = overlap_of(alloc, piece(first, 8, 3), piece(second, 11, 1));
+            same(&rt, found, Ok(None));
         }
     }
-    Ok(())
 }
 
 #[test]
@@ -101,17 +109,7 @@ fn written_data_of_three_files_is_shared(rt: HostRuntime) -> Result<(), Fail> {
     }
     same(&rt, set.first_overlap(Among::All), None);
     set.put(unwritten(8, 42, 1))?;
-    let first = Claim::Data(5);
-    let second = Claim::Data(7);
-    let block = 42;
-    same(
-        &rt,
-        set.first_overlap(Among::All),
-        Some(Evidence::Overlap {
-            block,
-            first,
-            second,
-        }),
-    );
+    let wanted = overlap(42, Claim::Data(5), Claim::Data(7));
+    same(&rt, set.first_overlap(Among::All), wanted);
     Ok(())
 }

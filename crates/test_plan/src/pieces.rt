@@ -1,4 +1,4 @@
-use fs_model::Claim;
+use fs_model::{Claim, Evidence};
 use run_sets::Run;
 use unit_plan::Piece;
 
@@ -32,4 +32,13 @@ pub fn unwritten(ino: u64, start: u32, count: u32) -> Piece {
         owner: ino,
         word: UNWRITTEN,
     }
+}
+
+/// The overlap of these claims at this block.
+pub fn overlap(block: u32, first: Claim, second: Claim) -> Option<Evidence> {
+    Some(Evidence::Overlap {
+        block,
+        first,
+        second,
+    })
 }

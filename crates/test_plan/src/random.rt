@@ -1,7 +1,7 @@
-use crate::pieces::{piece, unwritten};
+use super::same::same;
+use crate::pieces::{overlap, piece, unwritten};
 use fs_model::{Claim, Evidence};
-use std::alloc::Global;
-use std::test::Fail;
+use std::alloc::{AllocError, Global};
 use unit_plan::{Among, ClaimSet, Memory, Piece};
 
 // The next of a row of numbers that look random.
@@ -85,18 +85,14 @@ fn by_blocks(pieces: &[Piece]) -> Option<Evidence> {
     for block in 0..64 {
         let on = line(pieces, block);
         if on.claims > 1 && on.hard {
-            return Some(Evidence::Overlap {
-                block,
-                first: claim_at(on.first),
-                second: claim_at(on.second),
-            });
+            return overlap(block, claim_at(on.first), claim_at(on.second));
         }
     }
     None
 }
 
 // So many pieces from a number on.
-fn pieces_from(alloc: Global, seed: u32, many: u32) -> Result<Vec<Piece>, Fail> {
+fn pieces_from(alloc: Global, seed: u32, many: u32) -> Result<Vec<Piece>, AllocError> {
     let mut pieces = Vec::new(alloc);
     let mut number = seed;
     for _ in 0..many {
@@ -115,12 +111,11 @@ fn by_set(alloc: Global, pieces: &[Piece]) -> Result<Option<Evidence>, Memory> {
 }
 
 #[test]
-fn claims_at_random_are_as_the_table_of_blocks(rt: HostRuntime) -> Result<(), Fail> {
+fn claims_at_random_are_as_the_table_of_blocks(rt: HostRuntime) {
     let alloc = rt.alloc();
     for seed in 0..400 {
-        let pieces = pieces_from(alloc, seed, 2 + seed % 24)?;
-        let found = by_set(alloc, pieces.as_slice())?;
-        assert_eq!(rt; found, by_blocks(pieces.as_slice()), "seed {seed}");
+        let pieces = pieces_from(alloc, seed, 2 + seed % 24).expect(&rt, "memory is there");
+        let found = by_set(alloc, pieces.as_slice());
+        same(&rt, (seed, found), (seed, Ok(by_blocks(pieces.as_slice()))));
     }
-    Ok(())
 }

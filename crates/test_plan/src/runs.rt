@@ -5,6 +5,7 @@ use rmap_recs::RmapRec;
 use run_sets::Run;
 use sblock::Kind;
 use std::alloc::{AllocError, Global};
+use std::process::Abort;
 use std::test::Fail;
 use unit_plan::{ClaimSet, Memory, OwnerRuns, Piece};
 
@@ -29,17 +30,20 @@ const fn rec(start: u32, count: u32, owner: u64, word: u64) -> RmapRec {
     }
 }
 
-fn set_of(alloc: Global, pieces: &[(Claim, RmapRec)]) -> Result<ClaimSet, Memory> {
+// A claim, its first block and its length, its owner and its offset word.
+type Row = (Claim, u32, u32, u64, u64);
+
+fn set_of(alloc: Global, pieces: &[Row]) -> Result<ClaimSet, Memory> {
     let mut set = ClaimSet::new(alloc);
-    for (claim, rec) in pieces {
+    for (claim, start, count, owner, word) in pieces {
         set.put(Piece {
             claim: *claim,
             run: Run {
-                start: rec.start,
-                count: rec.count,
+                start: *start,
+                count: *count,
             },
-            owner: rec.owner,
-            word: rec.word,
+            owner: *owner,
+            word: *word,
         })?;
     }
     Ok(set)
@@ -53,61 +57,63 @@ fn listed(alloc: Global, runs: &OwnerRuns) -> Result<Vec<RmapRec>, AllocError> {
     Ok(list)
 }
 
-// The runs of these pieces, one by one and as a list.
-fn runs_of(alloc: Global, pieces: &[(Claim, RmapRec)]) -> Result<[Vec<RmapRec>; 2], Fail> {
+// The runs of these pieces, one by one.
+fn runs_one_by_one(alloc: Global, pieces: &[Row]) -> Result<Vec<RmapRec>, Memory> {
     let runs = set_of(alloc, pieces)?.into_runs();
-    let list = set_of(alloc, pieces)?.into_mappings(alloc)?;
-    Ok([listed(alloc, &runs)?, list])
+    Ok(listed(alloc, &runs)?)
+}
+
+fn runs_as_list(alloc: Global, pieces: &[Row]) -> Result<Vec<RmapRec>, Memory> {
+    set_of(alloc, pieces)?.into_mappings(alloc)
+}
+
+// Ends the test where the pieces have other runs.
+fn expect_runs(rt: &impl Abort, alloc: Global, pieces: &[Row], wanted: &[RmapRec]) {
+    let runs = runs_one_by_one(alloc, pieces).expect(rt, "memory is there");
+    same(rt, runs.as_slice(), wanted);
+    let runs = runs_as_list(alloc, pieces).expect(rt, "memory is there");
+    same(rt, runs.as_slice(), wanted);
 }
 
 #[test]
-fn pieces_of_one_owner_join_and_of_two_do_not(rt: HostRuntime) -> Result<(), Fail> {
-    let alloc = rt.alloc();
+fn pieces_of_one_owner_join_and_of_two_do_not(rt: HostRuntime) {
     let pieces = [
-        (Claim::Tree(Kind::Refc), rec(4, 1, REFC, 0)),
-        (Claim::List, rec(6, 12, AG, 0)),
-        (Claim::Tree(Kind::Cnt), rec(2, 1, AG, 0)),
-        (Claim::Tree(Kind::Rmap), rec(5, 1, AG, 0)),
-        (Claim::Tree(Kind::Bno), rec(1, 1, AG, 0)),
-        (Claim::Tree(Kind::Rmap), rec(3, 1, AG, 0)),
+        (Claim::Tree(Kind::Refc), 4, 1, REFC, 0),
+        (Claim::List, 6, 12, AG, 0),
+        (Claim::Tree(Kind::Cnt), 2, 1, AG, 0),
+        (Claim::Tree(Kind::Rmap), 5, 1, AG, 0),
+        (Claim::Tree(Kind::Bno), 1, 1, AG, 0),
+        (Claim::Tree(Kind::Rmap), 3, 1, AG, 0),
     ];
     let wanted = [rec(1, 3, AG, 0), rec(4, 1, REFC, 0), rec(5, 13, AG, 0)];
-    for runs in runs_of(alloc, &pieces)? {
-        same(&rt, runs.as_slice(), wanted.as_slice());
-    }
-    Ok(())
+    expect_runs(&rt, rt.alloc(), &pieces, &wanted);
 }
 
 #[test]
-fn file_data_joins_where_its_offsets_go_on(rt: HostRuntime) -> Result<(), Fail> {
-    let alloc = rt.alloc();
+fn file_data_joins_where_its_offsets_go_on(rt: HostRuntime) {
     // Blocks 40 to 45 hold offsets 8 to 13, block 46 offset 20; another file shares 42 and 43.
     let pieces = [
-        (Claim::Data(133), rec(46, 1, 133, 20)),
-        (Claim::Data(133), rec(44, 2, 133, 12)),
-        (Claim::Data(134), rec(42, 2, 134, 0)),
-        (Claim::Data(133), rec(40, 3, 133, 8)),
-        (Claim::Data(133), rec(43, 1, 133, 11)),
+        (Claim::Data(133), 46, 1, 133, 20),
+        (Claim::Data(133), 44, 2, 133, 12),
+        (Claim::Data(134), 42, 2, 134, 0),
+        (Claim::Data(133), 40, 3, 133, 8),
+        (Claim::Data(133), 43, 1, 133, 11),
     ];
     let wanted = [rec(40, 6, 133, 8), rec(42, 2, 134, 0), rec(46, 1, 133, 20)];
-    for runs in runs_of(alloc, &pieces)? {
-        same(&rt, runs.as_slice(), wanted.as_slice());
-    }
-    Ok(())
+    expect_runs(&rt, rt.alloc(), &pieces, &wanted);
 }
 
 #[test]
-fn flags_keep_pieces_apart(rt: HostRuntime) -> Result<(), Fail> {
-    let alloc = rt.alloc();
+fn flags_keep_pieces_apart(rt: HostRuntime) {
     // Written beside unwritten, data beside attributes, and blocks of both forks' btrees.
     let pieces = [
-        (Claim::ForkTree(133), rec(61, 1, 133, TREE)),
-        (Claim::ForkTree(133), rec(62, 1, 133, ATTR + TREE)),
-        (Claim::Attr(133), rec(54, 2, 133, ATTR + 4)),
-        (Claim::Data(133), rec(52, 2, 133, UNWRITTEN + 2)),
-        (Claim::ForkTree(133), rec(60, 1, 133, TREE)),
-        (Claim::Data(133), rec(50, 2, 133, 0)),
-        (Claim::Attr(133), rec(56, 1, 133, ATTR + 6)),
+        (Claim::ForkTree(133), 61, 1, 133, TREE),
+        (Claim::ForkTree(133), 62, 1, 133, ATTR + TREE),
+        (Claim::Attr(133), 54, 2, 133, ATTR + 4),
+        (Claim::Data(133), 52, 2, 133, UNWRITTEN + 2),
+        (Claim::ForkTree(133), 60, 1, 133, TREE),
+        (Claim::Data(133), 50, 2, 133, 0),
+        (Claim::Attr(133), 56, 1, 133, ATTR + 6),
     ];
     let wanted = [
         rec(50, 2, 133, 0),
@@ -116,10 +122,7 @@ fn flags_keep_pieces_apart(rt: HostRuntime) -> Result<(), Fail> {
         rec(60, 2, 133, TREE),
         rec(62, 1, 133, ATTR + TREE),
     ];
-    for runs in runs_of(alloc, &pieces)? {
-        same(&rt, runs.as_slice(), wanted.as_slice());
-    }
-    Ok(())
+    expect_runs(&rt, rt.alloc(), &pieces, &wanted);
 }
 
 #[test]

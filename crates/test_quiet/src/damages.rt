@@ -1,12 +1,13 @@
 // The inodes of a new image with one number changed and the checksums mended, and every fault of them.
-use crate::inodes::{block_at, change_byte, fresh, inodes_of};
+use super::same::same;
+use crate::inodes::{block_at, change_byte, fresh, inodes_of, is_all};
 use blk_device::{Device, MemDevice, Region};
 use byte_fields::{Block, put_sum, put_u32, sum_at};
 use fs_model::{AnyRec, Claim, Counter, Entry, Evidence, Fault, Reason, Unit, Verdict};
 use ino_recs::InoRec;
 use sblock::{BlockFault, Kind};
 use std::alloc::Global;
-use std::test::Fail;
+use std::process::Abort;
 
 // The block with the checksums of the sectors 1 to 3 stored, which are a group's heads.
 fn mended_heads(mut block: Block) -> Block {
@@ -87,12 +88,12 @@ fn are_faults(entries: &[Entry], faults: &[Fault]) -> bool {
     let Some((last, front)) = entries.split_last() else {
         return false;
     };
-    let all = front.len() == faults.len();
-    let same = front
-        .iter()
-        .zip(faults.iter())
-        .all(|(entry, fault)| is_fault(entry, fault));
-    all && same && is_verdict(last, Verdict::Faulty(faults.len() as u64))
+    for (entry, fault) in front.iter().zip(faults.iter()) {
+        if !is_fault(entry, fault) {
+            return false;
+        }
+    }
+    front.len() == faults.len() && is_verdict(last, Verdict::Faulty(faults.len() as u64))
 }
 
 // Whether the inodes of the first group have exactly these faults.
@@ -113,7 +114,7 @@ fn gives_up(alloc: Global, changes: &[(u64, usize, u32)], found: Evidence) -> bo
     };
     let verdict = Verdict::GaveUp(Reason::Contradiction(found));
     match inodes_of(alloc, &mut device, 0) {
-        Some(entries) => entries.len() == 1 && is_verdict(&entries[0], verdict),
+        Some(entries) => is_all(entries.as_slice(), 0, verdict),
         None => false,
     }
 }
@@ -138,44 +139,50 @@ fn counter(name: Counter, found: u32, wanted: u32) -> Fault {
     }
 }
 
-#[test]
-fn each_counter_of_inodes_is_judged(rt: HostRuntime) -> Result<(), Fail> {
-    let alloc = rt.alloc();
-    // The places of agi_count, agi_freecount, agi_iblocks and agi_fblocks in block 0.
-    let rows = [
-        (1040, 63, counter(Counter::Count, 63, 64)),
-        (1052, 60, counter(Counter::Freecount, 60, 61)),
-        (1360, 2, counter(Counter::Iblocks, 2, 1)),
-        (1364, 0, counter(Counter::Fblocks, 0, 1)),
-    ];
-    for (place, value, fault) in &rows {
-        assert!(rt; has(alloc, &[(0, *place, *value)], &[*fault]), "{place}");
-    }
-    Ok(())
+fn expect_faults(rt: &impl Abort, alloc: Global, changes: &[(u64, usize, u32)], faults: &[Fault]) {
+    assert!(rt; has(alloc, changes, faults), "{changes:?}");
+}
+
+fn expect_given_up(rt: &impl Abort, alloc: Global, changes: &[(u64, usize, u32)], found: Evidence) {
+    assert!(rt; gives_up(alloc, changes, found), "{changes:?}");
 }
 
 #[test]
-fn each_record_of_inodes_is_judged(rt: HostRuntime) -> Result<(), Fail> {
+fn each_counter_of_inodes_is_judged(rt: HostRuntime) {
+    let alloc = rt.alloc();
+    // The places of agi_count, agi_freecount, agi_iblocks and agi_fblocks in block 0.
+    for (place, name, found, wanted) in [
+        (1040, Counter::Count, 63, 64),
+        (1052, Counter::Freecount, 60, 61),
+        (1360, Counter::Iblocks, 2, 1),
+        (1364, Counter::Fblocks, 0, 1),
+    ] {
+        let fault = counter(name, found, wanted);
+        expect_faults(&rt, alloc, &[(0, place, found)], &[fault]);
+    }
+}
+
+#[test]
+fn each_record_of_inodes_is_judged(rt: HostRuntime) {
     let alloc = rt.alloc();
     let wanted = chunk();
+    let missing = Fault::Missing(AnyRec::Ino(wanted));
+    // Block 3 has the inode btree's one leaf, and block 4 that of the free inode btree. Their count of
+    // records stands behind their level, at place 4, and their one record at place 56.
+    expect_faults(&rt, alloc, &[(3, 4, 0)], &[missing]);
+    let missing_free = Fault::Missing(AnyRec::Fino(wanted));
+    expect_faults(&rt, alloc, &[(4, 4, 0)], &[missing_free]);
     let other = InoRec {
         free: 0xffff_ffff_ffff_fff4,
         ..wanted
     };
-    let more = InoRec {
-        startino: 256,
-        ..wanted
-    };
-    // Block 3 has the inode btree's one leaf, and block 4 that of the free inode btree. Their count of
-    // records stands behind their level, at place 4, and their one record at place 56.
-    assert!(rt; has(alloc, &[(3, 4, 0)], &[Fault::Missing(AnyRec::Ino(wanted))]));
-    assert!(rt; has(alloc, &[(4, 4, 0)], &[Fault::Missing(AnyRec::Fino(wanted))]));
-    let changed = [
-        Fault::Missing(AnyRec::Ino(wanted)),
-        Fault::Extra(AnyRec::Ino(other)),
-    ];
-    assert!(rt; has(alloc, &[(3, 68, 0xffff_fff4)], &changed));
-    // A second record for a unit that holds no inodes: at the end, where the first has another key.
+    let changed = [missing, Fault::Extra(AnyRec::Ino(other))];
+    expect_faults(&rt, alloc, &[(3, 68, 0xffff_fff4)], &changed);
+    expect_second_record(&rt, alloc);
+}
+
+// A second record for a unit that holds no inodes: at the end, where the first has another key.
+fn expect_second_record(rt: &impl Abort, alloc: Global) {
     let second = [
         (3, 4, 2),
         (3, 72, 256),
@@ -183,17 +190,21 @@ fn each_record_of_inodes_is_judged(rt: HostRuntime) -> Result<(), Fail> {
         (3, 80, 0xffff_ffff),
         (3, 84, 0xffff_fff8),
     ];
-    assert!(rt; has(alloc, &second, &[Fault::Extra(AnyRec::Ino(more))]));
-    Ok(())
+    let wanted = chunk();
+    let more = InoRec {
+        startino: 256,
+        ..wanted
+    };
+    expect_faults(rt, alloc, &second, &[Fault::Extra(AnyRec::Ino(more))]);
 }
 
 #[test]
-fn each_evidence_against_inodes_is_shown(rt: HostRuntime) -> Result<(), Fail> {
+fn each_evidence_against_inodes_is_shown(rt: HostRuntime) {
     let alloc = rt.alloc();
     // A record with a hole, which is a form that isn't supported yet, in each of the two trees.
     for (kind, block) in [(Kind::Ino, 3), (Kind::Fino, 4)] {
         let later = Evidence::Later { kind, block };
-        assert!(rt; gives_up(alloc, &[(u64::from(block), 60, 0x0001_403d)], later));
+        expect_given_up(&rt, alloc, &[(u64::from(block), 60, 0x0001_403d)], later);
     }
     // The first block of the free list is the root of the reverse mappings.
     let overlap = Evidence::Overlap {
@@ -201,12 +212,10 @@ fn each_evidence_against_inodes_is_shown(rt: HostRuntime) -> Result<(), Fail> {
         first: Claim::List,
         second: Claim::Tree(Kind::Rmap),
     };
-    assert!(rt; gives_up(alloc, &[(0, 1572, 5)], overlap));
-    Ok(())
+    expect_given_up(&rt, alloc, &[(0, 1572, 5)], overlap);
 }
 
-// Whether the inodes of a new image get these faults, or this evidence, once both of these blocks have
-// a checksum that fails.
+// The journal of the inodes of a new image, once each of these blocks has a checksum that fails.
 fn without(alloc: Global, blocks: &[u64]) -> Option<Vec<Entry>> {
     let mut device = fresh(alloc, 1, 256)?;
     for at in blocks {
@@ -217,29 +226,37 @@ fn without(alloc: Global, blocks: &[u64]) -> Option<Vec<Entry>> {
     inodes_of(alloc, &mut device, 0)
 }
 
+// Whether they then have this fault alone.
+fn has_without(alloc: Global, blocks: &[u64], fault: Fault) -> bool {
+    match without(alloc, blocks) {
+        Some(entries) => are_faults(entries.as_slice(), &[fault]),
+        None => false,
+    }
+}
+
+// Whether they then get this verdict, and no fault.
+fn is_judged_without(alloc: Global, blocks: &[u64], verdict: Verdict) -> bool {
+    match without(alloc, blocks) {
+        Some(entries) => is_all(entries.as_slice(), 0, verdict),
+        None => false,
+    }
+}
+
 #[test]
-fn trees_that_cannot_be_read(rt: HostRuntime) -> Result<(), Fail> {
+fn trees_that_cannot_be_read(rt: HostRuntime) {
     let alloc = rt.alloc();
     let unreadable = Fault::Block {
         kind: Kind::Ino,
         block: 3,
         fault: BlockFault::Checksum,
     };
-    // The chunk is known by the reverse mappings alone, and then by the inode btree alone.
-    let by_owners = without(alloc, &[3]);
-    assert!(rt; by_owners.is_some_and(|entries| are_faults(entries.as_slice(), &[unreadable])));
-    let by_inodes = without(alloc, &[5]);
-    assert!(rt;
-        by_inodes.is_some_and(|entries| entries.len() == 1
-            && is_verdict(&entries[0], Verdict::Good))
-    );
     let neither = Verdict::GaveUp(Reason::Contradiction(Evidence::BadTree {
         kind: Kind::Rmap,
         block: 5,
     }));
-    let by_none = without(alloc, &[3, 5]);
-    assert!(rt;
-        by_none.is_some_and(|entries| entries.len() == 1 && is_verdict(&entries[0], neither))
-    );
-    Ok(())
+    // The chunk is known by the reverse mappings alone, and then by the inode btree alone.
+    let by_owners = has_without(alloc, &[3], unreadable);
+    let by_inodes = is_judged_without(alloc, &[5], Verdict::Good);
+    let by_none = is_judged_without(alloc, &[3, 5], neither);
+    same(&rt, [by_owners, by_inodes, by_none], [true, true, true]);
 }

@@ -1,6 +1,7 @@
 // Checks that end before a group is judged.
 ghost use Rattle.std.specs.Prelude.{◌≡◌};
 
+use super::same::same;
 use ag_headers::HeadFault;
 use blk_device::{Device, MemDevice, Region};
 use byte_fields::Steps;
@@ -12,8 +13,8 @@ use space_check::{CheckStop, Halt};
 use std::alloc::{AllocError, Global};
 use std::collections::BTreeMap;
 use std::marker::Brand;
+use std::process::Abort;
 use std::sync::ledger::{Blank, Ledger};
-use std::test::Fail;
 
 fn two_groups() -> Geometry
     ensures group { result.agcount ≡ 2 }
@@ -61,26 +62,27 @@ fn check_blank(alloc: Global, failing: Vec<u64>) -> Result<Option<CheckStop>, Al
     Ok(checked::<Brand>(alloc, device, blank).err())
 }
 
+// Ends the test where the check of that device doesn't end for this cause, with nothing judged before.
+fn expect_stop(rt: &impl Abort, alloc: Global, failing: Vec<u64>, cause: Halt) {
+    let stop = check_blank(alloc, failing).expect(rt, "memory is there");
+    let journal = Vec::new(alloc);
+    same(rt, stop, Some(CheckStop { cause, journal }));
+}
+
 #[test]
-fn a_head_that_is_refused_ends_the_check(rt: HostRuntime) -> Result<(), Fail> {
+fn a_head_that_is_refused_ends_the_check(rt: HostRuntime) {
     let alloc = rt.alloc();
-    let stop = check_blank(alloc, Vec::new(alloc))?;
     let cause = Halt::Head {
         group: 0,
         head: Head::Agf,
         fault: HeadFault::Magic,
     };
-    let journal = Vec::new(alloc);
-    assert_eq!(rt; stop, Some(CheckStop { cause, journal }));
-    Ok(())
+    expect_stop(&rt, alloc, Vec::new(alloc), cause);
 }
 
 #[test]
-fn a_device_that_fails_ends_the_check(rt: HostRuntime) -> Result<(), Fail> {
+fn a_device_that_fails_ends_the_check(rt: HostRuntime) {
     let alloc = rt.alloc();
-    let stop = check_blank(alloc, [0].to_vec(alloc)?)?;
-    let cause = Halt::Failed;
-    let journal = Vec::new(alloc);
-    assert_eq!(rt; stop, Some(CheckStop { cause, journal }));
-    Ok(())
+    let failing = [0].to_vec(alloc).expect(&rt, "memory is there");
+    expect_stop(&rt, alloc, failing, Halt::Failed);
 }

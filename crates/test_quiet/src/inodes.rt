@@ -2,6 +2,7 @@
 ghost use Rattle.std.specs.Prelude.{◌≡◌, ◌≤◌, ◌<◌};
 ghost use Rattle.blk_device.specs.declared.device.Region.TheVariants.{Image};
 
+use super::same::same;
 use blk_device::{Device, MemDevice, Region};
 use byte_fields::{Block, Steps};
 use dinode_core::CoreFault;
@@ -12,7 +13,6 @@ use quiet_check::check_inodes;
 use std::alloc::Global;
 use std::marker::Brand;
 use std::sync::ledger::{Blank, Ledger};
-use std::test::Fail;
 
 // A device with a new image of so many groups of 64 blocks, or one of 256.
 pub(crate) fn fresh(alloc: Global, groups: u32, len: u32) -> Option<MemDevice> {
@@ -97,7 +97,7 @@ pub(crate) fn inodes_of(alloc: Global, device: &mut MemDevice, g: u32) -> Option
 }
 
 // Whether this verdict is all that is added.
-fn is_all(entries: &[Entry], group: u32, verdict: Verdict) -> bool {
+pub(crate) fn is_all(entries: &[Entry], group: u32, verdict: Verdict) -> bool {
     match entries.first() {
         Some(
             Entry::Verdict {
@@ -140,24 +140,22 @@ fn becomes(alloc: Global, at: u64, place: usize, verdict: Verdict) -> bool {
 }
 
 #[test]
-fn new_images_are_good(rt: HostRuntime) -> Result<(), Fail> {
-    let alloc = rt.alloc();
-    assert!(rt; are_good(alloc, 1, 64));
-    assert!(rt; are_good(alloc, 1, 256));
-    assert!(rt; are_good(alloc, 3, 64));
-    Ok(())
+fn new_images_are_good(rt: HostRuntime) {
+    for (groups, len) in [(1, 64), (1, 256), (3, 64)] {
+        let found = are_good(rt.alloc(), groups, len);
+        same(&rt, (groups, len, found), (groups, len, true));
+    }
 }
 
 #[test]
-fn a_core_that_fails_is_shown(rt: HostRuntime) -> Result<(), Fail> {
+fn a_core_that_fails_is_shown(rt: HostRuntime) {
     let alloc = rt.alloc();
     let found = Verdict::GaveUp(Reason::Contradiction(Evidence::BadChunk {
         block: 24,
         fault: CoreFault::Checksum,
     }));
     // Byte 600 lies in the second core, where no test but the checksum looks.
-    assert!(rt; becomes(alloc, 24, 600, found));
+    same(&rt, becomes(alloc, 24, 600, found), true);
     // A byte that no metadata has changes nothing.
-    assert!(rt; becomes(alloc, 100, 600, Verdict::Good));
-    Ok(())
+    same(&rt, becomes(alloc, 100, 600, Verdict::Good), true);
 }

@@ -7,3 +7,5 @@ mod damages;
 mod ended;
 #[cfg(test)]
 mod inodes;
+#[cfg(test)]
+mod same;

@@ -59,7 +59,8 @@ pub(super) fn altered(mut block: Block, at: usize, value: u32) -> Block {
     block
 }
 
-fn mended(mut block: Block) -> Block {
+/// The block with its checksum.
+pub(super) fn mended(mut block: Block) -> Block {
     let sum = sum_at(&block.bytes, 52);
     put_sum(&mut block.bytes, 52, sum);
     block

@@ -1,3 +1,5 @@
+ghost use Rattle.std.specs.Prelude.{◌≡◌};
+
 use super::same::same;
 use crate::blocks::{altered, block_of, expect_faults, want_of};
 use ino_recs::{FinoKind, InoKind, InoRec};
@@ -74,12 +76,12 @@ fn shared_blocks_lie_in_the_group(rt: HostRuntime) {
             refcount: *refcount,
         };
         same(&rt, RefcKind::is_in_range(&rec, &BOUNDS), *wanted);
-        assert!(rt; RefcKind::is_supported(&rec));
+        same(&rt, RefcKind::is_supported(&rec), true);
         same(&rt, RefcKind::length_of(&rec), *count);
     }
     // Staging is of a form that isn't supported yet.
     let rec = shared(0x8000_0020, 3, 1);
-    assert!(rt; !RefcKind::is_supported(&rec));
+    same(&rt, RefcKind::is_supported(&rec), false);
     same(
         &rt,
         RefcKind::block_of(&RefcKind::key_of(&rec)),
@@ -105,21 +107,52 @@ fn records_meet_in_a_block_or_by_their_keys(rt: HostRuntime) {
         same(&rt, do_meet::<CntKind>(&a, &b), by_key);
     }
     let staging = shared(0x8000_0020, 3, 1);
-    assert!(rt; !do_meet::<RefcKind>(&staging, &shared(0x20, 3, 2)));
-    assert!(rt; do_meet::<RefcKind>(&staging, &shared(0x8000_0022, 1, 1)));
+    let apart = do_meet::<RefcKind>(&staging, &shared(0x20, 3, 2));
+    let together = do_meet::<RefcKind>(&staging, &shared(0x8000_0022, 1, 1));
+    same(&rt, [apart, together], [false, true]);
     let taken = InoRec {
         freecount: 60,
         free: 0xffff_ffff_ffff_fff0,
         ..FIRST
     };
-    assert!(rt; do_meet::<InoKind>(&FIRST, &taken));
-    assert!(rt; !InoKind::is_same(&FIRST, &taken));
-    assert!(rt; InoKind::is_same(&FIRST, &FIRST));
+    same(&rt, do_meet::<InoKind>(&FIRST, &taken), true);
+    same(&rt, InoKind::is_same(&FIRST, &taken), false);
+    same(&rt, InoKind::is_same(&FIRST, &FIRST), true);
+}
+
+// The faults of a root that is a leaf with these numbers, and of it with each of these words changed.
+fn expect_leaf_faults<K: RecKind>(
+    rt: &impl Abort,
+    kind: Kind,
+    magic: u32,
+    words: &[u32],
+    own: &[(usize, u32, BlockFault)],
+)
+    requires { kind ≡ K.form.kind }
+{
+    let leaf = block_of(magic, 0, 2, words);
+    expect_faults::<K>(rt, &want_of(kind, 0, BOUNDS), &leaf, own);
+}
+
+// The same of a root that is a node with these keys, and with the pointers 2 and 3 from this byte on.
+fn expect_node_faults<K: RecKind>(
+    rt: &impl Abort,
+    kind: Kind,
+    magic: u32,
+    keys: &[u32],
+    at: u16,
+    own: &[(usize, u32, BlockFault)],
+)
+    requires { kind ≡ K.form.kind }
+{
+    let at = usize::from(at);
+    let node = block_of(magic, 1, 2, keys);
+    let node = altered(altered(node, at, 2), at + 4, 3);
+    expect_faults::<K>(rt, &want_of(kind, 1, BOUNDS), &node, own);
 }
 
 // Roots of free space and of reference counts.
 fn expect_faults_of_span_leaves(rt: &impl Abort) {
-    let bno = block_of(0x4142_3342, 0, 2, &[19, 5, 32, 224]);
     let own = [
         (4, 0x0001_0002, BlockFault::Level),
         (4, 506, BlockFault::Count),
@@ -127,8 +160,7 @@ fn expect_faults_of_span_leaves(rt: &impl Abort) {
         (56, 0, BlockFault::Range),
         (68, 225, BlockFault::Range),
     ];
-    expect_faults::<BnoKind>(rt, &want_of(Kind::Bno, 0, BOUNDS), &bno, &own);
-    let cnt = block_of(0x4142_3343, 0, 2, &[19, 5, 32, 5]);
+    expect_leaf_faults::<BnoKind>(rt, Kind::Bno, 0x4142_3342, &[19, 5, 32, 224], &own);
     let own = [
         (4, 0x0001_0002, BlockFault::Level),
         (4, 506, BlockFault::Count),
@@ -136,8 +168,7 @@ fn expect_faults_of_span_leaves(rt: &impl Abort) {
         (68, 4, BlockFault::Order),
         (68, 225, BlockFault::Range),
     ];
-    expect_faults::<CntKind>(rt, &want_of(Kind::Cnt, 0, BOUNDS), &cnt, &own);
-    let refc = block_of(0x5233_4643, 0, 2, &[19, 5, 2, 32, 1, 3]);
+    expect_leaf_faults::<CntKind>(rt, Kind::Cnt, 0x4142_3343, &[19, 5, 32, 5], &own);
     let own = [
         (4, 0x0001_0002, BlockFault::Level),
         (4, 337, BlockFault::Count),
@@ -146,13 +177,11 @@ fn expect_faults_of_span_leaves(rt: &impl Abort) {
         (72, 225, BlockFault::Range),
         (68, 0x8000_0000, BlockFault::Later),
     ];
-    expect_faults::<RefcKind>(rt, &want_of(Kind::Refc, 0, BOUNDS), &refc, &own);
+    expect_leaf_faults::<RefcKind>(rt, Kind::Refc, 0x5233_4643, &[19, 5, 2, 32, 1, 3], &own);
 }
 
 fn expect_faults_of_span_nodes(rt: &impl Abort) {
-    // The pointers are 2 and 3, behind the room of 336 keys of 8 bytes and of 505 of 4.
-    let bno = block_of(0x4142_3342, 1, 2, &[19, 5, 32, 224]);
-    let bno = altered(altered(bno, 2744, 2), 2748, 3);
+    // The pointers are behind the room of 336 keys of 8 bytes and of 505 of 4.
     let own = [
         (4, 2, BlockFault::Level),
         (4, 0x0001_0000, BlockFault::Count),
@@ -160,25 +189,21 @@ fn expect_faults_of_span_nodes(rt: &impl Abort) {
         (2744, 0, BlockFault::Range),
         (2748, 256, BlockFault::Range),
     ];
-    expect_faults::<BnoKind>(rt, &want_of(Kind::Bno, 1, BOUNDS), &bno, &own);
-    let cnt = block_of(0x4142_3343, 1, 2, &[19, 5, 32, 5]);
-    let cnt = altered(altered(cnt, 2744, 2), 2748, 3);
+    expect_node_faults::<BnoKind>(rt, Kind::Bno, 0x4142_3342, &[19, 5, 32, 224], 2744, &own);
     let own = [
         (4, 2, BlockFault::Level),
         (4, 0x0001_0151, BlockFault::Count),
         (68, 4, BlockFault::Order),
         (2748, 256, BlockFault::Range),
     ];
-    expect_faults::<CntKind>(rt, &want_of(Kind::Cnt, 1, BOUNDS), &cnt, &own);
-    let refc = block_of(0x5233_4643, 1, 2, &[19, 32]);
-    let refc = altered(altered(refc, 2076, 2), 2080, 3);
+    expect_node_faults::<CntKind>(rt, Kind::Cnt, 0x4142_3343, &[19, 5, 32, 5], 2744, &own);
     let own = [
         (4, 2, BlockFault::Level),
         (4, 0x0001_01fa, BlockFault::Count),
         (60, 19, BlockFault::Order),
         (2076, 0, BlockFault::Range),
     ];
-    expect_faults::<RefcKind>(rt, &want_of(Kind::Refc, 1, BOUNDS), &refc, &own);
+    expect_node_faults::<RefcKind>(rt, Kind::Refc, 0x5233_4643, &[19, 32], 2076, &own);
 }
 
 // Two chunks; of the second one inode is free.
@@ -204,10 +229,8 @@ fn expect_faults_of_chunk_leaves(rt: &impl Abort) {
         // The holes come after the range of all other records.
         (60, 0xff00_201d, BlockFault::Later),
     ];
-    let ino = block_of(0x4941_4233, 0, 2, &CHUNKS);
-    expect_faults::<InoKind>(rt, &want_of(Kind::Ino, 0, BOUNDS), &ino, &own);
-    let fino = block_of(0x4649_4233, 0, 2, &CHUNKS);
-    expect_faults::<FinoKind>(rt, &want_of(Kind::Fino, 0, BOUNDS), &fino, &own);
+    expect_leaf_faults::<InoKind>(rt, Kind::Ino, 0x4941_4233, &CHUNKS, &own);
+    expect_leaf_faults::<FinoKind>(rt, Kind::Fino, 0x4649_4233, &CHUNKS, &own);
 }
 
 fn expect_faults_of_chunk_nodes(rt: &impl Abort) {
@@ -218,13 +241,9 @@ fn expect_faults_of_chunk_nodes(rt: &impl Abort) {
         (2076, 0, BlockFault::Range),
         (2080, 256, BlockFault::Range),
     ];
-    // The pointers are 2 and 3, behind the room of 505 keys of 4 bytes.
-    let ino = block_of(0x4941_4233, 1, 2, &[192, 256]);
-    let ino = altered(altered(ino, 2076, 2), 2080, 3);
-    expect_faults::<InoKind>(rt, &want_of(Kind::Ino, 1, BOUNDS), &ino, &own);
-    let fino = block_of(0x4649_4233, 1, 2, &[192, 256]);
-    let fino = altered(altered(fino, 2076, 2), 2080, 3);
-    expect_faults::<FinoKind>(rt, &want_of(Kind::Fino, 1, BOUNDS), &fino, &own);
+    // The pointers are behind the room of 505 keys of 4 bytes.
+    expect_node_faults::<InoKind>(rt, Kind::Ino, 0x4941_4233, &[192, 256], 2076, &own);
+    expect_node_faults::<FinoKind>(rt, Kind::Fino, 0x4649_4233, &[192, 256], 2076, &own);
 }
 
 #[test]
@@ -326,8 +345,8 @@ fn chunks_with_holes_are_not_supported(rt: HostRuntime) {
         holemask: 0xff00,
         ..FIRST
     };
-    assert!(rt; InoKind::is_supported(&FIRST));
-    assert!(rt; !InoKind::is_supported(&holed));
+    same(&rt, InoKind::is_supported(&FIRST), true);
+    same(&rt, InoKind::is_supported(&holed), false);
     same(&rt, InoKind::block_of(&InoKind::key_of(&FIRST)), 24);
     same(&rt, FinoKind::length_of(&FIRST), 8);
     same(&rt, FinoKind::length_of(&holed), 0);

@@ -1,6 +1,7 @@
-use super::same::same;
-use rmap_recs::{Owner, RmapKind, RmapRec, Tuple, runs};
+use super::same::{same, same_in_row};
+use rmap_recs::{Key, Owner, RmapKind, RmapRec, Tuple, runs};
 use sblock::{Bounds, Kind, RecKind};
+use std::alloc::{AllocError, Global};
 use std::test::Fail;
 
 const AG: u64 = 0xffff_ffff_ffff_fffb;
@@ -22,6 +23,10 @@ fn rec_of(start: u32, count: u32, owner: u64, word: u64) -> RmapRec {
     }
 }
 
+fn shown(alloc: Global, owner: Owner) -> Result<String, AllocError> {
+    format!(in alloc; "{owner}")
+}
+
 #[test]
 fn owners_have_their_numbers_and_words(rt: HostRuntime) -> Result<(), Fail> {
     let alloc = rt.alloc();
@@ -36,10 +41,9 @@ fn owners_have_their_numbers_and_words(rt: HostRuntime) -> Result<(), Fail> {
         (Owner::Inode(195), 195, "195"),
     ];
     for (owner, number, word) in table {
-        let text = format!(in alloc; "{owner}")?;
         same(&rt, owner.number(), number);
         same(&rt, Owner::from_number(number), Some(owner));
-        same(&rt, text.as_str(), word);
+        same(&rt, shown(alloc, owner)?.as_str(), word);
     }
     let nobody = [
         Owner::from_number(u64::MAX),
@@ -88,24 +92,24 @@ fn an_entry_is_the_low_and_the_high_key(rt: HostRuntime) {
     same(&rt, [area[79], area[120]], [255, 255]);
 }
 
+// The numbers of a key: its start, its owner and its word.
+fn key_of((start, owner, word): (u32, u64, u64)) -> Key {
+    RmapKind::key_of(&rec_of(start, 1, owner, word))
+}
+
 #[test]
 fn keys_are_ordered_by_start_owner_and_word(rt: HostRuntime) {
-    let key = |start, owner, word| RmapKind::key_of(&rec_of(start, 1, owner, word));
-    let table = [
-        (key(5, 9, 9), key(6, 0, 0), true),
-        (key(5, 8, 9), key(5, 9, 0), true),
-        (key(5, 9, 7), key(5, 9, 8), true),
-        (key(5, 9, UNWRITTEN + 7), key(5, 9, 8), true),
-        (key(5, 9, 7), key(5, 9, UNWRITTEN + 7), false),
-        (key(5, 9, 8), key(5, 9, UNWRITTEN + 7), false),
-        (key(5, 9, 8), key(5, 9, ATTRIBUTE), true),
-    ];
-    for (first, second, is_before) in table {
-        assert_eq!(rt;
-            RmapKind::is_before(&first, &second),
-            is_before,
-            "{first:?} {second:?}"
-        );
+    for (first, second, is_before) in [
+        ((5, 9, 9), (6, 0, 0), true),
+        ((5, 8, 9), (5, 9, 0), true),
+        ((5, 9, 7), (5, 9, 8), true),
+        ((5, 9, UNWRITTEN + 7), (5, 9, 8), true),
+        ((5, 9, 7), (5, 9, UNWRITTEN + 7), false),
+        ((5, 9, 8), (5, 9, UNWRITTEN + 7), false),
+        ((5, 9, 8), (5, 9, ATTRIBUTE), true),
+    ] {
+        let found = RmapKind::is_before(&key_of(first), &key_of(second));
+        same_in_row(&rt, (first, second), found, is_before);
     }
 }
 
@@ -118,62 +122,60 @@ fn owner_and_word_fit_together(rt: HostRuntime) {
         last: 500,
         agblklog: 10,
     };
-    let table = [
-        (rec_of(0, 1000, AG, 0), true),
-        (rec_of(0, 1001, AG, 0), false),
-        (rec_of(5, 0, AG, 0), false),
-        (rec_of(5, 1, AG, 1), false),
-        (rec_of(5, 1, u64::MAX - 1, 0), false),
-        (rec_of(5, 1, u64::MAX, 0), false),
-        (rec_of(5, 1, 28_575, 7), true),
-        (rec_of(5, 1, 28_576, 7), false),
-        (rec_of(5, 1, 32_768, 7), false),
-        (rec_of(5, 1, 195, UNWRITTEN + 3), true),
-        (rec_of(5, 1, 195, ATTRIBUTE + 3), true),
-        (rec_of(5, 1, 195, ATTRIBUTE + UNWRITTEN), false),
-        (rec_of(5, 1, 195, FORK_TREE + ATTRIBUTE), true),
-        (rec_of(5, 1, 195, FORK_TREE + 1), false),
-        (rec_of(5, 1, 195, FORK_TREE + UNWRITTEN), false),
-        (rec_of(5, 1, 195, 1 << 55), false),
-        (rec_of(5, 2, 195, OFFSETS - 2), true),
-        (rec_of(5, 2, 195, OFFSETS - 1), false),
-    ];
-    for (rec, is_right) in table {
-        assert_eq!(rt; RmapKind::is_in_range(&rec, &bounds), is_right, "{rec:?}");
+    for (start, count, owner, word, is_right) in [
+        (0, 1000, AG, 0, true),
+        (0, 1001, AG, 0, false),
+        (5, 0, AG, 0, false),
+        (5, 1, AG, 1, false),
+        (5, 1, u64::MAX - 1, 0, false),
+        (5, 1, u64::MAX, 0, false),
+        (5, 1, 28_575, 7, true),
+        (5, 1, 28_576, 7, false),
+        (5, 1, 32_768, 7, false),
+        (5, 1, 195, UNWRITTEN + 3, true),
+        (5, 1, 195, ATTRIBUTE + 3, true),
+        (5, 1, 195, ATTRIBUTE + UNWRITTEN, false),
+        (5, 1, 195, FORK_TREE + ATTRIBUTE, true),
+        (5, 1, 195, FORK_TREE + 1, false),
+        (5, 1, 195, FORK_TREE + UNWRITTEN, false),
+        (5, 1, 195, 1 << 55, false),
+        (5, 2, 195, OFFSETS - 2, true),
+        (5, 2, 195, OFFSETS - 1, false),
+    ] {
+        let rec = rec_of(start, count, owner, word);
+        same_in_row(&rt, rec, RmapKind::is_in_range(&rec, &bounds), is_right);
     }
+}
+
+// Whether two records, each a start, a count, an owner and a word, can be joined.
+fn can_join(first: (u32, u32, u64, u64), second: (u32, u32, u64, u64)) -> bool {
+    let second = rec_of(second.0, second.1, second.2, second.3);
+    rec_of(first.0, first.1, first.2, first.3).can_join(&second)
 }
 
 #[test]
 fn records_are_joined_where_all_goes_on(rt: HostRuntime) {
-    let table = [
-        (rec_of(4, 2, 195, 7), rec_of(6, 1, 195, 9), true),
-        (rec_of(4, 2, 195, 7), rec_of(6, 1, 195, 10), false),
-        (rec_of(4, 2, 195, 7), rec_of(7, 1, 195, 9), false),
-        (rec_of(4, 2, 195, 7), rec_of(6, 1, 196, 9), false),
-        (
-            rec_of(4, 2, 195, 7),
-            rec_of(6, 1, 195, UNWRITTEN + 9),
-            false,
-        ),
-        (
-            rec_of(4, 1, 195, OFFSETS - 1),
-            rec_of(5, 1, 195, OFFSETS),
-            false,
-        ),
-        (
-            rec_of(4, 1, 195, FORK_TREE),
-            rec_of(5, 1, 195, FORK_TREE),
-            true,
-        ),
-        (rec_of(4, 2, AG, 0), rec_of(6, 3, AG, 0), true),
-    ];
-    for (first, second, is_one) in table {
-        assert_eq!(rt; first.can_join(&second), is_one, "{first:?} {second:?}");
+    for (first, second, is_one) in [
+        ((4, 2, 195, 7), (6, 1, 195, 9), true),
+        ((4, 2, 195, 7), (6, 1, 195, 10), false),
+        ((4, 2, 195, 7), (7, 1, 195, 9), false),
+        ((4, 2, 195, 7), (6, 1, 196, 9), false),
+        ((4, 2, 195, 7), (6, 1, 195, UNWRITTEN + 9), false),
+        ((4, 1, 195, OFFSETS - 1), (5, 1, 195, OFFSETS), false),
+        ((4, 1, 195, FORK_TREE), (5, 1, 195, FORK_TREE), true),
+        ((4, 2, AG, 0), (6, 3, AG, 0), true),
+    ] {
+        same_in_row(&rt, (first, second), can_join(first, second), is_one);
     }
-    let shareable = [5, UNWRITTEN + 5, ATTRIBUTE + 5, FORK_TREE].map(|word| rec_of(
-        4, 1, 195, word,
-    ).is_shareable());
-    same(&rt, shareable, [true, false, false, false]);
+    for (word, wanted) in [
+        (5, true),
+        (UNWRITTEN + 5, false),
+        (ATTRIBUTE + 5, false),
+        (FORK_TREE, false),
+    ] {
+        let rec = rec_of(4, 1, 195, word);
+        same_in_row(&rt, rec, rec.is_shareable(), wanted);
+    }
     same(&rt, rec_of(4, 1, AG, 0).is_shareable(), false);
 }
 

@@ -1,39 +1,48 @@
+ghost use Rattle.run_sets.specs.Runs.{IsRun};
+
 use super::same::same;
-use run_sets::{Run, RunSet, one_list, one_stretch_list, only_runs, only_stretches, overlaps};
+use run_sets::{
+    Memory, Run, RunSet, one_list, one_stretch_list, only_runs, only_stretches, overlaps,
+};
+use std::alloc::Global;
+use std::process::Abort;
 use std::test::Fail;
+
+// The blocks of one run.
+fn set_of(alloc: Global, run: Run) -> Result<RunSet, Memory>
+    requires { IsRun run }
+{
+    let mut set = RunSet::new(alloc)?;
+    set.add(alloc, run)?;
+    Ok(set)
+}
+
+fn expect_runs(rt: &impl Abort, set: &RunSet, wanted: &[Run]) {
+    same(rt, set.runs(), wanted);
+}
 
 #[test]
 fn complement_holds_what_the_set_leaves(rt: HostRuntime) -> Result<(), Fail> {
-    let mut set = RunSet::new(rt.alloc())?;
-    set.add(rt.alloc(), Run { start: 0, count: 1 })?;
+    let mut set = set_of(rt.alloc(), Run { start: 0, count: 1 })?;
     set.add(rt.alloc(), Run { start: 4, count: 2 })?;
     let rest = set.complement(rt.alloc(), 10)?;
-    same(
-        &rt,
-        rest.runs(),
-        [Run { start: 1, count: 3 }, Run { start: 6, count: 4 }].as_slice(),
-    );
+    let wanted = [Run { start: 1, count: 3 }, Run { start: 6, count: 4 }];
+    expect_runs(&rt, &rest, &wanted);
     Ok(())
 }
 
 #[test]
 fn runs_that_touch_are_one(rt: HostRuntime) -> Result<(), Fail> {
-    let mut low = RunSet::new(rt.alloc())?;
-    low.add(rt.alloc(), Run { start: 0, count: 4 })?;
-    let mut high = RunSet::new(rt.alloc())?;
-    high.add(rt.alloc(), Run { start: 4, count: 3 })?;
+    let low = set_of(rt.alloc(), Run { start: 0, count: 4 })?;
+    let mut high = set_of(rt.alloc(), Run { start: 4, count: 3 })?;
     let both = low.union(rt.alloc(), &high)?;
-    same(&rt, both.runs(), [Run { start: 0, count: 7 }].as_slice());
-    assert!(rt; both.contains(6));
-    assert!(rt; !both.contains(7));
+    expect_runs(&rt, &both, &[Run { start: 0, count: 7 }]);
+    same(&rt, [both.contains(6), both.contains(7)], [true, false]);
     let left = both.subtract(rt.alloc(), &low)?;
-    same(&rt, left.runs(), high.runs());
+    expect_runs(&rt, &left, high.runs());
     high.remove(rt.alloc(), Run { start: 5, count: 1 })?;
-    same(
-        &rt,
-        high.runs(),
-        [Run { start: 4, count: 1 }, Run { start: 6, count: 1 }].as_slice(),
-    );
+    let wanted = [Run { start: 4, count: 1 }, Run { start: 6, count: 1 }];
+    expect_runs(&rt, &high, &wanted);
     Ok(())
 }
 

@@ -1,13 +1,15 @@
 ghost use Rattle.std.specs.Prelude.{◌≡◌};
 
-use super::same::same;
+use super::same::{same, same_in_row};
+use crate::blocks::{altered, block_of, mended};
 use crate::counted::Counted;
-use byte_fields::{Block, put_sum, put_u16, put_u32, put_u64, sum_at};
+use byte_fields::Block;
 use sblock::{
     BlockFault, Bounds, Header, Kind, RecKind, Span, Want, child_at, count_of, data_area,
     leaf_records, left_of, level_of, owner_of, place_of, put_child, right_of, span_of_records,
     span_of_subtrees, verify,
 };
+use std::process::Abort;
 use std::test::Fail;
 
 const NONE: u32 = 0xffff_ffff;
@@ -36,56 +38,24 @@ fn want(level: u8, root: bool) -> Want
     }
 }
 
-// A block of three records or entries at block 6 of group 1, without a sum.
-fn headed(level: u16) -> Block {
-    let mut bytes = Block::zeroed().bytes;
-    put_u32(&mut bytes, 0, 0x4941_4233);
-    put_u16(&mut bytes, 4, level);
-    put_u16(&mut bytes, 6, 3);
-    put_u32(&mut bytes, 8, NONE);
-    put_u32(&mut bytes, 12, NONE);
-    put_u64(&mut bytes, 16, 848);
-    put_u64(&mut bytes, 24, 77);
-    put_u64(&mut bytes, 32, 0x0102_0304_0506_0708);
-    put_u64(&mut bytes, 40, 0x090a_0b0c_0d0e_0f10);
-    put_u32(&mut bytes, 48, 1);
-    Block { bytes }
+// A block of three records or entries at block 6 of group 1, with these numbers behind its header and
+// without a sum.
+fn headed(level: u16, words: &[u32]) -> Block {
+    let block = block_of(0x4941_4233, level, 3, words);
+    // Its place, its log sequence number and its group.
+    let block = altered(altered(block, 20, 848), 28, 77);
+    altered(block, 48, 1)
 }
 
 // The numbers 10, 20 and 30, each in 16 bytes.
 fn leaf() -> Block {
-    let mut bytes = headed(0).bytes;
-    put_u32(&mut bytes, 56, 10);
-    put_u32(&mut bytes, 72, 20);
-    put_u32(&mut bytes, 88, 30);
-    Block { bytes }
+    headed(0, &[10, 0, 0, 0, 20, 0, 0, 0, 30])
 }
 
 // The keys 10, 20 and 30, and from byte 2,076 on the pointers 40, 50 and 60.
 fn node() -> Block {
-    let mut bytes = headed(1).bytes;
-    put_u32(&mut bytes, 56, 10);
-    put_u32(&mut bytes, 60, 20);
-    put_u32(&mut bytes, 64, 30);
-    put_u32(&mut bytes, 2076, 40);
-    put_u32(&mut bytes, 2080, 50);
-    put_u32(&mut bytes, 2084, 60);
-    Block { bytes }
-}
-
-fn summed(block: &Block) -> Block {
-    let mut bytes = block.bytes;
-    let sum = sum_at(&bytes, 52);
-    put_sum(&mut bytes, 52, sum);
-    Block { bytes }
-}
-
-fn with_number(block: &Block, at: usize, value: u32) -> Block {
-    let mut bytes = block.bytes;
-    if at <= 4092 {
-        put_u32(&mut bytes, at, value);
-    }
-    Block { bytes }
+    let block = altered(headed(1, &[10, 20, 30]), 2076, 40);
+    altered(altered(block, 2080, 50), 2084, 60)
 }
 
 fn judged(block: &Block, level: u8, root: bool) -> Result<Header, BlockFault> {
@@ -106,9 +76,9 @@ fn header(level: u8) -> Header {
 
 #[test]
 fn sound_roots_show_their_headers_and_others_a_fault(rt: HostRuntime) {
-    same(&rt, judged(&summed(&leaf()), 0, true), Ok(header(0)));
-    same(&rt, judged(&summed(&node()), 1, true), Ok(header(1)));
-    let block = with_number(&with_number(&node(), 8, 5), 12, 7);
+    same(&rt, judged(&mended(leaf()), 0, true), Ok(header(0)));
+    same(&rt, judged(&mended(node()), 1, true), Ok(header(1)));
+    let block = altered(altered(node(), 8, 5), 12, 7);
     same(&rt, [level_of(&block), count_of(&block)], [1, 3]);
     same(
         &rt,
@@ -119,15 +89,15 @@ fn sound_roots_show_their_headers_and_others_a_fault(rt: HostRuntime) {
     // A block beside others needs half of the greatest number, and the checksum comes before the order.
     same(
         &rt,
-        judged(&summed(&leaf()), 0, false),
+        judged(&mended(leaf()), 0, false),
         Err(BlockFault::Count),
     );
     same(
         &rt,
-        judged(&summed(&node()), 1, false),
+        judged(&mended(node()), 1, false),
         Err(BlockFault::Count),
     );
-    let block = with_number(&summed(&leaf()), 88, 20);
+    let block = altered(mended(leaf()), 88, 20);
     same(&rt, judged(&block, 0, true), Err(BlockFault::Checksum));
 }
 
@@ -155,14 +125,14 @@ fn each_test_of_a_block_has_its_fault(rt: HostRuntime) {
     ];
     for (level, at, value, fault) in rows {
         let sound = if level == 1 { node() } else { leaf() };
-        let block = summed(&with_number(&sound, at, value));
-        assert_eq!(rt; judged(&block, level, true), Err(fault), "at {at}");
+        let block = mended(altered(sound, at, value));
+        same_in_row(&rt, at, judged(&block, level, true), Err(fault));
     }
 }
 
 #[test]
 fn records_of_a_leaf_come_in_order(rt: HostRuntime) -> Result<(), Fail> {
-    let block = summed(&leaf());
+    let block = mended(leaf());
     let want = want(0, true);
     let header = verify::<Counted>(&block, &want)?;
     let records = leaf_records::<Counted>(rt.alloc(), &block)?;
@@ -205,24 +175,27 @@ fn entries_of_a_node_are_read_and_written(rt: HostRuntime) {
 }
 
 // 4,040 bytes divided by those of a record, or of a key and a pointer; and the half.
+fn expect_numbers(rt: &impl Abort, kind: Kind) {
+    let leaf = usize::from(kind.leaf_most());
+    let node = usize::from(kind.node_most());
+    same_in_row(rt, kind, leaf, 4040 / kind.record_width());
+    same_in_row(rt, kind, node, 4040 / (kind.key_width() + 4));
+    same_in_row(rt, kind, usize::from(kind.leaf_least()), leaf / 2);
+    same_in_row(rt, kind, usize::from(kind.node_least()), node / 2);
+    same_in_row(rt, kind, kind.has_high_keys(), kind == Kind::Rmap);
+}
+
 #[test]
 fn numbers_follow_from_the_widths(rt: HostRuntime) {
-    let kinds = [
+    for kind in [
         Kind::Bno,
         Kind::Cnt,
         Kind::Rmap,
         Kind::Refc,
         Kind::Ino,
         Kind::Fino,
-    ];
-    for kind in kinds {
-        let leaf = usize::from(kind.leaf_most());
-        let node = usize::from(kind.node_most());
-        assert_eq!(rt; leaf, 4040 / kind.record_width(), "{kind:?}");
-        assert_eq!(rt; node, 4040 / (kind.key_width() + 4), "{kind:?}");
-        assert_eq!(rt; usize::from(kind.leaf_least()), leaf / 2, "{kind:?}");
-        assert_eq!(rt; usize::from(kind.node_least()), node / 2, "{kind:?}");
-        assert_eq!(rt; kind.has_high_keys(), kind == Kind::Rmap, "{kind:?}");
+    ] {
+        expect_numbers(&rt, kind);
     }
     same(&rt, Kind::Rmap.magic().to_be_bytes(), *b"RMB3");
 }

@@ -1,7 +1,6 @@
 use super::same::same;
 use ino_recs::InoRec;
 use inode_table::{CHUNK_INODES, fino_record, fresh_chunk, give, lowest_free, take};
-use std::test::Fail;
 
 // The chunk of the worked image, of which the first three inodes are allocated.
 const CHUNK: InoRec = InoRec {
@@ -13,7 +12,7 @@ const CHUNK: InoRec = InoRec {
 };
 
 #[test]
-fn the_lowest_free_inode_of_a_chunk(rt: HostRuntime) -> Result<(), Fail> {
+fn the_lowest_free_inode_of_a_chunk(rt: HostRuntime) {
     let rows = [
         (0xffff_ffff_ffff_fff8, Some(3)),
         (0, None),
@@ -24,11 +23,10 @@ fn the_lowest_free_inode_of_a_chunk(rt: HostRuntime) -> Result<(), Fail> {
     for (free, lowest) in rows {
         same(&rt, lowest_free(&InoRec { free, ..CHUNK }), lowest);
     }
-    Ok(())
 }
 
 #[test]
-fn a_chunk_without_free_inodes_is_in_one_tree(rt: HostRuntime) -> Result<(), Fail> {
+fn a_chunk_without_free_inodes_is_in_one_tree(rt: HostRuntime) {
     let full = InoRec {
         freecount: 0,
         free: 0,
@@ -42,7 +40,6 @@ fn a_chunk_without_free_inodes_is_in_one_tree(rt: HostRuntime) -> Result<(), Fai
     same(&rt, fino_record(&CHUNK), Some(CHUNK));
     same(&rt, fino_record(&last), Some(last));
     same(&rt, fino_record(&full), None);
-    Ok(())
 }
 
 // The mask and the count once an inode is given back to a full chunk; none where there is no such place.
@@ -60,7 +57,7 @@ fn given(slot: u8) -> Option<(u64, u8)> {
 }
 
 #[test]
-fn a_given_inode_is_the_only_free_one(rt: HostRuntime) -> Result<(), Fail> {
+fn a_given_inode_is_the_only_free_one(rt: HostRuntime) {
     let rows = [
         (0, Some((1, 1))),
         (31, Some((0x8000_0000, 1))),
@@ -70,7 +67,6 @@ fn a_given_inode_is_the_only_free_one(rt: HostRuntime) -> Result<(), Fail> {
     for (slot, rec) in rows {
         same(&rt, given(slot), rec);
     }
-    Ok(())
 }
 
 // And once the lowest free one is taken.
@@ -89,7 +85,7 @@ fn taken(free: u64, freecount: u8) -> Option<(u64, u8)> {
 }
 
 #[test]
-fn the_lowest_free_inode_is_taken_and_none_of_a_full_chunk(rt: HostRuntime) -> Result<(), Fail> {
+fn the_lowest_free_inode_is_taken_and_none_of_a_full_chunk(rt: HostRuntime) {
     let rows = [
         (u64::MAX, 64, Some((0xffff_ffff_ffff_fffe, 63))),
         (0xffff_ffff_ffff_fff8, 61, Some((0xffff_ffff_ffff_fff0, 60))),
@@ -99,11 +95,10 @@ fn the_lowest_free_inode_is_taken_and_none_of_a_full_chunk(rt: HostRuntime) -> R
     for (free, freecount, rec) in rows {
         same(&rt, taken(free, freecount), rec);
     }
-    Ok(())
 }
 
 #[test]
-fn a_fresh_chunk_is_all_free(rt: HostRuntime) -> Result<(), Fail> {
+fn a_fresh_chunk_is_all_free(rt: HostRuntime) {
     let fresh = InoRec {
         freecount: 64,
         free: u64::MAX,
@@ -111,5 +106,4 @@ fn a_fresh_chunk_is_all_free(rt: HostRuntime) -> Result<(), Fail> {
     };
     same(&rt, fresh_chunk(24), fresh);
     same(&rt, fresh_chunk(268_435_448).startino, 2_147_483_584);
-    Ok(())
 }

@@ -6,10 +6,9 @@ use root_switch::{
     space_totals,
 };
 use span_recs::SpanRec;
-use std::test::Fail;
 
 #[test]
-fn counters_of_the_worked_image(rt: HostRuntime) -> Result<(), Fail> {
+fn counters_of_the_worked_image(rt: HostRuntime) {
     let free = [
         SpanRec {
             start: 19,
@@ -47,7 +46,6 @@ fn counters_of_the_worked_image(rt: HostRuntime) -> Result<(), Fail> {
     same(&rt, inode_totals(&[chunk]), inodes);
     same(&rt, blocks_beside_roots(1, 1, 1), 0);
     same(&rt, blocks_beside_roots(3, 3, 26), 29);
-    Ok(())
 }
 
 const OLD: Heads = Heads {
@@ -121,11 +119,10 @@ fn counted(counts_blocks: bool) -> (u32, u32) {
 }
 
 #[test]
-fn a_counter_that_nothing_tells_stays(rt: HostRuntime) -> Result<(), Fail> {
+fn a_counter_that_nothing_tells_stays(rt: HostRuntime) {
     same(&rt, beside(None), 7);
     same(&rt, beside(Some(0)), 0);
     same(&rt, beside(Some(u32::MAX)), u32::MAX);
     same(&rt, counted(false), (8, 9));
     same(&rt, counted(true), (4, 4));
-    Ok(())
 }

@@ -3,7 +3,6 @@ use block_reap::{LimboRun, Memory, next, put, unit_owner};
 use fs_model::Unit;
 use rmap_recs::Owner;
 use std::alloc::Global;
-use std::test::Fail;
 
 const AG: u64 = 0xffff_ffff_ffff_fffb;
 
@@ -18,7 +17,7 @@ fn run(start: u32, count: u32, owner: u64) -> LimboRun {
 }
 
 #[test]
-fn the_lowest_run_is_reaped_first_and_cut(rt: HostRuntime) -> Result<(), Fail> {
+fn the_lowest_run_is_reaped_first_and_cut(rt: HostRuntime) {
     same(&rt, next(&[]), None);
     same(&rt, next(&[run(1, 2, AG)]), Some(run(1, 2, AG)));
     same(
@@ -27,11 +26,10 @@ fn the_lowest_run_is_reaped_first_and_cut(rt: HostRuntime) -> Result<(), Fail> {
         Some(run(5, 64, AG)),
     );
     same(&rt, next(&[run(5, 65, INOBT)]), Some(run(5, 64, INOBT)));
-    Ok(())
 }
 
 #[test]
-fn owners_of_what_a_switch_leaves(rt: HostRuntime) -> Result<(), Fail> {
+fn owners_of_what_a_switch_leaves(rt: HostRuntime) {
     let rows = [
         (Unit::Inode, Owner::Inobt),
         (Unit::Rmap, Owner::Ag),
@@ -41,7 +39,6 @@ fn owners_of_what_a_switch_leaves(rt: HostRuntime) -> Result<(), Fail> {
     for (unit, owner) in rows {
         same(&rt, unit_owner(unit), owner);
     }
-    Ok(())
 }
 
 // What is reaped next once one block waits; none where it has no number behind it.
@@ -55,7 +52,7 @@ fn reaped(alloc: Global, block: u32, owner: u64) -> Result<Option<LimboRun>, Mem
 }
 
 #[test]
-fn a_block_that_waits_is_reaped_with_its_owner(rt: HostRuntime) -> Result<(), Fail> {
+fn a_block_that_waits_is_reaped_with_its_owner(rt: HostRuntime) {
     let rows = [
         (0, AG, Some(run(0, 1, AG))),
         (268_435_455, INOBT, Some(run(268_435_455, 1, INOBT))),
@@ -65,5 +62,4 @@ fn a_block_that_waits_is_reaped_with_its_owner(rt: HostRuntime) -> Result<(), Fa
     for (block, owner, found) in rows {
         same(&rt, reaped(rt.alloc(), block, owner), Ok(found));
     }
-    Ok(())
 }

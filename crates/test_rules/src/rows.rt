@@ -4,7 +4,6 @@ use defer_chain::{Chain, ChainInode, StepKind, Stretch, first_stretch};
 use free_space::joined;
 use fs_state::{Intent, IntentKind};
 use span_recs::{RefcRec, SpanRec};
-use std::test::Fail;
 
 const INODE: ChainInode = ChainInode { ino: 195, uid: 7 };
 
@@ -47,7 +46,7 @@ const SHARED: RefcRec = RefcRec {
 
 #[test]
 #[tactic(auto, unfolding(defer_chain::specs::Steps::in_order, defer_chain::specs::Steps::stretched))]
-fn a_shared_block_that_is_unmapped_keeps_an_owner(rt: HostRuntime) -> Result<(), Fail> {
+fn a_shared_block_that_is_unmapped_keeps_an_owner(rt: HostRuntime) {
     let mut chain = Chain::new(1, INODE, None);
     chain.put(&[REMOVE, LESS]);
     same(&rt, chain.next_kind(), Some(StepKind::Rmap));
@@ -64,12 +63,11 @@ fn a_shared_block_that_is_unmapped_keeps_an_owner(rt: HostRuntime) -> Result<(),
     );
     chain.finish_stretch(1, false);
     same(&rt, chain.next(), None);
-    Ok(())
 }
 
 #[test]
 #[tactic(auto, unfolding(defer_chain::specs::Steps::in_order, defer_chain::specs::Steps::stretched))]
-fn the_last_owner_of_a_block_leaves_it_to_be_freed(rt: HostRuntime) -> Result<(), Fail> {
+fn the_last_owner_of_a_block_leaves_it_to_be_freed(rt: HostRuntime) {
     let mut chain = Chain::new(1, INODE, None);
     chain.put(&[REMOVE, LESS]);
     chain.finish_rmap();
@@ -85,7 +83,6 @@ fn the_last_owner_of_a_block_leaves_it_to_be_freed(rt: HostRuntime) -> Result<()
     same(&rt, chain.next(), Some(FREE));
     chain.finish_free();
     same(&rt, chain.next_kind(), None);
-    Ok(())
 }
 
 fn span(start: u32, count: u32) -> SpanRec {
@@ -93,7 +90,7 @@ fn span(start: u32, count: u32) -> SpanRec {
 }
 
 #[test]
-fn a_freed_block_joins_its_neighbours(rt: HostRuntime) -> Result<(), Fail> {
+fn a_freed_block_joins_its_neighbours(rt: HostRuntime) {
     let before = SpanRec {
         start: 32,
         count: 8,
@@ -114,11 +111,10 @@ fn a_freed_block_joins_its_neighbours(rt: HostRuntime) -> Result<(), Fail> {
     same(&rt, joined(None, &block, Some(behind)), span(40, 216));
     same(&rt, joined(Some(before), &block, None), span(32, 9));
     same(&rt, joined(None, &block, None), block);
-    Ok(())
 }
 
 #[test]
-fn a_count_at_the_cap_is_seen_whole(rt: HostRuntime) -> Result<(), Fail> {
+fn a_count_at_the_cap_is_seen_whole(rt: HostRuntime) {
     same(
         &rt,
         first_stretch(40, 1, Some(FULL), None),
@@ -127,5 +123,4 @@ fn a_count_at_the_cap_is_seen_whole(rt: HostRuntime) -> Result<(), Fail> {
             owners: 4_294_967_200,
         },
     );
-    Ok(())
 }

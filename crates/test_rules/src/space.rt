@@ -8,7 +8,6 @@ use free_space::{
 use fs_model::Extent;
 use sblock::Kind;
 use span_recs::SpanRec;
-use std::test::Fail;
 
 fn span(start: u32, count: u32) -> SpanRec
     ensures { result ≡ record { start = start; count = count } }
@@ -17,7 +16,7 @@ fn span(start: u32, count: u32) -> SpanRec
 }
 
 #[test]
-fn a_list_is_filled_below_twelve_and_trimmed_above_sixty_four(rt: HostRuntime) -> Result<(), Fail> {
+fn a_list_is_filled_below_twelve_and_trimmed_above_sixty_four(rt: HostRuntime) {
     let rows = [
         (0, ListGoal::Take(16)),
         (11, ListGoal::Take(5)),
@@ -29,12 +28,17 @@ fn a_list_is_filled_below_twelve_and_trimmed_above_sixty_four(rt: HostRuntime) -
     for (len, wanted) in rows {
         same(&rt, list_goal(len), wanted);
     }
-    Ok(())
+}
+
+// What the first record that is long enough gives.
+fn first_front(free: &[SpanRec], wanted: u32) -> Option<SpanRec> {
+    let rec = first_fit(free, wanted)?;
+    Some(front(&rec, wanted))
 }
 
 // Free space of the worked image, by count; then once six blocks were taken.
 #[test]
-fn the_first_record_that_is_long_enough_gives_its_front(rt: HostRuntime) -> Result<(), Fail> {
+fn the_first_record_that_is_long_enough_gives_its_front(rt: HostRuntime) {
     let free = [span(19, 5), span(32, 224)];
     let rows = [
         (6, Some(span(32, 6))),
@@ -44,28 +48,24 @@ fn the_first_record_that_is_long_enough_gives_its_front(rt: HostRuntime) -> Resu
         (225, None),
     ];
     for (wanted, run) in rows {
-        let found = first_fit(&free, wanted);
-        same(&rt, found.map(|rec| front(&rec, wanted)), run);
+        same(&rt, first_front(&free, wanted), run);
     }
-    Ok(())
 }
 
 // Six blocks come from the long record, and then one from the short one.
 #[test]
-fn a_file_that_grows_twice_has_runs_of_two_records(rt: HostRuntime) -> Result<(), Fail> {
+fn a_file_that_grows_twice_has_runs_of_two_records(rt: HostRuntime) {
     let rows = [
         (6, [span(19, 5), span(32, 224)], span(32, 6)),
         (1, [span(19, 5), span(38, 218)], span(19, 1)),
     ];
     for (wanted, free, run) in rows {
-        let found = first_fit(&free, wanted);
-        same(&rt, found.map(|rec| front(&rec, wanted)), Some(run));
+        same(&rt, first_front(&free, wanted), Some(run));
     }
-    Ok(())
 }
 
 #[test]
-fn one_mapping_is_wanted_at_most(rt: HostRuntime) -> Result<(), Fail> {
+fn one_mapping_is_wanted_at_most(rt: HostRuntime) {
     let rows = [
         (1, 1),
         (2_097_151, 2_097_151),
@@ -75,26 +75,23 @@ fn one_mapping_is_wanted_at_most(rt: HostRuntime) -> Result<(), Fail> {
     for (count, wanted) in rows {
         same(&rt, wanted_count(count), wanted);
     }
-    Ok(())
 }
 
 #[test]
-fn groups_are_tried_upwards_and_round(rt: HostRuntime) -> Result<(), Fail> {
+fn groups_are_tried_upwards_and_round(rt: HostRuntime) {
     same(&rt, group_tried(65_535, 0, 65_536), 65_535);
     same(&rt, group_tried(65_535, 1, 65_536), 0);
     same(&rt, group_tried(0, 65_535, 65_536), 65_535);
     same(&rt, group_tried(2, 3, 4), 1);
-    Ok(())
 }
 
 #[test]
-fn a_chunk_fits_at_the_lowest_multiple_of_eight(rt: HostRuntime) -> Result<(), Fail> {
+fn a_chunk_fits_at_the_lowest_multiple_of_eight(rt: HostRuntime) {
     same(&rt, aligned_run(&span(19, 5)), None);
     same(&rt, aligned_run(&span(32, 224)), Some(32));
     same(&rt, aligned_run(&span(33, 15)), Some(40));
     same(&rt, aligned_run(&span(33, 14)), None);
     same(&rt, aligned_run(&span(268_435_440, 16)), Some(268_435_440));
-    Ok(())
 }
 
 fn space(group: u32, is_open: bool, sick: Option<Kind>, free: Option<SpanRec>) -> GroupSpace {
@@ -117,7 +114,7 @@ fn choose(wanted: u32, groups: &[GroupSpace]) -> Result<Extent, NoRun> {
 }
 
 #[test]
-fn a_group_that_is_shut_is_told_before_a_sick_one(rt: HostRuntime) -> Result<(), Fail> {
+fn a_group_that_is_shut_is_told_before_a_sick_one(rt: HostRuntime) {
     let closed = space(3, false, None, None);
     let lower = space(1, false, Some(Kind::Cnt), None);
     let sick = space(0, true, Some(Kind::Rmap), None);
@@ -133,11 +130,10 @@ fn a_group_that_is_shut_is_told_before_a_sick_one(rt: HostRuntime) -> Result<(),
     };
     same(&rt, choose(4, &[empty, sick]), Err(NoRun::Sick(rmap)));
     same(&rt, choose(4, &[empty]), Err(NoRun::NoSpace));
-    Ok(())
 }
 
 #[test]
-fn a_longer_record_of_a_later_group_comes_before_a_short_one(rt: HostRuntime) -> Result<(), Fail> {
+fn a_longer_record_of_a_later_group_comes_before_a_short_one(rt: HostRuntime) {
     let short = space(2, true, None, Some(span(19, 5)));
     let long = GroupSpace {
         fit: Some(span(32, 224)),
@@ -174,5 +170,4 @@ fn a_longer_record_of_a_later_group_comes_before_a_short_one(rt: HostRuntime) ->
         ..taken
     };
     same(&rt, choose(6, &[short, end]), Ok(end_taken));
-    Ok(())
 }

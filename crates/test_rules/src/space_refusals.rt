@@ -4,7 +4,6 @@ use free_space::{GroupSpace, NoRun, Search, SickGroup, aligned_run};
 use fs_model::Extent;
 use sblock::Kind;
 use span_recs::SpanRec;
-use std::test::Fail;
 
 const LAST: u32 = 65_535;
 
@@ -72,7 +71,7 @@ fn choose(first: &GroupSpace, second: &GroupSpace) -> Result<Extent, NoRun> {
 }
 
 #[test]
-fn closing_comes_before_sick_and_that_before_no_space(rt: HostRuntime) -> Result<(), Fail> {
+fn closing_comes_before_sick_and_that_before_no_space(rt: HostRuntime) {
     let rows = [
         (closed(LAST), closed(0), Err(NoRun::Closing(0))),
         (empty(0), closed(LAST), Err(NoRun::Closing(LAST))),
@@ -97,7 +96,6 @@ fn closing_comes_before_sick_and_that_before_no_space(rt: HostRuntime) -> Result
     for (first, second, answer) in rows {
         same(&rt, choose(&first, &second), answer);
     }
-    Ok(())
 }
 
 // The first block of a chunk in a free run; none where the run has no end.
@@ -109,7 +107,7 @@ fn chunk_in(start: u32, count: u32) -> Option<u32> {
 }
 
 #[test]
-fn a_chunk_wants_eight_blocks_from_a_multiple_of_eight_on(rt: HostRuntime) -> Result<(), Fail> {
+fn a_chunk_wants_eight_blocks_from_a_multiple_of_eight_on(rt: HostRuntime) {
     let rows = [
         (0, 7, None),
         (0, 8, Some(0)),
@@ -125,5 +123,4 @@ fn a_chunk_wants_eight_blocks_from_a_multiple_of_eight_on(rt: HostRuntime) -> Re
     for (start, count, block) in rows {
         same(&rt, chunk_in(start, count), block);
     }
-    Ok(())
 }

@@ -2,6 +2,7 @@
 ghost use Rattle.std.specs.Prelude.{◌≡◌};
 ghost use Rattle.sblock.specs.Blocks.{IsRising};
 
+use super::same::same;
 use fs_model::{AnyRec, Fault};
 use ino_recs::{FinoKind, InoKind, InoRec};
 use rmap_recs::{RmapKind, RmapRec};
@@ -23,7 +24,7 @@ fn expect_all<K: Indexed>(
     requires derived { IsRising K.form derived.now }
 {
     let all = compare::<K>(alloc, index, derived)?;
-    assert_eq!(rt; all.as_slice(), wanted);
+    same(rt, all.as_slice(), wanted);
     Ok(())
 }
 
@@ -40,7 +41,7 @@ fn expect_piece<K: Indexed>(
     requires derived { IsRising K.form derived.now }
 {
     let piece = compare_piece::<K>(alloc, index, derived, from)?;
-    assert_eq!(rt; piece.as_slice(), wanted);
+    same(rt, piece.as_slice(), wanted);
     Ok(())
 }
 

@@ -1,6 +1,7 @@
 //! What the reverse mappings give: free space by start and by count, reference counts.
 ghost use Rattle.std.specs.Prelude.{◌≡◌};
 
+use super::same::same;
 use derive_defs::{
     by_count, free_blocks, free_of, longest, mappings_fit, only_by_count, only_free, only_shared,
     shared_of,
@@ -33,6 +34,14 @@ fn span(start: u32, count: u32) -> SpanRec {
     SpanRec { start, count }
 }
 
+fn one_block(start: u32, refcount: u32) -> RefcRec {
+    RefcRec {
+        start,
+        count: 1,
+        refcount,
+    }
+}
+
 #[test]
 fn free_space_is_what_the_mappings_leave(rt: HostRuntime) -> Result<(), Fail> {
     let mappings = [
@@ -42,8 +51,8 @@ fn free_space_is_what_the_mappings_leave(rt: HostRuntime) -> Result<(), Fail> {
         mapping(7, 1, OWN_AG, 0),
     ];
     let free = free_of(rt.alloc(), 12, &mappings)?;
-    assert_eq!(rt; free.as_slice(), [span(1, 2), span(8, 4)].as_slice());
-    assert_eq!(rt; free_blocks(free.as_slice()), 6);
+    same(&rt, free.as_slice(), [span(1, 2), span(8, 4)].as_slice());
+    same(&rt, free_blocks(free.as_slice()), 6);
     Ok(())
 }
 
@@ -59,12 +68,13 @@ fn equal_counts_are_ordered_by_start(rt: HostRuntime) -> Result<(), Fail> {
         },
     ];
     let sorted = by_count(rt.alloc(), &free)?;
-    assert_eq!(rt;
+    same(
+        &rt,
         sorted.as_slice(),
-        [span(14, 1), span(6, 2), span(1, 3), span(9, 3)].as_slice()
+        [span(14, 1), span(6, 2), span(1, 3), span(9, 3)].as_slice(),
     );
-    assert_eq!(rt; longest(sorted.as_slice()), 3);
-    assert_eq!(rt; longest(&[]), 0);
+    same(&rt, longest(sorted.as_slice()), 3);
+    same(&rt, longest(&[]), 0);
     Ok(())
 }
 
@@ -80,21 +90,10 @@ fn written_data_blocks_of_several_files_are_shared(rt: HostRuntime) -> Result<()
         mapping(43, 1, OWN_AG, 0),
     ];
     let shared = shared_of(rt.alloc(), &mappings)?;
-    assert_eq!(rt;
+    same(
+        &rt,
         shared.as_slice(),
-        [
-            RefcRec {
-                start: 42,
-                count: 1,
-                refcount: 2
-            },
-            RefcRec {
-                start: 43,
-                count: 1,
-                refcount: 3
-            }
-        ]
-        .as_slice()
+        [one_block(42, 2), one_block(43, 3)].as_slice(),
     );
     Ok(())
 }

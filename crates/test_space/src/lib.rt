@@ -7,4 +7,6 @@ mod compared;
 #[cfg(test)]
 mod derived;
 #[cfg(test)]
+mod same;
+#[cfg(test)]
 mod worded;

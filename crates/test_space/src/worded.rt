@@ -1,4 +1,5 @@
 //! The lines of the report.
+use super::same::same;
 use dinode_core::{CoreFault, ForkFault};
 use fs_model::{
     AnyRec, Cause, Claim, Counter, Entry, Evidence, Extent, Fault, Reason, Unit, Verdict,
@@ -8,6 +9,8 @@ use rmap_recs::RmapRec;
 use run_text::line;
 use sblock::{BlockFault, Kind};
 use span_recs::{RefcRec, SpanRec};
+use std::alloc::Global;
+use std::process::Abort;
 use std::test::Fail;
 
 const SPAN: SpanRec = SpanRec {
@@ -79,6 +82,14 @@ const fn gives_up(unit: Unit, reason: Reason) -> Entry {
     ends(unit, Verdict::GaveUp(reason))
 }
 
+// Each entry has the line beside it.
+fn expect_lines(rt: &impl Abort, alloc: Global, cases: &[(Entry, &str)]) -> Result<(), Fail> {
+    for (entry, expected) in cases {
+        same(rt, line(alloc, entry)?.as_str(), *expected);
+    }
+    Ok(())
+}
+
 #[test]
 fn faults_have_their_lines(rt: HostRuntime) -> Result<(), Fail> {
     let unreadable = Fault::Block {
@@ -126,10 +137,7 @@ fn faults_have_their_lines(rt: HostRuntime) -> Result<(), Fail> {
             "0 free counter longest 223 224\n",
         ),
     ];
-    for (entry, expected) in &cases {
-        assert_eq!(rt; line(rt.alloc(), entry)?.as_str(), *expected);
-    }
-    Ok(())
+    expect_lines(&rt, rt.alloc(), &cases)
 }
 
 #[test]
@@ -186,10 +194,7 @@ fn verdicts_have_their_lines(rt: HostRuntime) -> Result<(), Fail> {
             "0 rmap gaveup badfork 195 order\n",
         ),
     ];
-    for (entry, expected) in &cases {
-        assert_eq!(rt; line(rt.alloc(), entry)?.as_str(), *expected);
-    }
-    Ok(())
+    expect_lines(&rt, rt.alloc(), &cases)
 }
 
 #[test]
@@ -216,8 +221,5 @@ fn marks_have_lines_and_changes_have_none(rt: HostRuntime) -> Result<(), Fail> {
         ),
         (freed, ""),
     ];
-    for (entry, expected) in &cases {
-        assert_eq!(rt; line(rt.alloc(), entry)?.as_str(), *expected);
-    }
-    Ok(())
+    expect_lines(&rt, rt.alloc(), &cases)
 }

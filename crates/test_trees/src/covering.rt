@@ -301,6 +301,6 @@ fn staging_records_are_told_as_later(rt: HostRuntime) -> Result<(), Fail> {
         ..sound
     };
     let rec = found::<RefcKind>(rt.alloc(), &tree, 1, within(5, 1), None)?;
-    assert!(rt; rec.err() == Some(bad(1, BlockFault::Later)));
+    same(&rt, rec.err(), Some(bad(1, BlockFault::Later)));
     Ok(())
 }

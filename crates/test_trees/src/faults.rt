@@ -1,13 +1,15 @@
 // A tree of reverse mappings with three levels, one word of which is another: a root at block 1,
 // nodes at blocks 2 and 3, and the leaves 100 to 144 and 145 to 189 below them.
 use super::same::same;
-use crate::build::{RMAP, device_of, put_block_sum, put_word, three_levels};
+use crate::build::{Blocks, RMAP, device_of, put_block_sum, put_word, three_levels};
 use crate::read::{NO_RUN, claims_of, first_runs, read_tree};
 use blk_device::MemDevice;
+use byte_fields::Block;
 use rmap_recs::RmapKind;
 use run_sets::Run;
 use sblock::BlockFault;
 use std::alloc::{AllocError, Global};
+use std::process::Abort;
 use std::test::Fail;
 use tree_walk::WalkFault;
 
@@ -19,18 +21,29 @@ const FIRST: usize = 3696;
 
 const SECOND: usize = 3700;
 
-// The tree with this change, and its block's checksum made right or left as it was.
-fn changed(alloc: Global, change: Change, summed: bool) -> Result<MemDevice, AllocError> {
-    let mut blocks = three_levels(alloc, &RMAP)?;
+// The block with this word in this place, and its checksum made right or left as it was.
+fn with_change(mut block: Block, place: usize, word: u32, summed: bool) -> Block {
+    put_word(&mut block, place, word);
+    if summed {
+        put_block_sum(&mut block);
+    }
+    block
+}
+
+// Changes a block of the tree, where it is there.
+fn put_change(blocks: &mut Blocks, change: Change, summed: bool) -> Result<(), AllocError> {
     let (at, place, word) = change;
     if let Some(found) = blocks.get(&at) {
-        let mut block = *found;
-        put_word(&mut block, place, word);
-        if summed {
-            put_block_sum(&mut block);
-        }
+        let block = with_change(*found, place, word, summed);
         blocks.insert(at, block)?;
     }
+    Ok(())
+}
+
+// A device with the tree of three levels and this change.
+fn changed(alloc: Global, change: Change, summed: bool) -> Result<MemDevice, AllocError> {
+    let mut blocks = three_levels(alloc, &RMAP)?;
+    put_change(&mut blocks, change, summed)?;
     device_of(alloc, blocks)
 }
 
@@ -84,6 +97,44 @@ const WITHOUT_145: [Run; 4] = [
 
 const ROOT_ALONE: [Run; 4] = [Run { start: 1, count: 1 }, NO_RUN, NO_RUN, NO_RUN];
 
+// What the tree with this root and so many levels claims.
+fn expect_claims(
+    rt: &impl Abort,
+    alloc: Global,
+    device: &mut MemDevice,
+    root: u32,
+    levels: u32,
+    expected: [Run; 4],
+) -> Result<(), WalkFault> {
+    let claims = claims_of::<RmapKind>(alloc, device, root, levels)?;
+    same(rt, first_runs(&claims), expected);
+    Ok(())
+}
+
+// What a walk of the tree answers, and what the tree claims.
+fn expect_walk(
+    rt: &impl Abort,
+    alloc: Global,
+    mut device: MemDevice,
+    fault: Option<WalkFault>,
+    claims: [Run; 4],
+) -> Result<(), WalkFault> {
+    same(rt, fault_of(alloc, &mut device), fault);
+    expect_claims(rt, alloc, &mut device, 1, 3, claims)
+}
+
+// The same, of the tree with each of these changes.
+fn expect_changes(
+    rt: &impl Abort,
+    alloc: Global,
+    rows: &[(Change, Option<WalkFault>, [Run; 4])],
+) -> Result<(), WalkFault> {
+    for (change, fault, claims) in rows {
+        expect_walk(rt, alloc, changed(alloc, *change, true)?, *fault, *claims)?;
+    }
+    Ok(())
+}
+
 #[test]
 fn wrong_keys_and_siblings_take_no_claim(rt: HostRuntime) -> Result<(), Fail> {
     let alloc = rt.alloc();
@@ -106,10 +157,7 @@ fn wrong_keys_and_siblings_take_no_claim(rt: HostRuntime) -> Result<(), Fail> {
         ((145, 56, 7560), bad(145, BlockFault::Order)),
     ];
     for (change, expected) in rows {
-        let mut device = changed(alloc, change, true)?;
-        same(&rt, fault_of(alloc, &mut device), expected);
-        let claims = claims_of::<RmapKind>(alloc, &mut device, 1, 3)?;
-        same(&rt, first_runs(&claims), WHOLE);
+        expect_walk(&rt, alloc, changed(alloc, change, true)?, expected, WHOLE)?;
     }
     Ok(())
 }
@@ -146,34 +194,17 @@ fn what_lies_below_a_refused_node_is_not_claimed(rt: HostRuntime) -> Result<(), 
             [run(1, 1), run(3, 1), run(145, 45), NO_RUN],
         ),
     ];
-    for (change, fault, expected) in rows {
-        let mut device = changed(alloc, change, true)?;
-        same(&rt, fault_of(alloc, &mut device), fault);
-        let claims = claims_of::<RmapKind>(alloc, &mut device, 1, 3)?;
-        same(&rt, first_runs(&claims), expected);
-    }
+    expect_changes(&rt, alloc, &rows)?;
     Ok(())
 }
 
 #[test]
 fn a_block_without_its_checksum_leads_nowhere(rt: HostRuntime) -> Result<(), Fail> {
     let alloc = rt.alloc();
-    let mut node = changed(alloc, (3, 24, 9), false)?;
-    same(
-        &rt,
-        fault_of(alloc, &mut node),
-        bad(3, BlockFault::Checksum),
-    );
-    let claims = claims_of::<RmapKind>(alloc, &mut node, 1, 3)?;
-    same(&rt, first_runs(&claims), LEFT_HALF);
-    let mut leaf = changed(alloc, (145, 24, 9), false)?;
-    same(
-        &rt,
-        fault_of(alloc, &mut leaf),
-        bad(145, BlockFault::Checksum),
-    );
-    let claims = claims_of::<RmapKind>(alloc, &mut leaf, 1, 3)?;
-    same(&rt, first_runs(&claims), WHOLE);
+    let node = changed(alloc, (3, 24, 9), false)?;
+    expect_walk(&rt, alloc, node, bad(3, BlockFault::Checksum), LEFT_HALF)?;
+    let leaf = changed(alloc, (145, 24, 9), false)?;
+    expect_walk(&rt, alloc, leaf, bad(145, BlockFault::Checksum), WHOLE)?;
     Ok(())
 }
 
@@ -194,12 +225,7 @@ fn pointers_to_blocks_of_the_tree_are_claimed_once(rt: HostRuntime) -> Result<()
         ((3, FIRST, 144), bad(144, BlockFault::Sibling), WITHOUT_145),
         ((3, FIRST, 600), bad(600, BlockFault::Magic), WITHOUT_145),
     ];
-    for (change, fault, expected) in rows {
-        let mut device = changed(alloc, change, true)?;
-        same(&rt, fault_of(alloc, &mut device), fault);
-        let claims = claims_of::<RmapKind>(alloc, &mut device, 1, 3)?;
-        same(&rt, first_runs(&claims), expected);
-    }
+    expect_changes(&rt, alloc, &rows)?;
     Ok(())
 }
 
@@ -217,8 +243,7 @@ fn heads_that_no_tree_has_claim_the_root_at_most(rt: HostRuntime) -> Result<(), 
     ];
     for ((root, levels), expected) in rows {
         let mut device = device_of(alloc, three_levels(alloc, &RMAP)?)?;
-        let claims = claims_of::<RmapKind>(alloc, &mut device, root, levels)?;
-        same(&rt, first_runs(&claims), expected);
+        expect_claims(&rt, alloc, &mut device, root, levels, expected)?;
     }
     Ok(())
 }

@@ -1,11 +1,10 @@
 // Trees of free space by start, in a group of 4,096 blocks.
 ghost use Rattle.std.specs.Prelude.{◌≡◌};
-ghost use Rattle.sblock.specs.declared.kind.Kind.TheVariants.{Bno};
 
 use super::same::same;
 use crate::build::{BNO, NONE, header_of};
 use crate::read::tree_at;
-use crate::small::{device_of, one_group, summed, with_word, with_words};
+use crate::small::{device_of, one_group, summed, with_words};
 use blk_cache::BlkCache;
 use blk_device::{Device, MemDevice, Region};
 use byte_fields::{Block, Steps};
@@ -13,17 +12,17 @@ use sblock::{BlockFault, Kind};
 use span_recs::{BnoKind, SpanRec};
 use std::alloc::{AllocError, Global};
 use std::marker::Brand;
+use std::process::Abort;
 use std::sync::ledger::{Blank, Ledger};
 use std::test::Fail;
-use tree_walk::{TreeAt, WalkFault, find, last, next_leaf};
+use tree_walk::{WalkFault, find, last, next_leaf};
 
 // The leaf at this place: 252 free blocks, each with a used one behind it.
 fn leaf_of(at: u32, first: u16, left: u32, right: u32) -> Block {
     let mut block = header_of(BNO.magic, at, 0, 252, [left, right]);
     for i in 0..252u16 {
-        let place = 56 + 8 * usize::from(i);
-        block = with_word(block, place, u32::from(first) + 2 * u32::from(i));
-        block = with_word(block, place + 4, 1);
+        let start = u32::from(first) + 2 * u32::from(i);
+        block = with_words(block, 56 + 8 * i, &[start, 1]);
     }
     summed(block)
 }
@@ -54,25 +53,31 @@ const fn free(start: u32) -> SpanRec {
     SpanRec { start, count: 1 }
 }
 
+// How many records a leaf has left, and the first and the last of them.
+type Next = Result<(usize, Option<SpanRec>, Option<SpanRec>), WalkFault>;
+
+const fn next_leaf_of(count: usize, first: u32, last: u32) -> Next {
+    Ok((count, Some(free(first)), Some(free(last))))
+}
+
 const fn bad(block: u32, fault: BlockFault) -> WalkFault {
     WalkFault::Bad { block, fault }
 }
 
 fn found_in<L: Ledger>(
     alloc: Global,
-    device: MemDevice,
-    tree: TreeAt,
+    mut device: MemDevice,
+    root: u32,
+    levels: u32,
     start: u32,
     blank: Blank,
 ) -> Result<Option<SpanRec>, WalkFault>
-    requires kind { tree.kind ≡ Bno }
-    requires group { tree.group ≡ 0 }
     requires name { blank.name ≡ L.name }
     requires parts { blank.parts ≡ L.parts }
     requires three { blank.parts ≡ 3 }
 {
     let geo = one_group();
-    let mut device = device;
+    let tree = tree_at(Kind::Bno, root, levels);
     if device.size(Region::Image) < 4096 {
         return Err(WalkFault::Failed);
     }
@@ -99,30 +104,22 @@ fn found(
     start: u32,
 ) -> Result<Option<SpanRec>, WalkFault> {
     let blank = Blank::new(3);
-    found_in::<Brand>(
-        alloc,
-        device,
-        tree_at(Kind::Bno, root, levels),
-        start,
-        blank,
-    )
+    found_in::<Brand>(alloc, device, root, levels, start, blank)
 }
 
 fn next_in<L: Ledger>(
     alloc: Global,
-    device: MemDevice,
-    tree: TreeAt,
+    mut device: MemDevice,
+    levels: u32,
     after: Option<SpanRec>,
     blank: Blank,
 ) -> Result<Vec<SpanRec>, WalkFault>
-    requires kind { tree.kind ≡ Bno }
-    requires group { tree.group ≡ 0 }
     requires name { blank.name ≡ L.name }
     requires parts { blank.parts ≡ L.parts }
     requires three { blank.parts ≡ 3 }
 {
     let geo = one_group();
-    let mut device = device;
+    let tree = tree_at(Kind::Bno, 1, levels);
     if device.size(Region::Image) < 4096 {
         return Err(WalkFault::Failed);
     }
@@ -143,18 +140,17 @@ fn next_in<L: Ledger>(
 
 fn last_in<L: Ledger>(
     alloc: Global,
-    device: MemDevice,
-    tree: TreeAt,
+    mut device: MemDevice,
+    root: u32,
+    levels: u32,
     blank: Blank,
 ) -> Result<Option<SpanRec>, WalkFault>
-    requires kind { tree.kind ≡ Bno }
-    requires group { tree.group ≡ 0 }
     requires name { blank.name ≡ L.name }
     requires parts { blank.parts ≡ L.parts }
     requires three { blank.parts ≡ 3 }
 {
     let geo = one_group();
-    let mut device = device;
+    let tree = tree_at(Kind::Bno, root, levels);
     if device.size(Region::Image) < 4096 {
         return Err(WalkFault::Failed);
     }
@@ -173,18 +169,26 @@ fn last_of(
     levels: u32,
 ) -> Result<Option<SpanRec>, WalkFault> {
     let blank = Blank::new(3);
-    last_in::<Brand>(alloc, device, tree_at(Kind::Bno, root, levels), blank)
+    last_in::<Brand>(alloc, device, root, levels, blank)
+}
+
+// Expects this of the leaf behind each of these records.
+fn expect_next(
+    rt: &impl Abort,
+    alloc: Global,
+    rows: &[(Option<SpanRec>, Next)],
+) -> Result<(), AllocError> {
+    for (after, expected) in rows {
+        let answer = next(alloc, two_leaves(alloc)?, 2, *after);
+        same(rt, (*after, answer), (*after, *expected));
+    }
+    Ok(())
 }
 
 // How many records come next, and the first and the last of them.
-fn next(
-    alloc: Global,
-    device: MemDevice,
-    levels: u32,
-    after: Option<SpanRec>,
-) -> Result<(usize, Option<SpanRec>, Option<SpanRec>), WalkFault> {
+fn next(alloc: Global, device: MemDevice, levels: u32, after: Option<SpanRec>) -> Next {
     let blank = Blank::new(3);
-    match next_in::<Brand>(alloc, device, tree_at(Kind::Bno, 1, levels), after, blank) {
+    match next_in::<Brand>(alloc, device, levels, after, blank) {
         Ok(recs) => Ok((recs.len(), recs.first().copied(), recs.last().copied())),
         Err(fault) => Err(fault),
     }
@@ -209,8 +213,8 @@ fn a_record_is_found_by_its_key(rt: HostRuntime) -> Result<(), Fail> {
 #[test]
 fn leaf_after_leaf_gives_all_records(rt: HostRuntime) -> Result<(), Fail> {
     let alloc = rt.alloc();
-    let low = Ok((252, Some(free(2)), Some(free(504))));
-    let high = Ok((252, Some(free(1000)), Some(free(1502))));
+    let low = next_leaf_of(252, 2, 504);
+    let high = next_leaf_of(252, 1000, 1502);
     let none = Ok((0, None, None));
     let rows = [
         (None, low),
@@ -221,26 +225,17 @@ fn leaf_after_leaf_gives_all_records(rt: HostRuntime) -> Result<(), Fail> {
         (Some(free(700)), high),
         (Some(free(4000)), none),
         // What is left of each leaf behind one of its records.
-        (Some(free(500)), Ok((2, Some(free(502)), Some(free(504))))),
-        (
-            Some(free(1498)),
-            Ok((2, Some(free(1500)), Some(free(1502)))),
-        ),
+        (Some(free(500)), next_leaf_of(2, 502, 504)),
+        (Some(free(1498)), next_leaf_of(2, 1500, 1502)),
     ];
-    for (after, expected) in rows {
-        assert_eq!(rt;
-            next(alloc, two_leaves(alloc)?, 2, after),
-            expected,
-            "{after:?}"
-        );
-    }
+    expect_next(&rt, alloc, &rows)?;
     Ok(())
 }
 
 #[test]
 fn blocks_beside_the_way_are_not_tested(rt: HostRuntime) -> Result<(), Fail> {
     let alloc = rt.alloc();
-    let low = Ok((252, Some(free(2)), Some(free(504))));
+    let low = next_leaf_of(252, 2, 504);
     let wrong = bad(41, BlockFault::Place);
     same(
         &rt,

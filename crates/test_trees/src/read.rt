@@ -121,19 +121,25 @@ pub struct Counts {
     pub last: u32,
 }
 
+// The last block; 0 where there is none.
+fn last_block(blocks: &[u32]) -> u32 {
+    match blocks.last() {
+        Some(block) => *block,
+        None => 0,
+    }
+}
+
 fn counts_of<K: RecKind>(
     alloc: Global,
     device: &mut MemDevice,
     levels: u32,
 ) -> Result<Counts, WalkFault> {
-    match read_tree::<K>(alloc, device, levels) {
-        Ok(read) => Ok(Counts {
-            records: read.recs.len(),
-            blocks: read.blocks.len(),
-            last: read.blocks.as_slice().last().copied().unwrap_or(0),
-        }),
-        Err(fault) => Err(fault),
-    }
+    let read = read_tree::<K>(alloc, device, levels)?;
+    Ok(Counts {
+        records: read.recs.len(),
+        blocks: read.blocks.len(),
+        last: last_block(read.blocks.as_slice()),
+    })
 }
 
 /// The counts of a walk of a tree of this kind.

@@ -3,6 +3,7 @@ ghost use Rattle.std.specs.Prelude.{◌≡◌};
 use super::{
     NONE, ONE, geometry, inodes, leaf, piece_at, put_pair, spoiled, three_leaves, tree_block,
 };
+use crate::same::same;
 use blk_cache::BlkCache;
 use blk_device::{Device, MemDevice, Region};
 use byte_fields::{Block, Steps, put_sum, sum_at};
@@ -121,11 +122,9 @@ fn a_stuck_forks_first_fault_lies_behind(rt: HostRuntime) -> Result<(), Fail> {
         (99, 99, ForkFault::Order),
     ] {
         let piece = piece_at(alloc, wide(alloc, bad, spoilt)?, Fork::Data, 0).err();
-        assert_eq!(rt; piece, Some(ReadFault::Fork(ForkFault::Order)));
-        assert_eq!(rt;
-            first_of(alloc, wide(alloc, bad, spoilt)?, 195),
-            Ok(Some(fault))
-        );
+        same(&rt, piece, Some(ReadFault::Fork(ForkFault::Order)));
+        let found = first_of(alloc, wide(alloc, bad, spoilt)?, 195);
+        same(&rt, found, Ok(Some(fault)));
     }
     Ok(())
 }
@@ -134,12 +133,12 @@ fn a_stuck_forks_first_fault_lies_behind(rt: HostRuntime) -> Result<(), Fail> {
 fn good_forks_have_no_first_fault(rt: HostRuntime) -> Result<(), Fail> {
     let alloc = rt.alloc();
     let found = first_of(alloc, three_leaves(alloc, Fork::Data, ONE)?, 195);
-    assert_eq!(rt; found, Ok(None));
+    same(&rt, found, Ok(None));
     // The second leaf's last mapping passes the third leaf's first offset.
     let found = first_of(alloc, three_leaves(alloc, Fork::Data, ONE + 2)?, 195);
-    assert_eq!(rt; found, Ok(Some(ForkFault::Overlap)));
+    same(&rt, found, Ok(Some(ForkFault::Overlap)));
     // The slot before has no inode.
     let found = first_of(alloc, three_leaves(alloc, Fork::Data, ONE)?, 194);
-    assert_eq!(rt; found, Err(ReadFault::Core(CoreFault::Magic)));
+    same(&rt, found, Err(ReadFault::Core(CoreFault::Magic)));
     Ok(())
 }

@@ -1,5 +1,0 @@
-use Rattle.test_edit_trees.proofs.edits.records_of.Given as goal
-
--- the ledger is the blank's
-abbrev pub ghosts-records_in : goal.ghosts-records_in
-ghosts-records_in a = record { name = a.blank.name; parts = a.blank.parts }
