@@ -52,6 +52,6 @@ pub fn new_list(rt: &impl Abort, alloc: Global, mappings: &[Mapping]) -> Vec<Map
 }
 
 /// Compares the mappings of a list.
-pub fn expect_list(rt: &impl Abort, list: &[Mapping], wanted: &[Mapping]) {
+pub(crate) fn expect_list(rt: &impl Abort, list: &[Mapping], wanted: &[Mapping]) {
     same(rt, list, wanted);
 }

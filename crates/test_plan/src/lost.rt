@@ -72,7 +72,7 @@ fn expect_lost(
 {
     match set.lost_trees(alloc, 32, readable.0, readable.1) {
         Ok(lost) => same(rt, lost.as_slice(), wanted),
-        Err(_) => panic!(rt; "memory is there"),
+        Err(_) => panic!(rt; "no memory"),
     }
 }
 

@@ -45,7 +45,7 @@ fn expect_rows(
 ) {
     match pieces_of(alloc, rows) {
         Ok(pieces) => expect_both(rt, alloc, pieces.as_slice(), wanted),
-        Err(_) => panic!(rt; "memory is there"),
+        Err(_) => panic!(rt; "no memory"),
     }
 }
 

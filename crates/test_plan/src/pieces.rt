@@ -35,7 +35,7 @@ pub fn unwritten(ino: u64, start: u32, count: u32) -> Piece {
 }
 
 /// The overlap of these claims at this block.
-pub fn overlap(block: u32, first: Claim, second: Claim) -> Option<Evidence> {
+pub(crate) fn overlap(block: u32, first: Claim, second: Claim) -> Option<Evidence> {
     Some(Evidence::Overlap {
         block,
         first,
