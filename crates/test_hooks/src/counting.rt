@@ -3,7 +3,7 @@ use live_hooks::{GroupRec, Listener};
 use rmap_recs::Memory;
 
 /// Counts visited inodes, and the blocks that were told of all groups.
-#[derive(Clone, Copy, Debug, Drop, PartialEq, Eq)]
+#[derive(Drop)]
 pub struct Counts {
     pub inodes: u64,
     pub blocks: u64,

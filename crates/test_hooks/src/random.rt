@@ -1,9 +1,10 @@
 // A shadow beside a table of single blocks.
-use crate::shadows::{edit, rec_of, runs_of};
-use rmap_recs::{Memory, RmapRec};
+use super::same::same;
+use crate::shadows::{FITS, edit, rec_of, runs_of};
+use rmap_recs::RmapRec;
 use shadow_rmap::Shadow;
 use std::alloc::Global;
-use std::test::Fail;
+use std::process::Abort;
 
 // Whether a block is kept, of 32 blocks and two owners.
 type Table = [bool; 64];
@@ -54,37 +55,37 @@ fn does_one_join(runs: &[RmapRec]) -> bool {
 
 // Makes the change of a number in shadow and table, whatever of its blocks is there: two of three
 // are additions.
-fn change(shadow: &mut Shadow, table: &mut Table, number: u32) -> Result<(), Memory> {
+fn change(rt: &impl Abort, shadow: &mut Shadow, table: &mut Table, number: u32) {
     let rec = rec_at(number);
     let add = (number >> 25) % 3 != 0;
-    edit(shadow, add, &rec)?;
+    edit(shadow, add, &rec).expect(rt, FITS);
     put(table, &rec, add);
-    Ok(())
 }
 
+// The runs after some changes, which are made in the table as well.
 fn runs_after(
+    rt: &impl Abort,
     alloc: Global,
     seed: u32,
     many: u32,
     table: &mut Table,
-) -> Result<Vec<RmapRec>, Memory> {
-    let mut shadow = Shadow::new(alloc, 0)?;
+) -> Vec<RmapRec> {
+    let mut shadow = Shadow::new(alloc, 0).expect(rt, FITS);
     let mut number = seed;
     for _ in 0..many {
         number = next(number);
-        change(&mut shadow, table, number)?;
+        change(rt, &mut shadow, table, number);
     }
-    runs_of(alloc, &shadow)
+    runs_of(alloc, &shadow).expect(rt, FITS)
 }
 
 #[test]
-fn changes_at_random_keep_the_runs_of_the_table(rt: HostRuntime) -> Result<(), Fail> {
-    let alloc = rt.alloc();
-    for seed in 0..60 {
+fn changes_at_random_keep_the_runs_of_the_table(rt: HostRuntime) {
+    for seed in 0..60u32 {
         let mut table = [false; 64];
-        let runs = runs_after(alloc, seed, 20 + seed, &mut table)?;
-        assert_eq!(rt; table_of(runs.as_slice()), table, "seed {seed}");
-        assert_eq!(rt; does_one_join(runs.as_slice()), false, "seed {seed}");
+        let runs = runs_after(&rt, rt.alloc(), seed, 20 + seed, &mut table);
+        let made = table_of(runs.as_slice());
+        same(&rt, (seed, made.as_slice()), (seed, table.as_slice()));
+        same(&rt, (seed, does_one_join(runs.as_slice())), (seed, false));
     }
-    Ok(())
 }

@@ -1,11 +1,11 @@
 // Scans beside writers, call by call.
 use super::same::same;
 use crate::counting::Counts;
-use crate::shadows::{has_room, rec_of, runs_of};
+use crate::shadows::{FITS, has_room, rec_of, runs_of};
 use live_hooks::{GroupRec, Listener, tell_delta, tell_inode, tell_last, tell_piece};
 use rmap_recs::{Memory, RmapRec};
 use shadow_rmap::Shadow;
-use std::test::Fail;
+use std::process::Abort;
 
 // The user of all files.
 const UID: u32 = 1000;
@@ -56,69 +56,45 @@ fn scan<L: Listener>(listener: &mut L) -> Result<(), Memory> {
 }
 
 #[test]
-fn a_scan_of_inodes_without_blocks_leaves_the_shadow_empty(rt: HostRuntime) -> Result<(), Fail> {
-    let mut shadow = Shadow::new(rt.alloc(), 0)?;
+fn a_scan_of_inodes_without_blocks_leaves_the_shadow_empty(rt: HostRuntime) {
+    let mut shadow = Shadow::new(rt.alloc(), 0).expect(&rt, FITS);
     same(&rt, shadow.next_run(None), None);
-    tell_last::<Shadow>(&mut shadow, 192, UID)?;
-    tell_last::<Shadow>(&mut shadow, 193, UID)?;
-    tell_last::<Shadow>(&mut shadow, 194, UID)?;
+    for ino in [192, 193, 194] {
+        tell_last::<Shadow>(&mut shadow, ino, UID).expect(&rt, FITS);
+    }
     same(&rt, shadow.next_run(None), None);
-    Ok(())
 }
 
 #[test]
-fn a_shadow_hears_of_its_group_and_of_visited_inodes(rt: HostRuntime) -> Result<(), Fail> {
-    let alloc = rt.alloc();
-    let mut shadow = Shadow::new(alloc, 0)?;
-    scan::<Shadow>(&mut shadow)?;
-    let runs = runs_of(alloc, &shadow)?;
-    same(
-        &rt,
-        runs.as_slice(),
-        [
-            rec_of(40, 1, 195, 0),
-            rec_of(42, 1, 195, 2),
-            rec_of(50, 2, 100, 0),
-        ]
-        .as_slice(),
-    );
-    Ok(())
+fn a_shadow_hears_of_its_group_and_of_visited_inodes(rt: HostRuntime) {
+    let mut shadow = Shadow::new(rt.alloc(), 0).expect(&rt, FITS);
+    scan::<Shadow>(&mut shadow).expect(&rt, FITS);
+    let runs = runs_of(rt.alloc(), &shadow).expect(&rt, FITS);
+    let wanted = [
+        rec_of(40, 1, 195, 0),
+        rec_of(42, 1, 195, 2),
+        rec_of(50, 2, 100, 0),
+    ];
+    same(&rt, runs.as_slice(), wanted.as_slice());
+}
+
+// Asserts how many inodes and blocks were counted.
+fn expect_counts(rt: &impl Abort, counts: &Counts, inodes: u64, blocks: u64) {
+    same(rt, (counts.inodes, counts.blocks), (inodes, blocks));
 }
 
 #[test]
-fn a_counting_listener_hears_of_all_groups(rt: HostRuntime) -> Result<(), Fail> {
+fn a_counting_listener_hears_of_all_groups(rt: HostRuntime) {
     let mut counts = Counts {
         inodes: 0,
         blocks: 0,
     };
-    scan::<Counts>(&mut counts)?;
-    same(
-        &rt,
-        counts,
-        Counts {
-            inodes: 5,
-            blocks: 5,
-        },
-    );
+    scan::<Counts>(&mut counts).expect(&rt, FITS);
+    expect_counts(&rt, &counts, 5, 5);
     // 100 loses its blocks and is given back, as the scan goes on.
-    finish::<Counts>(&mut counts, 195, 0, rec_of(50, 2, 100, 0), false)?;
-    tell_inode::<Counts>(&mut counts, 195, 100, UID, false)?;
-    same(
-        &rt,
-        counts,
-        Counts {
-            inodes: 4,
-            blocks: 3,
-        },
-    );
+    finish::<Counts>(&mut counts, 195, 0, rec_of(50, 2, 100, 0), false).expect(&rt, FITS);
+    tell_inode::<Counts>(&mut counts, 195, 100, UID, false).expect(&rt, FITS);
+    expect_counts(&rt, &counts, 4, 3);
     counts.clear();
-    same(
-        &rt,
-        counts,
-        Counts {
-            inodes: 0,
-            blocks: 0,
-        },
-    );
-    Ok(())
+    expect_counts(&rt, &counts, 0, 0);
 }

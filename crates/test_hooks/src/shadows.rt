@@ -7,6 +7,9 @@ use sblock::RecKind;
 use shadow_rmap::Shadow;
 use std::alloc::Global;
 
+/// What is expected of each edit.
+pub const FITS: &str = "memory is there, and the record's numbers fit";
+
 /// The owner of the group's space btrees and its list.
 pub const AG: u64 = 0xffff_ffff_ffff_fffb;
 
