@@ -7,7 +7,7 @@ use sblock::RecKind;
 use shadow_rmap::Shadow;
 use std::alloc::Global;
 
-/// What is expected of each edit.
+/// What is expected of each call that may refuse.
 pub const FITS: &str = "memory is there, and the record's numbers fit";
 
 /// The owner of the group's space btrees and its list.
