@@ -3,7 +3,7 @@
 
 A model of what an entry of the journal does to one group: free space, reverse mappings and reference counts by
 blocks, the forks of some files, and chains with what they still owe. Before and after each entry, at each block, the
-numbers of account_laws are compared (its record `Sound`); where nothing is owed, each index is compared with what it
+numbers of law_accounts are compared (its record `Sound`); where nothing is owed, each index is compared with what it
 should hold. With holds nothing may break. With --no-holds a chain also takes inodes that another one holds, and the
 runs that break are counted instead: there must be some.
 

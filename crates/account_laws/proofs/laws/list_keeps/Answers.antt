@@ -1,8 +1,0 @@
-use Rattle.account_laws.proofs.Lists.{refilled_sound, trimmed_sound}
-use Rattle.account_laws.proofs.laws.list_keeps.Goals as goal
-
-pub returns-clause-refilled : goal.returns-clause-refilled
-returns-clause-refilled c = refilled_sound
-
-pub returns-clause-trimmed : goal.returns-clause-trimmed
-returns-clause-trimmed c = trimmed_sound

@@ -1,7 +1,0 @@
-ghost use Rattle.beside_laws.specs.Elsewhere.{ElsewhereKept};
-
-/// A law: each entry of a writer keeps the blocks of other groups than its own sound, with the claims that the state has
-/// (XFS Online Fsck Design, "Eventual Consistency").
-pub fn elsewhere_stays()
-    ensures { ElsewhereKept }
-{}

@@ -1,8 +1,0 @@
-use Rattle.cut_laws.proofs.Cut.{held_behind, sound_behind}
-use Rattle.cut_laws.proofs.laws.blocks_stay_sound.Goals as goal
-
-pub returns-clause-sound : goal.returns-clause-sound
-returns-clause-sound c = sound_behind
-
-pub returns-clause-held : goal.returns-clause-held
-returns-clause-held c = held_behind

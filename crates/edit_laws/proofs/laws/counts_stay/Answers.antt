@@ -1,8 +1,0 @@
-use Rattle.edit_laws.proofs.Counts.{shared_given, shared_taken}
-use Rattle.edit_laws.proofs.laws.counts_stay.Goals as goal
-
-pub returns-clause-given : goal.returns-clause-given
-returns-clause-given c = shared_given
-
-pub returns-clause-taken : goal.returns-clause-taken
-returns-clause-taken c = shared_taken

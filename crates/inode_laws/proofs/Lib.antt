@@ -1,3 +1,0 @@
-pub mod Cores
-mod Listed
-mod Turned

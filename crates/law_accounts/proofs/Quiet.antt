@@ -1,0 +1,5 @@
+pub mod Counts
+pub mod Few
+pub mod Ordered
+pub mod Owners
+pub mod Whole

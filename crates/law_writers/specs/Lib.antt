@@ -1,0 +1,7 @@
+pub mod Change
+pub mod Inode
+pub mod Fork
+pub mod Run
+pub mod Held
+pub mod Beside
+pub mod Told

@@ -1,8 +1,0 @@
-use Rattle.letter_laws.proofs.Known.{letters_end, letters_follow}
-use Rattle.letter_laws.proofs.laws.letters_follow.Goals as goal
-
-pub returns-clause-entries : goal.returns-clause-entries
-returns-clause-entries c = letters_follow
-
-pub returns-clause-end : goal.returns-clause-end
-returns-clause-end c = letters_end

@@ -1,5 +1,0 @@
-use Rattle.move_laws.proofs.Kept.{moves_keep}
-use Rattle.move_laws.proofs.laws.moves_keep.Goals as goal
-
-pub returns : goal.returns
-returns c = moves_keep

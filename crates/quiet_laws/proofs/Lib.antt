@@ -1,5 +1,0 @@
-mod Counts
-mod Few
-mod Ordered
-mod Owners
-mod Whole

@@ -1,8 +1,0 @@
-use Rattle.repair_laws.proofs.Same.{alike_law, good_stays}
-use Rattle.repair_laws.proofs.laws.alike.Goals as goal
-
-pub returns-clause-each : goal.returns-clause-each
-returns-clause-each c = alike_law
-
-pub returns-clause-unit : goal.returns-clause-unit
-returns-clause-unit c = good_stays

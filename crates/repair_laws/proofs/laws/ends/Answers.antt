@@ -1,8 +1,0 @@
-use Rattle.repair_laws.proofs.Ending.{ends_without_faults, forgets_nothing}
-use Rattle.repair_laws.proofs.laws.ends.Goals as goal
-
-pub returns-clause-keeps : goal.returns-clause-keeps
-returns-clause-keeps c = forgets_nothing
-
-pub returns-clause-faults : goal.returns-clause-faults
-returns-clause-faults c = ends_without_faults

@@ -1,8 +1,0 @@
-ghost use Rattle.reserve_laws.specs.Reserving.{ReservedKeepsOwn};
-
-/// A law: a reserved block of no chunk keeps what is known of each unit of its own group, but of the unit that is
-/// rebuilt with it, and of free space where reverse mappings are
-/// (XFS Online Fsck Design, "Reserving New B+Tree Blocks").
-pub fn reserved_keeps()
-    ensures { ReservedKeepsOwn }
-{}

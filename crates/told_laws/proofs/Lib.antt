@@ -1,3 +1,0 @@
-mod Listed
-mod Parts
-mod Told
