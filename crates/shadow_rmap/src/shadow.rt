@@ -65,6 +65,13 @@ impl Shadow {
         self.group
     }
 
+    /// The maximal runs of what it keeps, in the order of reverse mappings.
+    pub fn runs(&self) -> &[RmapRec]
+        ensures { result.now ≡ self.now.runs }
+    {
+        self.runs.as_slice()
+    }
+
     /// Puts in the tuples of a record; those that are there already stay. It joins the runs that have
     /// some of them, that it goes on from and that go on from it. Without memory all stays.
     pub fn add(&mut self, rec: &RmapRec) -> Result<(), Memory>

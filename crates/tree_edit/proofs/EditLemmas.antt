@@ -38,6 +38,7 @@ use Rattle.tree_edit.specs.declared.fault.EditFault.{EditFault}
 use Rattle.tree_edit.specs.declared.fault.EditFault.TheVariants.{Bad, Missing, Overlap, Short, TooLarge, Failed, Memory}
 use Rattle.tree_edit.specs.declared.make.Made.{Made}
 use Rattle.tree_edit.proofs.BlockLemmas.{once, either, in_either, lie_of_blocks, lie_of_inside, lie_both, each_drop}
+use Rattle.tree_edit.proofs.FoundLemmas.{left_as_found}
 use Rattle.tree_edit.proofs.MakeLemmas.{placed_many}
 use Rattle.tree_edit.proofs.StampLemmas.{AllStamped, laid_stamped, stamped_at}
 use Rattle.join_blocks.proofs.PutLemmas.{puts_each, finds_keep, finds_all}
@@ -177,6 +178,13 @@ module _ {R K : Type 0} (form : Form R K) (law : IsLawful form) (site : Site) (h
           joined = λ b there. all_joined new joined b there;
           count = many ∙ ap (count_of old.blocks site.first) r.touched;
           stamped = λ b mine. inl (stamps new joined b mine);
+          left_stays = λ b there. is_told about _ (λ c e.
+              let m = group_blocks site (written (c Image) old) in
+              let was = each_told about (λ c. ReadsTo form site c first_held p.recs p.before) c p.was e in
+              let tree = (reads_trees_lem form law site m root levels p.recs p.before).0 was in
+              let differ = (blocks_differ_lem form site m root levels p.recs p.before short tree).0 in
+              let here = subst (λ (t : Option Contents). AreJoined t site.first made.placed.items left old.blocks new.blocks) e joined in
+              left_as_found c site.first p.before listed r.claimed left made.placed.items old.blocks new.blocks numbers r.chose differ here b there);
           room = subst (λ (bs : List ℕ). count_of old.blocks site.first bs ≤ MAX_BATCH) r.touched room;
         }
 

@@ -1,5 +1,6 @@
 pub mod BlockLemmas
 pub mod EditLemmas
+pub mod FoundLemmas
 pub mod MakeLemmas
 pub mod PrepareLemmas
 pub mod ReadLemmas

@@ -70,6 +70,8 @@ module _ {R K : Type 0} (form : Form R K) (site : Site) (how : Edit) (rec : R) w
     pub count : length new.joined.blocks ≡ count_of old.joined.blocks site.first (after ++ left)
     -- a block of the tree that was another one's, or has other bytes than before, has the tree's log sequence number
     pub stamped : (b : ℕ) → In b after → IsStamped lsn (site.first + b) new.joined ⊎ (In b before × IfSome told (λ c. written (c Image) new.joined (site.first + b) ≡ written (c Image) old.joined (site.first + b)))
+    -- a block that is left over has the bytes that it had
+    pub left_stays : (b : ℕ) → In b left → IfSome told (λ c. written (c Image) new.joined (site.first + b) ≡ written (c Image) old.joined (site.first + b))
     pub room : count_of old.joined.blocks site.first (after ++ left) ≤ MAX_BATCH
 
   -- What is counted while a tree is written anew: each of its blocks is read once, each that wasn't joined once more

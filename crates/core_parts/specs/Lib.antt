@@ -1,0 +1,5 @@
+pub mod Books
+pub mod Keeps
+pub mod Phases
+pub mod Reasons
+pub mod Safe

@@ -1,0 +1,14 @@
+pub mod Begun
+pub mod Delivered
+pub mod Followed
+pub mod Gained
+pub mod Given
+pub mod Masks
+pub mod Seen
+pub mod Shown
+pub mod Steps
+pub mod Turned
+pub mod Untied
+pub mod Whole
+pub mod Words
+pub mod Zero

@@ -1,0 +1,9 @@
+pub mod Calls
+pub mod Equation
+pub mod Followed
+pub mod Gains
+pub mod Moves
+pub mod Reads
+pub mod Seen
+pub mod Untied
+pub mod Whole
