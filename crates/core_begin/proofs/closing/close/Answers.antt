@@ -1,0 +1,18 @@
+use Rattle.std.proofs.Common.{ℕ, ◌<◌, sym, subst}
+use Rattle.core_begin.proofs.BeginLemmas.{given_usable, left_early, left_same}
+use Rattle.core_begin.proofs.closing.close.Goals as goal
+
+pub close_group-requires-clause-usable : goal.close_group-requires-clause-usable
+close_group-requires-clause-usable g c = given_usable g.D.Device c.args.desk.now c.args.kept.now c.args.unit.now c.requires.given
+
+pub close_group-requires-clause-group : goal.close_group-requires-clause-group
+close_group-requires-clause-group g c =
+    subst (λ (n : ℕ). n < c.args.desk.now.store.geo.agcount) (sym c.in-Some.ensures.group) c.requires.given.unit.inside
+
+pub returns-in-Some-clause-left : goal.returns-in-Some-clause-left
+returns-in-Some-clause-left g c =
+    left_early g.D.Device c.args.desk.now c.close_group.new.desk c.args.kept.now c.args.unit.now c.take_owners.new.unit c.close_group.new.unit c.close_group.result c.requires.given c.close_group.ensures.answers c.in-Some.ensures c.close_group.ensures.group c.close_group.ensures.early
+
+pub returns-in-None-clause-left : goal.returns-in-None-clause-left
+returns-in-None-clause-left g c =
+    left_same g.D.Device c.args.desk.now c.args.kept.now c.args.unit.now c.take_owners.new.unit c.requires.given c.in-None.ensures

@@ -1,0 +1,18 @@
+use Rattle.std.proofs.Common.{ℕ, ◌<◌, ◌∙◌, sym, ap, subst}
+use Rattle.geom.specs.declared.geometry.Geometry.{Geometry}
+use Rattle.core_begin.proofs.BeginLemmas.{answers_on, answers_usable}
+use Rattle.core_begin.proofs.starts.may_begin.Goals as goal
+
+pub unless_skipped-requires-clause-usable : goal.unless_skipped-requires-clause-usable
+unless_skipped-requires-clause-usable g c = answers_usable g.D.Device c.args.desk.now c.take_room.new.desk _ c.in_ok-take_room.ensures.answers
+
+pub unless_skipped-requires-clause-all : goal.unless_skipped-requires-clause-all
+unless_skipped-requires-clause-all g c = c.requires.all ∙ sym (ap (λ (x : Geometry). x.agcount) c.in_ok-take_room.ensures.answers.steady.geometry)
+
+pub unless_skipped-requires-clause-group : goal.unless_skipped-requires-clause-group
+unless_skipped-requires-clause-group g c = subst (λ (x : Geometry). c.args.g < x.agcount) (sym c.in_ok-take_room.ensures.answers.steady.geometry) c.requires.group
+
+pub returns : goal.returns
+returns g c = record {
+  answers = answers_on g.D.Device c.args.desk.now c.take_room.new.desk c.unless_skipped.new.desk c.unless_skipped.result c.in_ok-take_room.ensures.answers.steady c.unless_skipped.ensures.answers;
+}

@@ -1,0 +1,59 @@
+ghost use Rattle.std.specs.Prelude.{◌≡◌};
+ghost use Rattle.core_begin.specs.Early.{IsEarly};
+ghost use Rattle.core_desk.specs.Asks.{IsUsable};
+ghost use Rattle.core_parts.specs.Keeps.{IsSteady};
+ghost use Rattle.core_parts.specs.Reasons.{HasReason};
+ghost use Rattle.core_parts.specs.Safe.{IsDesk};
+
+use blk_device::Device;
+use core_calls::ScrubFault;
+use core_desk::say_verdict;
+use core_parts::{Desk, UnitState, Work};
+use fs_model::{Reason, Verdict};
+
+/// Gives the unit up: its verdict is added, and nothing is left of its work. Where the verdict can't be
+/// added, that is the answer, and the work stays as it was.
+pub(crate) fn give_up<D: Device>(
+    desk: &mut Desk<D>,
+    unit: &mut UnitState,
+    reason: Reason,
+) -> ScrubFault
+    requires usable { IsUsable D.Device desk.old }
+    requires early { IsEarly unit.old.work }
+    ensures desk { IsDesk D.Device desk.new }
+    ensures steady { IsSteady D.Device desk.old desk.new }
+    ensures reason { HasReason desk.new result }
+    ensures group { unit.new.group ≡ unit.old.group }
+    ensures early { IsEarly unit.new.work }
+{
+    match say_verdict(desk, unit.group, unit.unit, Verdict::GaveUp(reason)) {
+        Ok(()) => {
+            unit.work = Work::Judged;
+            ScrubFault::GaveUp(reason)
+        }
+        Err(fault) => fault,
+    }
+}
+
+/// The unit loses a turn to a writer, which is this answer; where that was its last one, it is given up.
+pub(crate) fn lose_turn<D: Device>(
+    desk: &mut Desk<D>,
+    unit: &mut UnitState,
+    fault: ScrubFault,
+) -> ScrubFault
+    requires usable { IsUsable D.Device desk.old }
+    requires early { IsEarly unit.old.work }
+    requires reason { HasReason desk.old fault }
+    ensures desk { IsDesk D.Device desk.new }
+    ensures steady { IsSteady D.Device desk.old desk.new }
+    ensures reason { HasReason desk.new result }
+    ensures group { unit.new.group ≡ unit.old.group }
+    ensures early { IsEarly unit.new.work }
+{
+    let turns = unit.turns;
+    if unit.asked >= turns || turns - unit.asked == 1 {
+        return give_up(desk, unit, Reason::TurnLimit(turns));
+    }
+    unit.asked += 1;
+    fault
+}

@@ -1,0 +1,4 @@
+pub mod Ends
+pub mod Gathers
+pub mod Leaves
+pub mod Told

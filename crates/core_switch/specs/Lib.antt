@@ -1,0 +1,4 @@
+pub mod Freed
+pub mod Marks
+pub mod Switched
+pub mod Reserves
