@@ -1,3 +1,4 @@
+pub mod DueLemmas
 pub mod FileHostLemmas
 pub mod MemHostLemmas
 pub mod RedoFileLemmas

@@ -4,9 +4,9 @@ use Rattle.std.specs.BTreeMap.{get_by_text}
 use Rattle.std.specs.Option.{option_map}
 use Rattle.redo_area.specs.Counts.{raised}
 use Rattle.image_hosts.specs.Asked.{request_of}
-use Rattle.image_hosts.specs.MemFiles.{file_named, failing_named, redo_file_named}
+use Rattle.image_hosts.specs.MemFiles.{HasDue, due_bytes, file_named, failing_named, redo_file_named}
 use Rattle.blk_device.specs.declared.memory.MemDevice.{MemDevice}
-use Rattle.image_hosts.specs.Stored.{Stored, Request, Loan}
+use Rattle.image_hosts.specs.Stored.{Stored, Request, Loan, due_of}
 use Rattle.image_hosts.specs.declared.mem_host.MemHost.{MemHost}
 
 abbrev pub stored_by : MemHost → List ℕ → Option Stored
@@ -23,11 +23,14 @@ failing_behind others host name = option_map (map (λ call. raised call others))
 abbrev pub redo_files_by : MemHost → List ℕ → Option Stored
 redo_files_by host name = redo_file_named host.redos name
 
-abbrev pub Awaits : MemHost → List ℕ → Type 0
-Awaits host name = IsSome (get_by_text host.images name)
-
 abbrev pub asked_of : MemHost → List Request
 asked_of host = map request_of host.asked.items
+
+-- the image is there, and the redo file in which a device is kept that was asked for to be changed
+pub record Awaits (host : MemHost) (name : List ℕ) : Type 0 where
+  pub image : IsSome (get_by_text host.images name)
+  pub due : due_of (asked_of host) ≡ due_bytes host.due
+  pub redo : HasDue host.redos host.due
 
 -- it doesn't tell its loans
 abbrev pub loans_of : MemHost → Option (List (Loan MemDevice))

@@ -1,7 +1,8 @@
 -- What a host keeps under a name, and what it is asked.
-use Rattle.std.specs.Prelude.{◌≡◌, ◌⊎◌, ⊤, ℕ, Bool, if◌then◌else◌, List, [], ◌∷◌, ◌++◌, Option, Some, None}
+use Rattle.std.specs.Prelude.{◌≡◌, ◌⊎◌, ⊤, ℕ, Bool, false, nat_lt, if◌then◌else◌, List, [], ◌∷◌, ◌++◌, Option, Some, None}
 use Rattle.std.specs.Borrow.{Bor}
 use Rattle.std.specs.Option.{option_map}
+use Rattle.std.specs.List.{last_or}
 use Rattle.std.specs.Str.{bytes_eq}
 use Rattle.byte_fields.specs.Zeros.{zeros}
 use Rattle.blk_device.specs.Contents.{Contents}
@@ -11,7 +12,7 @@ use Rattle.blk_device.specs.declared.device.Region.{Region}
 use Rattle.blk_device.specs.declared.device.Region.TheVariants.{Image, Redo}
 use Rattle.redo_area.specs.declared.TheConstants.{REDO_BLOCKS}
 use Rattle.image_hosts.specs.declared.host.Purpose.{Purpose}
-use Rattle.image_hosts.specs.declared.host.Purpose.TheVariants.{Make}
+use Rattle.image_hosts.specs.declared.host.Purpose.TheVariants.{Check, Change, Make}
 
 -- a file of blocks: how many, and the bytes of each
 pub record Stored : Type 0 where
@@ -107,3 +108,38 @@ asks image redo purpose = record { image = image; redo = redo; purpose = purpose
 -- the request was kept; or it wasn't, as there was no memory for it
 abbrev pub IsAskedFor : (short : Type 0) → Request → (old new : List Request) → Type 0
 IsAskedFor short request old new = (short × (new ≡ old)) ⊎ (new ≡ old ++ request ∷ [])
+
+-- ---- the redo file of a device that is changed
+
+-- the name of the redo file that a device asked for like this is kept in when it comes back
+abbrev pub due_by : Purpose → Option (List ℕ) → Option (List ℕ)
+due_by Check redo = None
+due_by Change redo = redo
+due_by (Make n) redo = None
+
+abbrev pub due_in : Option Request → Option (List ℕ)
+due_in None = None
+due_in (Some request) = due_by request.purpose request.redo
+
+-- by the last of these requests
+abbrev pub due_of : List Request → Option (List ℕ)
+due_of asked = due_in (last_or None asked)
+
+-- so many blocks as a redo file: none lies behind its end
+abbrev pub redo_held : ℕ → (ℕ → List ℕ) → Stored
+redo_held size at = record { size = size; at = λ b. if nat_lt b size then at b else zeros }
+
+-- the redo region of a device that comes back, where the device tells it
+abbrev pub stored_redo : Option Contents → (Region → ℕ) → Option Stored
+stored_redo None blocks = None
+stored_redo (Some content) blocks = Some (redo_held (blocks Redo) (content Redo))
+
+-- The redo file of that name is this one now, or isn't told any more; all others are as they were.
+pub record HoldsRedo (name : List ℕ) (held : Option Stored) (old new : List ℕ → Option Stored) : Type 0 where
+  pub others : (n : List ℕ) → bytes_eq n name ≡ false → new n ≡ old n
+  pub one : (new name ≡ held) ⊎ (new name ≡ None)
+
+-- what becomes of the redo files where a device comes back that was asked for to be changed beside one of them
+abbrev pub FollowsRedo : (due : Option (List ℕ)) → (held : Option Stored) → (old new : List ℕ → Option Stored) → Type 0
+FollowsRedo None held old new = (n : List ℕ) → new n ≡ old n
+FollowsRedo (Some name) held old new = HoldsRedo name held old new

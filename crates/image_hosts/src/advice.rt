@@ -19,18 +19,35 @@ static JOBS: [&str; 7] = [
 ];
 
 // What the evidence means for which a unit is given up, and what to do.
-static EVIDENCE: [&str; 7] = [
+static EVIDENCE: [&str; 9] = [
     "A unit was given up: what it is judged by contradicts itself. Its line says how:",
     "  overlap BLOCK FIRST SECOND: two owners claim the block, and one of them is wrong.",
     "  badfork INODE ..: what the inode says of its own blocks can't be right.",
     "  badchunk BLOCK ..: an inode in the block is damaged, where both btrees list it.",
     "  badtree rmap BLOCK: neither of the two btrees that list inodes can be read.",
     "  later KIND BLOCK: the btree has a form that isn't supported yet.",
+    "  space RESERVE NEED: the group has too few free blocks for a new btree.",
+    "  turns N: the unit waited for so many turns.",
     "Look with xfs_repair -n, and make a backup before anything is repaired.",
 ];
 
+// What to do after a repair that found something which it couldn't mend.
+static REPAIRS: [&str; 5] = [
+    "What was rebuilt stays rebuilt; a unit that was given up or skipped was not.",
+    "Run the same repair again: it goes on from what is there now. Keep the copy of the image until it is good.",
+    "If the log wasn't clean, mount and unmount the file system first, and repair after it.",
+    "Files that claim the same blocks, and damaged inodes, are for xfs_repair, which works on the whole file system.",
+    "A redo file belongs to one image: keep it with that image, and use it for no other.",
+];
+
+// What to do after a repair whose device failed.
+static BROKEN: [&str; 2] = [
+    "A change may wait in the redo file: the image isn't whole without it, so keep both, and don't mount the image.",
+    "Once the device answers again, the same repair finishes the change and goes on. Copy a failing disk first.",
+];
+
 // What a line of a refused image means, and what to do.
-static REFUSALS: [(&str, &str); 15] = [
+static REFUSALS: [(&str, &str); 19] = [
     (
         "image magic\n",
         "There is no XFS file system: is it the right file or partition?",
@@ -81,7 +98,11 @@ static REFUSALS: [(&str, &str); 15] = [
     ),
     (
         "unbuilt job\n",
-        "This job comes later: today xscrub checks images.",
+        "This job comes later: today xscrub checks images, repairs them, and makes new ones.",
+    ),
+    (
+        "unbuilt trees\n",
+        "A btree of a group has more than 24 blocks: such an image can't be repaired yet. It can be checked.",
     ),
     (
         "redo short\n",
@@ -89,7 +110,19 @@ static REFUSALS: [(&str, &str); 15] = [
     ),
     (
         "redo waiting\n",
-        "A change of the image was cut short and waits in the redo file: the image isn't whole without it.",
+        "A change of the image was cut short and waits in the redo file: xscrub repair finishes it.",
+    ),
+    (
+        "redo count\n",
+        "What waits in the redo file is no change that xscrub left there: is it the right file?",
+    ),
+    (
+        "redo size\n",
+        "The change that waits in the redo file is one of an image of another size: is it the right file?",
+    ),
+    (
+        "redo place\n",
+        "The change that waits in the redo file has a block outside of the image: is it the right file?",
     ),
 ];
 
@@ -113,19 +146,13 @@ fn meaning_of(line: &str) -> Option<&'static str> {
     None
 }
 
-fn tell_jobs<R: Eprint>(rt: &R) {
-    for line in JOBS.iter() {
-        let _ = rt.eprintln(*line);
-    }
-}
-
 /// Says what a line of the report means that refuses words or image.
 pub fn explain<R: Eprint>(rt: &R, line: &[u8]) {
     let Ok(line) = str::from_utf8(line) else {
         return;
     };
     if line.starts_with("usage: ") {
-        tell_jobs(rt);
+        tell_lines(rt, &JOBS);
     }
     if let Some(meaning) = meaning_of(line) {
         let _ = rt.eprintln(meaning);
@@ -140,23 +167,34 @@ pub fn tell_failure<R: Eprint>(rt: &R, name: &str, fault: &io::Error) {
     }
 }
 
-fn tell_evidence<R: Eprint>(rt: &R) {
-    for line in EVIDENCE.iter() {
+fn tell_lines<R: Eprint>(rt: &R, lines: &[&str]) {
+    for line in lines.iter() {
         let _ = rt.eprintln(*line);
     }
 }
 
-/// Says at the end of a check that found something what wasn't looked at, and where a unit was given up
-/// what its evidence means and what to do.
-pub fn tell_status<R: Eprint>(rt: &R, status: u8) {
-    if status == 6 {
-        tell_evidence(rt);
+/// Says what to do where a device failed that was being changed.
+pub fn explain_change<R: Eprint>(rt: &R, line: &[u8]) {
+    if line == "device failed\n".as_bytes() {
+        tell_lines(rt, &BROKEN);
     }
-    if status == 1 || status == 6 {
-        let _ = rt.eprintln(
-            "Not looked at: directories, superblock counters, later superblocks, the log. \
-            An image that wasn't unmounted gives false faults: mount and unmount it first.",
-        );
+}
+
+/// Says at the end of a check or a repair that found something what wasn't looked at, where a unit was
+/// given up what its evidence means, and after a repair what to do next.
+pub fn tell_status<R: Eprint>(rt: &R, status: u8, is_repair: bool) {
+    if status == 6 {
+        tell_lines(rt, &EVIDENCE);
+    }
+    if status != 1 && status != 6 {
+        return;
+    }
+    let _ = rt.eprintln(
+        "Not looked at: directories, superblock counters, later superblocks, the log. \
+        An image that wasn't unmounted gives false faults: mount and unmount it first.",
+    );
+    if is_repair {
+        tell_lines(rt, &REPAIRS);
     }
 }
 

@@ -2,20 +2,24 @@
 ghost use Rattle.std.specs.Prelude.{◌≡◌, ◌/◌, [], None, IsNone, IfOk, false};
 ghost use Rattle.image_hosts.specs.Stored.{HasRoomFor, Lent, redo_asked};
 
-use crate::advice::{NamedFile, explain, tell_failure};
+use crate::advice::{NamedFile, explain, explain_change, tell_failure};
 use crate::asked::{DeviceAsked, count_failed, count_fault, keep_request};
 use crate::host::{Host, OpenFault, Purpose, Watched};
 use crate::progress::Progress;
 use blk_device::{Device, FileDevice, ReadAhead, ReaderQueue, Region, Sink, SinkFailed};
 use redo_area::REDO_BLOCKS;
 use std::alloc::Global;
-use std::fs::{OpenFile, OpenOptions};
+use std::fs::{Metadata, OpenFile, OpenOptions};
 use std::io::{ErrorKind, Seek, SeekFrom, Write};
-use std::os::unix::fs::FileTypeExt;
+use std::os::unix::fs::{FileTypeExt, MetadataExt, OpenOptionsExt};
+use std::path::Path;
 use std::rt::{Clock, Files};
 use std::{fs, io};
 
 const BLOCK_BYTES: u64 = 4096;
+
+// A redo file is its maker's alone: it has blocks of the image.
+const REDO_MODE: u32 = 0o600;
 
 /// Opens files for devices and prints the report; beside it, on standard error, it says what failed
 /// and what a refusal means. It tells nothing of what a file holds, nor of what standard output took.
@@ -47,6 +51,14 @@ impl<'a, R: Files + Print + Eprint + Clock> FileHost<'a, R> {
             sink_faults: 0,
             host_faults: 0,
             dev_faults: 0,
+        }
+    }
+
+    /// Whether the last device that was asked for was one to be changed.
+    pub fn is_changing(&self) -> bool {
+        match self.asked.last() {
+            Some(asked) => asked.purpose == Purpose::Change,
+            None => false,
         }
     }
 
@@ -96,18 +108,30 @@ fn blocks_for<F: Seek>(file: &mut F, purpose: Purpose) -> io::Result<u64>
     }
 }
 
-// Opens a file to be read. A pipe would wait for a writer, and has no blocks: it is refused.
-fn open_to_read<R: Files>(rt: &R, name: &str) -> io::Result<R::File> {
+// Refuses a pipe: it would wait for a writer, and has no blocks.
+fn refuse_pipe<R: Files>(rt: &R, name: &str) -> io::Result<()> {
     if fs::metadata(rt, name)?.file_type().is_fifo() {
         return Err(io::Error::new(ErrorKind::Unsupported, "a pipe has no blocks"));
     }
+    Ok(())
+}
+
+fn open_to_read<R: Files>(rt: &R, name: &str) -> io::Result<R::File> {
+    refuse_pipe(rt, name)?;
     fs::open(rt, name)
+}
+
+// Opens a file that is there to be read and written. The system refuses a directory, and a file that may
+// only be read.
+fn open_to_change<R: Files>(rt: &R, name: &str) -> io::Result<R::File> {
+    refuse_pipe(rt, name)?;
+    OpenOptions::new().read(true).write(true).open(rt, name)
 }
 
 fn open_image<R: Files>(rt: &R, name: &str, purpose: Purpose) -> io::Result<R::File> {
     match purpose {
         Purpose::Check => open_to_read(rt, name),
-        Purpose::Change => OpenOptions::new().read(true).write(true).open(rt, name),
+        Purpose::Change => open_to_change(rt, name),
         Purpose::Make(blocks) => {
             let file = OpenOptions::new()
                 .read(true)
@@ -122,15 +146,34 @@ fn open_image<R: Files>(rt: &R, name: &str, purpose: Purpose) -> io::Result<R::F
     }
 }
 
-// Makes a redo file of zeros.
+// Makes a redo file of zeros, which a crash doesn't take away again.
 fn make_redo<R: Files>(rt: &R, name: &str) -> io::Result<R::File> {
     let file = OpenOptions::new()
         .read(true)
         .write(true)
         .create_new(true)
+        .mode(REDO_MODE)
         .open(rt, name)?;
     file.set_len(REDO_BLOCKS * BLOCK_BYTES)?;
+    file.sync_all()?;
+    keep_name(rt, name)?;
     Ok(file)
+}
+
+// The folder of a name.
+fn folder_of(name: &str) -> &str {
+    match Path::new(name).parent() {
+        Some(folder) if !folder.as_os_str().is_empty() => folder.as_os_str(),
+        _ => ".",
+    }
+}
+
+// Makes the name of a new file durable, where its folder can be opened.
+fn keep_name<R: Files>(rt: &R, name: &str) -> io::Result<()> {
+    match fs::open(rt, folder_of(name)) {
+        Ok(folder) => folder.sync_all(),
+        Err(_) => Ok(()),
+    }
 }
 
 // Opens a redo file, for a check to be read alone, and makes one of zeros where there is none.
@@ -143,10 +186,30 @@ fn open_redo<R: Files>(rt: &R, name: &str, purpose: Purpose) -> io::Result<R::Fi
     }
     match purpose {
         Purpose::Check => open_to_read(rt, name),
-        Purpose::Change | Purpose::Make(_) => {
-            OpenOptions::new().read(true).write(true).open(rt, name)
-        }
+        Purpose::Change | Purpose::Make(_) => open_to_change(rt, name),
     }
+}
+
+// Whether these are one file, or one block device, under whatever names.
+fn are_same(one: &Metadata, other: &Metadata) -> bool {
+    if one.file_type().is_block_device() && other.file_type().is_block_device() {
+        return one.rdev() == other.rdev();
+    }
+    one.dev() == other.dev() && one.ino() == other.ino()
+}
+
+// Opens the redo file of an image that was opened. The image itself is refused, by whatever name.
+fn open_apart<R: Files, F: OpenFile>(
+    rt: &R,
+    image: &F,
+    name: &str,
+    purpose: Purpose,
+) -> io::Result<R::File> {
+    let redo = open_redo(rt, name, purpose)?;
+    if are_same(&image.metadata()?, &redo.metadata()?) {
+        return Err(io::Error::new(ErrorKind::InvalidInput, "it is the image itself"));
+    }
+    Ok(redo)
 }
 
 // A file that was opened, with its name for what is told of it; or what failed is told.
@@ -198,7 +261,8 @@ fn device_over<'a, R: Files + Eprint>(
     let Some(name) = redo else {
         return Ok(FileDevice::new(alloc, image, None, image_blocks, REDO_BLOCKS));
     };
-    let mut redo = named(alloc, rt, name, open_redo(rt, name, purpose))?;
+    let opened = open_apart(rt, &image, name, purpose);
+    let mut redo = named(alloc, rt, name, opened)?;
     let redo_blocks = blocks_of(&mut redo)?;
     Ok(FileDevice::new(alloc, image, Some(redo), image_blocks, redo_blocks))
 }
@@ -242,6 +306,9 @@ impl<R: Files + Print + Eprint + Clock> Sink for FileHost<'_, R> {
         match io::writer(self.rt).write(piece) {
             Ok(taken) if taken > 0 || piece.is_empty() => {
                 explain(self.rt, piece);
+                if self.is_changing() {
+                    explain_change(self.rt, piece);
+                }
                 return Ok(taken);
             }
             Ok(_) => {}

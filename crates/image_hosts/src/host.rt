@@ -2,7 +2,7 @@ ghost use Rattle.std.specs.Prelude.{◌≡◌, ◌≤◌, ◌==◌, ◌+◌, ℕ
 ghost use Rattle.std.specs.Str.{bytes_eq};
 ghost use Rattle.blk_device.specs.Causes.{Rose, one_more};
 ghost use Rattle.redo_area.specs.declared.TheConstants.{REDO_BLOCKS};
-ghost use Rattle.image_hosts.specs.Stored.{Stored, Request, Loan, Out, Back, Lends, IsAskedFor, Lent, asks, name_of, redo_asked, stored_image, stored_with};
+ghost use Rattle.image_hosts.specs.Stored.{Stored, Request, Loan, Out, Back, Lends, FollowsRedo, IsAskedFor, Lent, asks, due_of, name_of, redo_asked, stored_image, stored_redo, stored_with};
 
 use blk_device::{Device, Region, Sink};
 use check_watch::Watch;
@@ -110,13 +110,15 @@ pub trait Host: Sink + Watched {
         ensures sink { Self.sink_faults self.new ≡ Self.sink_faults self.old };
 
     /// Takes a device back under the name by which it was handed out. The count of devices that
-    /// failed rises exactly where this one did. No redo file changes: no job writes one yet.
+    /// failed rises exactly where this one did. Where the last request was for a change, its redo file
+    /// then has the device's redo region, or isn't told any more; all others stay.
     fn put_back(&mut self, image: &str, dev: Self::Dev)
         requires { awaits self.old image.now }
         ensures lent { Lends (Back dev ∷ []) (loans self.old) (loans self.new) }
         ensures image { (n : List ℕ) → stored self.new n
             ≡ stored_with image.now (stored_image (Self.Dev.content dev) (Self.Dev.blocks dev)) (stored self.old) n }
-        ensures redo { (n : List ℕ) → redo_files self.new n ≡ redo_files self.old n }
+        ensures redo { FollowsRedo (due_of (asked self.old))
+            (stored_redo (Self.Dev.content dev) (Self.Dev.blocks dev)) (redo_files self.old) (redo_files self.new) }
         ensures host { host_faults self.new ≡ host_faults self.old }
         ensures devices { dev_faults self.new ≡ (if Self.Dev.faults dev == 0
             then dev_faults self.old

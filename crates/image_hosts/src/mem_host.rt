@@ -1,13 +1,13 @@
 //! A host in memory, for tests.
-ghost use Rattle.std.specs.Prelude.{◌≡◌, ◌≤◌, ℕ, List, [], Some, IsSome, IsNone, IfOk, OnOk, map, true, if◌then◌else◌};
+ghost use Rattle.std.specs.Prelude.{◌≡◌, ◌<◌, ◌≤◌, ℕ, List, [], Some, None, IsSome, IsNone, IfOk, IfSome, OnOk, map, true, if◌then◌else◌};
 ghost use Rattle.std.specs.BTreeMap.{get_by_text};
 ghost use Rattle.std.specs.Str.{bytes_eq};
-ghost use Rattle.blk_device.specs.Contents.{map_told};
+ghost use Rattle.blk_device.specs.Contents.{Holds, map_told};
 ghost use Rattle.blk_device.specs.Memory.{calls_asked, failing_calls};
 ghost use Rattle.blk_device.specs.Stored.{stored};
 ghost use Rattle.redo_area.specs.Counts.{raised};
-ghost use Rattle.image_hosts.specs.MemFiles.{calls_for_redo, calls_to_open, file_of, file_named, failing_named, redo_file_named, redo_of, with_redo};
-ghost use Rattle.image_hosts.specs.Stored.{IsNew, Lent, Opened, no_redo, redo_asked, stored_with};
+ghost use Rattle.image_hosts.specs.MemFiles.{HasDue, calls_for_redo, calls_to_open, due_bytes, file_of, file_named, failing_named, redo_file_named, redo_of, redo_told, with_redo};
+ghost use Rattle.image_hosts.specs.Stored.{FollowsRedo, HoldsRedo, IsNew, Lent, Opened, due_by, name_of, no_redo, redo_asked, redo_held, stored_redo, stored_with};
 
 use crate::asked::{DeviceAsked, count_failed, count_fault, keep_request};
 use crate::host::{Host, OpenFault, Purpose, Watched};
@@ -27,21 +27,26 @@ pub struct MemImage {
     pub failing: Vec<u64>,
 }
 
-/// A redo file of so many blocks, zeros where there is none.
+/// A redo file of so many blocks, zeros where there is none; or one that was lost, since it couldn't be
+/// kept whole.
 #[derive(Drop)]
 pub struct MemRedo {
     pub size: u64,
     pub blocks: BTreeMap<u64, Block>,
+    pub is_lost: bool,
 }
 
 /// Images and redo files by name, what was asked, and the report. Calls of `put` are numbered from 0, and those
 /// of chosen numbers fail; an image that isn't there is a fault of the host, also where it is to be
 /// made: a new image takes the place of one that is there. A redo file that isn't there is 162 blocks of
-/// zeros. Where there is one, a device's calls are counted from the first behind its opening on.
+/// zeros. Where there is one, a device's calls are counted from the first behind its opening on. The redo
+/// region of a device that was changed is read when it comes back; where a read of it fails or memory is
+/// short, that redo file is lost, and no device is handed out with it any more. `due` is its name.
 #[derive(Drop)]
 pub struct MemHost {
     pub images: BTreeMap<String, MemImage>,
     pub redos: BTreeMap<String, MemRedo>,
+    pub due: Option<String>,
     pub failing_puts: Vec<u64>,
     pub asked: Vec<DeviceAsked>,
     pub report: Vec<u8>,
@@ -67,6 +72,7 @@ impl MemHost {
         MemHost {
             images,
             redos: BTreeMap::new(alloc),
+            due: None,
             failing_puts,
             asked: Vec::new(alloc),
             report: Vec::new(alloc),
@@ -80,7 +86,7 @@ impl MemHost {
 
 impl Sink for MemHost {
     ghost use Rattle.std.proofs.Common.{rules};
-    ghost use Rattle.std.specs.Prelude.{◌<◌, length, take, OnErr, IsErr, Contains};
+    ghost use Rattle.std.specs.Prelude.{length, take, OnErr, IsErr, Contains};
     ghost use Rattle.blk_device.specs.Causes.{HasCause, any_error, one_more};
     ghost use Rattle.blk_device.specs.Taken.{Takes};
     ghost use Rattle.image_hosts.specs.MemHost.{KeepsFiles};
@@ -146,6 +152,152 @@ fn replace_image(
     if let Some(file) = images.get_mut(name) {
         file.size = size;
         file.blocks = blocks;
+    }
+}
+
+// The name of the redo file in which a device opened for this is kept when it comes back.
+fn due_for(
+    alloc: Global,
+    purpose: Purpose,
+    redo: Option<&str>,
+) -> Result<Option<String>, AllocError>
+    ensures { IfOk result (λ due. due_bytes due ≡ due_by purpose (name_of redo.entry)) }
+{
+    match (purpose, redo) {
+        (Purpose::Change, Some(name)) => Ok(Some(String::from_str(alloc, name)?)),
+        _ => Ok(None),
+    }
+}
+
+// Makes a redo file of zeros where there is none of that name.
+fn make_redo(
+    alloc: Global,
+    redos: &mut BTreeMap<String, MemRedo>,
+    name: &str,
+) -> Result<(), AllocError>
+    ensures same { (n : List ℕ) → redo_file_named redos.new n ≡ redo_file_named redos.old n }
+    ensures there { OnOk result (IsSome (get_by_text redos.new name.now)) }
+{
+    if redos.contains_key(name) {
+        return Ok(());
+    }
+    let redo = MemRedo {
+        size: REDO_BLOCKS,
+        blocks: BTreeMap::new(alloc),
+        is_lost: false,
+    };
+    redos.insert(String::from_str(alloc, name)?, redo)?;
+    Ok(())
+}
+
+// Makes the redo file that is due, where it isn't there.
+fn make_due(
+    alloc: Global,
+    redos: &mut BTreeMap<String, MemRedo>,
+    due: &Option<String>,
+) -> Result<(), AllocError>
+    ensures same { (n : List ℕ) → redo_file_named redos.new n ≡ redo_file_named redos.old n }
+    ensures there { OnOk result (HasDue redos.new due.now) }
+{
+    match due {
+        Some(name) => make_redo(alloc, redos, name.as_str()),
+        None => Ok(()),
+    }
+}
+
+// Reads a block of a device's redo region.
+fn redo_block(dev: &mut MemDevice, at: u64) -> Result<Block, DeviceFailed>
+    requires room { at < ⟦<MemDevice as Device>⟧.blocks dev.old Region.Redo }
+    ensures bytes { IfOk result (λ block. Holds Region.Redo at block.bytes (⟦<MemDevice as Device>⟧.content dev.old)) }
+    ensures same { ⟦<MemDevice as Device>⟧.content dev.new ≡ ⟦<MemDevice as Device>⟧.content dev.old }
+    ensures sizes { ⟦<MemDevice as Device>⟧.blocks dev.new ≡ ⟦<MemDevice as Device>⟧.blocks dev.old }
+{
+    let mut block = Block::zeroed();
+    dev.read(Region::Redo, at, &mut block)?;
+    Ok(block)
+}
+
+// What the redo region of a device holds; nothing where a read fails or memory is short.
+fn redo_read(alloc: Global, dev: &mut MemDevice) -> Option<BTreeMap<u64, Block>>
+    ensures held { IfSome result (λ held. IfSome (⟦<MemDevice as Device>⟧.content dev.old) (λ c. (b : ℕ)
+        → b < ⟦<MemDevice as Device>⟧.blocks dev.old Region.Redo → stored held b ≡ c Region.Redo b)) }
+    ensures same { ⟦<MemDevice as Device>⟧.content dev.new ≡ ⟦<MemDevice as Device>⟧.content dev.old }
+    ensures sizes { ⟦<MemDevice as Device>⟧.blocks dev.new ≡ ⟦<MemDevice as Device>⟧.blocks dev.old }
+{
+    let mut held = BTreeMap::new(alloc);
+    let count = dev.size(Region::Redo);
+    for at in 0..count {
+        let Ok(block) = redo_block(dev, at) else {
+            return None;
+        };
+        let Ok(_) = held.insert(at, block) else {
+            return None;
+        };
+    }
+    Some(held)
+}
+
+// A redo file of so many blocks, as they were read; or a lost one.
+fn redo_over(alloc: Global, size: u64, read: Option<BTreeMap<u64, Block>>) -> MemRedo
+    ensures lost { IsNone read → redo_told result ≡ None }
+    ensures held { IfSome read (λ blocks. redo_told result ≡ Some (redo_held size (stored blocks))) }
+{
+    match read {
+        Some(blocks) => MemRedo {
+            size,
+            blocks,
+            is_lost: false,
+        },
+        None => MemRedo {
+            size,
+            blocks: BTreeMap::new(alloc),
+            is_lost: true,
+        },
+    }
+}
+
+// Puts a redo file in the place of the one of that name.
+fn replace_redo(redos: &mut BTreeMap<String, MemRedo>, name: &str, redo: MemRedo)
+    requires { IsSome (get_by_text redos.old name.now) }
+    ensures { (n : List ℕ) → redo_file_named redos.new n
+        ≡ stored_with name.now (redo_told redo) (redo_file_named redos.old) n }
+{
+    if let Some(file) = redos.get_mut(name) {
+        file.size = redo.size;
+        file.blocks = redo.blocks;
+        file.is_lost = redo.is_lost;
+    }
+}
+
+// Keeps the redo region of a device that comes back in the redo file of that name.
+fn keep_redo(alloc: Global, redos: &mut BTreeMap<String, MemRedo>, name: &str, dev: &mut MemDevice)
+    requires { IsSome (get_by_text redos.old name.now) }
+    ensures kept { HoldsRedo name.now (stored_redo (⟦<MemDevice as Device>⟧.content dev.old) (⟦<MemDevice as Device>⟧.blocks dev.old))
+        (redo_file_named redos.old) (redo_file_named redos.new) }
+    ensures same { ⟦<MemDevice as Device>⟧.content dev.new ≡ ⟦<MemDevice as Device>⟧.content dev.old }
+    ensures sizes { ⟦<MemDevice as Device>⟧.blocks dev.new ≡ ⟦<MemDevice as Device>⟧.blocks dev.old }
+{
+    let size = dev.size(Region::Redo);
+    let read = redo_read(alloc, dev);
+    let redo = redo_over(alloc, size, read);
+    replace_redo(redos, name, redo);
+}
+
+// Keeps the redo region of a device that comes back in the redo file that is due, if one is.
+fn keep_due(
+    alloc: Global,
+    redos: &mut BTreeMap<String, MemRedo>,
+    due: &Option<String>,
+    dev: &mut MemDevice,
+)
+    requires { HasDue redos.old due.now }
+    ensures kept { FollowsRedo (due_bytes due.now) (stored_redo (⟦<MemDevice as Device>⟧.content dev.old) (⟦<MemDevice as Device>⟧.blocks dev.old))
+        (redo_file_named redos.old) (redo_file_named redos.new) }
+    ensures same { ⟦<MemDevice as Device>⟧.content dev.new ≡ ⟦<MemDevice as Device>⟧.content dev.old }
+    ensures sizes { ⟦<MemDevice as Device>⟧.blocks dev.new ≡ ⟦<MemDevice as Device>⟧.blocks dev.old }
+{
+    if let Some(name) = due {
+        keep_redo(alloc, redos, name.as_str(), dev);
     }
 }
 
@@ -240,6 +392,19 @@ fn open_beside(alloc: Global, image: &MemImage, redo: &MemRedo) -> Result<MemDev
     }
 }
 
+// A device over a copy of the image and of a redo file, unless that was lost.
+fn open_kept(alloc: Global, image: &MemImage, redo: &MemRedo) -> Result<MemDevice, AllocError>
+    ensures told { IfOk result (Opened ⟦<MemDevice as Device>⟧ (Some (file_of image.now)) (redo_told redo.now)) }
+    ensures fresh { IfOk result (λ d. ⟦<MemDevice as Device>⟧.faults d ≡ 0) }
+    ensures failing { IfOk result (λ d. failing_calls d ≡ map (λ call. raised call redo.now.size) image.now.failing.items) }
+    ensures asked { IfOk result (λ d. calls_asked d ≡ redo.now.size) }
+{
+    if redo.is_lost {
+        return Err(AllocError);
+    }
+    open_beside(alloc, image, redo)
+}
+
 // A device over a copy of the image, with its redo region.
 fn open_stored(
     alloc: Global,
@@ -257,7 +422,7 @@ fn open_stored(
         return open_copy(alloc, image);
     };
     match redos.get(name) {
-        Some(file) => open_beside(alloc, image, file),
+        Some(file) => open_kept(alloc, image, file),
         None => open_copy(alloc, image),
     }
 }
@@ -294,10 +459,10 @@ impl Watched for MemHost {
 impl Host for MemHost {
     type Dev = MemDevice;
 
-    ghost use Rattle.std.specs.Prelude.{◌==◌, ◌∷◌, IsErrOf, OnErr, IfSome, false};
+    ghost use Rattle.std.specs.Prelude.{◌==◌, ◌∷◌, IsErrOf, OnErr, false};
     ghost use Rattle.blk_device.specs.Causes.{Rose, one_more};
     ghost use Rattle.image_hosts.specs.MemHost.{stored_by, redo_files_by, Awaits, asked_of, failing_behind, failing_by, loans_of};
-    ghost use Rattle.image_hosts.specs.Stored.{Out, Back, Lends, IsAskedFor, asks, image_of, name_of};
+    ghost use Rattle.image_hosts.specs.Stored.{Out, Back, Lends, IsAskedFor, asks, due_of, image_of};
 
     ghost tells = { λ h. true };
 
@@ -359,16 +524,22 @@ impl Host for MemHost {
         };
         // A copy: where there is no memory for it, the image is still there.
         let dev = open_for(alloc, file, &self.redos, redo, purpose)?;
+        let due = due_for(alloc, purpose, redo)?;
+        make_due(alloc, &mut self.redos, &due)?;
+        self.due = due;
         Ok(dev)
     }
 
-    /// Keeps the device's image under this name, and with it which calls are to fail.
+    /// Keeps the device's image under this name, and with it which calls are to fail; and where it was
+    /// asked for to be changed, its redo region in the redo file.
     fn put_back(&mut self, image: &str, dev: MemDevice)
         requires { Awaits self.old image.now }
         ensures lent { Lends (Back dev ∷ []) (loans_of self.old) (loans_of self.new) }
         ensures image { (n : List ℕ) → stored_by self.new n ≡ stored_with image.now
             (image_of ⟦<MemDevice as Device>⟧ dev) (stored_by self.old) n }
-        ensures redo { (n : List ℕ) → redo_files_by self.new n ≡ redo_files_by self.old n }
+        ensures redo { FollowsRedo (due_of (asked_of self.old))
+            (stored_redo (⟦<MemDevice as Device>⟧.content dev) (⟦<MemDevice as Device>⟧.blocks dev))
+            (redo_files_by self.old) (redo_files_by self.new) }
         ensures host { self.new.host_faults ≡ self.old.host_faults }
         ensures devices { self.new.dev_faults ≡ (if ⟦<MemDevice as Device>⟧.faults dev == 0
             then self.old.dev_faults
@@ -378,7 +549,10 @@ impl Host for MemHost {
         ensures sink { self.new.sink_faults ≡ self.old.sink_faults }
         ensures kept { (n : List ℕ) → failing_by self.new n ≡ failing_by self.old n }
     {
+        let mut dev = dev;
         count_failed(&mut self.dev_faults, dev.fault_count());
+        let alloc = *self.asked.allocator();
+        keep_due(alloc, &mut self.redos, &self.due, &mut dev);
         let size = dev.size(Region::Image);
         let blocks = dev.into_image();
         replace_image(&mut self.images, image, size, blocks);

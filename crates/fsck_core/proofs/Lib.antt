@@ -1,0 +1,4 @@
+pub mod OpenLemmas
+pub mod Places
+pub mod SafeLemmas
+pub mod ToldLemmas

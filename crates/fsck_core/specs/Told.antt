@@ -1,0 +1,21 @@
+-- How what an event gives is told.
+use Rattle.std.specs.Prelude.{Bool, Result, Ok, Err}
+use Rattle.core_calls.specs.declared.answers.Answer.{Answer}
+use Rattle.core_calls.specs.declared.answers.Answer.TheVariants.{Done, At, Part, Scrub}
+use Rattle.core_calls.specs.declared.answers.Answer.TheVariants as answers
+use Rattle.core_calls.specs.declared.answers.Moved.{Moved}
+use Rattle.core_calls.specs.declared.answers.Moved.TheVariants as moves
+use Rattle.core_calls.specs.declared.answers.ScrubFault.{ScrubFault}
+
+abbrev pub told_piece : Result Bool ScrubFault → Answer
+told_piece (Ok is_last) = Part is_last
+told_piece (Err fault) = Scrub fault
+
+abbrev pub told_done : {T : Type 0} → Result T ScrubFault → Answer
+told_done (Ok nothing) = Done
+told_done (Err fault) = Scrub fault
+
+abbrev pub told_moved : Result Moved ScrubFault → Answer
+told_moved (Ok (moves.At ino)) = At ino
+told_moved (Ok moves.End) = answers.End
+told_moved (Err fault) = Scrub fault

@@ -1,0 +1,15 @@
+//! The core that repairs, as one value: a device is opened, every event is asked by a plain value, and in
+//! the end the device and the journal come out of it.
+#![tactic(auto)]
+
+mod asks;
+mod calls;
+mod ends;
+mod events;
+mod groups;
+mod opened;
+mod opening;
+
+pub use calls::act;
+pub use ends::{any_sick, into_device};
+pub use opening::open;

@@ -1,0 +1,4 @@
+pub mod EndLemmas
+pub mod InsideLemmas
+pub mod SessionLemmas
+pub mod StopLemmas

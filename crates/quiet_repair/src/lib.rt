@@ -1,0 +1,10 @@
+//! A repair of an image that nobody changes meanwhile: what stands before it, a session over all units,
+//! and the device with the journal behind it.
+#![tactic(auto)]
+
+mod repair;
+mod sessions;
+mod telling;
+
+pub use repair::{Repair, Repaired, repair_device};
+pub use sessions::session;

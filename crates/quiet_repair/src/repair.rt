@@ -1,0 +1,154 @@
+ghost use Rattle.std.specs.Prelude.{◌≡◌, ◌≤◌, IfErr, IfOk};
+ghost use Rattle.blk_device.specs.declared.device.Region.TheVariants.{Image, Redo};
+ghost use Rattle.core_parts.specs.Safe.{IsSafe};
+ghost use Rattle.fsck_core.specs.Opens.{IsBack, IsBegun};
+ghost use Rattle.quiet_repair.specs.Ends.{EndsWell, IsSameRefusal};
+
+use crate::sessions::session;
+use blk_device::Device;
+use byte_fields::Steps;
+use check_watch::Watch;
+use core_calls::{OpenRefused, ScrubFault};
+use core_parts::Parts;
+use fs_derive::Plan;
+use fs_model::Entry;
+use fsck_core::{any_sick, into_device, open};
+use geom::Geometry;
+use redo_area::REDO_BLOCKS;
+use repair_door::{NoEntry, pass_door};
+use std::alloc::Global;
+use std::marker::Brand;
+use std::sync::ledger::{Blank, Ledger};
+
+/// How a repair ended that was begun: its journal; why the session stopped before its last unit, if it
+/// did; and whether a btree is sick at the end (XFS Online Fsck Design, "Metadata Repair").
+#[derive(Drop)]
+pub struct Repaired {
+    pub journal: Vec<Entry>,
+    pub stop: Option<ScrubFault>,
+    pub is_sick: bool,
+}
+
+/// What comes of a repair: it isn't begun, or it ended
+/// (XFS Online Fsck Design, "Metadata Repair").
+#[derive(Drop)]
+pub enum Repair {
+    Refused(NoEntry),
+    Ended(Repaired),
+}
+
+// Why a repair isn't begun whose device isn't opened.
+fn no_entry(refused: OpenRefused) -> NoEntry
+    ensures { IsSameRefusal refused result }
+{
+    match refused {
+        OpenRefused::Group { group, head, fault } => NoEntry::Head { group, head, fault },
+        OpenRefused::Failed => NoEntry::Failed,
+        OpenRefused::Memory => NoEntry::Memory,
+    }
+}
+
+// Opens a device. The ledger is that of its steps.
+fn open_counted<D: Device, L: Ledger>(
+    alloc: Global,
+    dev: D,
+    geo: Geometry,
+    blank: Blank,
+) -> Result<Parts<D>, (D, OpenRefused)>
+    requires image { geo.dblocks ≤ D.blocks dev Image }
+    requires redo { REDO_BLOCKS ≤ D.blocks dev Redo }
+    requires name { blank.name ≡ L.name }
+    requires parts { blank.parts ≡ L.parts }
+    requires three { blank.parts ≡ 3 }
+    ensures safe { IfOk result (IsSafe D.Device) }
+    ensures begun { IfOk result (IsBegun D.Device dev geo) }
+    ensures back { IfErr result (IsBack D.Device dev) }
+{
+    let mut steps = Steps::<L>::new(blank);
+    open(alloc, dev, geo, &mut steps)
+}
+
+// Opens a device, for a caller that counts no steps.
+fn open_quiet<D: Device>(alloc: Global, dev: D, geo: Geometry) -> Result<Parts<D>, (D, OpenRefused)>
+    requires image { geo.dblocks ≤ D.blocks dev Image }
+    requires redo { REDO_BLOCKS ≤ D.blocks dev Redo }
+    ensures safe { IfOk result (IsSafe D.Device) }
+    ensures begun { IfOk result (IsBegun D.Device dev geo) }
+    ensures back { IfErr result (IsBack D.Device dev) }
+{
+    let blank = Blank::new(3);
+    open_counted::<D, Brand>(alloc, dev, geo, blank)
+}
+
+// Judges and rebuilds the units of a device that was opened, and takes the parts apart again.
+#[tactic(auto, using(crate::proofs::EndLemmas::parts_end))]
+fn repair_parts<D: Device, W: Watch>(
+    alloc: Global,
+    parts: Parts<D>,
+    plan: Plan,
+    turns: u32,
+    watch: &mut W,
+) -> (D, Repair)
+    requires safe { IsSafe D.Device parts }
+    ensures sizes { D.blocks result.0 ≡ D.blocks parts.desk.store.dev }
+    ensures later { D.faults parts.desk.store.dev ≤ D.faults result.0 }
+    ensures ends { EndsWell parts.desk.book.begun (D.faults result.0) result.1 }
+{
+    let mut parts = parts;
+    let stop = session(alloc, &mut parts, plan, turns, watch);
+    let is_sick = any_sick(&parts);
+    let (dev, journal) = into_device(parts);
+    (
+        dev,
+        Repair::Ended(Repaired {
+            journal,
+            stop,
+            is_sick,
+        }),
+    )
+}
+
+// Repairs a device whose image may be repaired and has this geometry.
+#[tactic(auto, using(crate::proofs::EndLemmas::ends_on, crate::proofs::EndLemmas::moves_later, crate::proofs::EndLemmas::same_cause))]
+fn repair_passed<D: Device, W: Watch>(
+    alloc: Global,
+    dev: D,
+    geo: Geometry,
+    plan: Plan,
+    turns: u32,
+    watch: &mut W,
+) -> (D, Repair)
+    requires image { geo.dblocks ≤ D.blocks dev Image }
+    requires redo { REDO_BLOCKS ≤ D.blocks dev Redo }
+    ensures sizes { D.blocks result.0 ≡ D.blocks dev }
+    ensures later { D.faults dev ≤ D.faults result.0 }
+    ensures ends { EndsWell (D.faults dev) (D.faults result.0) result.1 }
+{
+    match open_quiet(alloc, dev, geo) {
+        Ok(parts) => repair_parts(alloc, parts, plan, turns, watch),
+        Err((dev, refused)) => (dev, Repair::Refused(no_entry(refused))),
+    }
+}
+
+/// Repairs the image of a device that nobody else changes: a change that waits in the redo region is
+/// finished, superblock and heads are tested, and then the units of all groups are judged, and rebuilt
+/// as the plan says. The device comes back, with the journal of what was found and done
+/// (XFS Online Fsck Design, "Metadata Repair").
+#[tactic(auto, using(crate::proofs::EndLemmas::moves_later, crate::proofs::EndLemmas::room_on))]
+pub fn repair_device<D: Device, W: Watch>(
+    alloc: Global,
+    dev: D,
+    plan: Plan,
+    turns: u32,
+    watch: &mut W,
+) -> (D, Repair)
+    ensures sizes { D.blocks result.0 ≡ D.blocks dev }
+    ensures later { D.faults dev ≤ D.faults result.0 }
+    ensures ends { EndsWell (D.faults dev) (D.faults result.0) result.1 }
+{
+    let mut dev = dev;
+    match pass_door(alloc, &mut dev) {
+        Ok(geo) => repair_passed(alloc, dev, geo, plan, turns, watch),
+        Err(no) => (dev, Repair::Refused(no)),
+    }
+}

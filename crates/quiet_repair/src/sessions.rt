@@ -1,0 +1,183 @@
+ghost use Rattle.std.specs.Prelude.{◌≡◌, if◌then◌else◌};
+ghost use Rattle.core_parts.specs.Keeps.{IsSteady};
+ghost use Rattle.core_parts.specs.Safe.{IsSafe};
+ghost use Rattle.fsck_core.specs.Asks.{MayAsk};
+ghost use Rattle.quiet_repair.specs.Sessions.{EndsFor, GoesOn, IsStopped, Stands};
+ghost use Rattle.scrub_order.specs.Orders.{took_in};
+
+use crate::telling::{tell_passed, tell_started};
+use blk_device::Device;
+use byte_fields::Steps;
+use check_watch::Watch;
+use core_calls::{Answer, Ask, Phase, ScrubFault};
+use core_parts::Parts;
+use fs_derive::Plan;
+use fsck_core::act;
+use scrub_order::Order;
+use std::alloc::Global;
+use std::marker::Brand;
+use std::sync::ledger::{Blank, Ledger};
+
+/// The end of a session: why it stopped before its last unit, if it did.
+#[derive(Clone, Copy, Debug, PartialEq, Eq)]
+pub(crate) struct End {
+    pub(crate) stop: Option<ScrubFault>,
+}
+
+// The order takes an answer, where that may come; else it stays, and the answer is false.
+fn take_answer(order: &mut Order, answer: Answer, phase: Phase) -> bool
+    ensures { order.new ≡ (if result then took_in order.old answer phase else order.old) }
+{
+    if !order.can_take(answer, phase) {
+        return false;
+    }
+    order.took(answer, phase);
+    true
+}
+
+// Does the event that the order asks for, and tells the order what it answered. False where the answer
+// isn't one that may come.
+fn ask_once<D: Device, L: Ledger>(
+    alloc: Global,
+    parts: &mut Parts<D>,
+    order: &mut Order,
+    ask: Ask,
+    steps: &mut Steps<L>,
+) -> bool
+    requires safe { IsSafe D.Device parts.old }
+    requires asked { MayAsk parts.old.desk.store.geo.agcount ask }
+    requires stands { Stands parts.old.desk order.old }
+    ensures on { GoesOn D.Device parts.old parts.new order.new }
+{
+    let told = act(alloc, parts, ask, steps);
+    take_answer(order, told.0, told.1)
+}
+
+// Asks one event, and tells whoever watches.
+fn ask_watched<D: Device, L: Ledger, W: Watch>(
+    alloc: Global,
+    parts: &mut Parts<D>,
+    order: &mut Order,
+    ask: Ask,
+    watch: &mut W,
+    steps: &mut Steps<L>,
+) -> bool
+    requires safe { IsSafe D.Device parts.old }
+    requires asked { MayAsk parts.old.desk.store.geo.agcount ask }
+    requires stands { Stands parts.old.desk order.old }
+    ensures on { GoesOn D.Device parts.old parts.new order.new }
+{
+    tell_started(watch, ask, parts.desk.store.geo.agcount);
+    let before = order.units();
+    let is_taken = ask_once(alloc, parts, order, ask, steps);
+    tell_passed(watch, before, order.units());
+    is_taken
+}
+
+// The event that the order asks for, as one turn of a session. An answer that the order doesn't know, which
+// doesn't come, ends it with Memory.
+fn turn_asked<D: Device, L: Ledger, W: Watch>(
+    alloc: Global,
+    parts: &mut Parts<D>,
+    order: &mut Order,
+    ask: Ask,
+    watch: &mut W,
+    steps: &mut Steps<L>,
+) -> Option<End>
+    requires safe { IsSafe D.Device parts.old }
+    requires asked { MayAsk parts.old.desk.store.geo.agcount ask }
+    requires stands { Stands parts.old.desk order.old }
+    ensures on { GoesOn D.Device parts.old parts.new order.new }
+    ensures end { EndsFor parts.new.desk result }
+{
+    if ask_watched(alloc, parts, order, ask, watch, steps) {
+        return None;
+    }
+    Some(End {
+        stop: Some(ScrubFault::Memory),
+    })
+}
+
+// One turn of a session: the next event, or the end where the order asks nothing more.
+fn turn<D: Device, L: Ledger, W: Watch>(
+    alloc: Global,
+    parts: &mut Parts<D>,
+    order: &mut Order,
+    watch: &mut W,
+    steps: &mut Steps<L>,
+) -> Option<End>
+    requires safe { IsSafe D.Device parts.old }
+    requires stands { Stands parts.old.desk order.old }
+    ensures on { GoesOn D.Device parts.old parts.new order.new }
+    ensures end { EndsFor parts.new.desk result }
+{
+    match order.ask() {
+        Some(ask) => turn_asked(alloc, parts, order, ask, watch, steps),
+        None => Some(End { stop: order.stop() }),
+    }
+}
+
+// A session over all units by its order, to its end. The count of turns has no end that is reached.
+fn run_order<D: Device, L: Ledger, W: Watch>(
+    alloc: Global,
+    parts: &mut Parts<D>,
+    order: Order,
+    watch: &mut W,
+    steps: &mut Steps<L>,
+) -> Option<ScrubFault>
+    requires safe { IsSafe D.Device parts.old }
+    requires stands { Stands parts.old.desk order }
+    ensures safe { IsSafe D.Device parts.new }
+    ensures steady { IsSteady D.Device parts.old.desk parts.new.desk }
+    ensures stop { IsStopped parts.new.desk result }
+{
+    let mut order = order;
+    for _ in 0..u64::MAX {
+        if let Some(end) = turn(alloc, parts, &mut order, watch, steps) {
+            return end.stop;
+        }
+    }
+    Some(ScrubFault::Memory)
+}
+
+// A session. The ledger is that of its steps.
+fn session_counted<D: Device, L: Ledger, W: Watch>(
+    alloc: Global,
+    parts: &mut Parts<D>,
+    order: Order,
+    blank: Blank,
+    watch: &mut W,
+) -> Option<ScrubFault>
+    requires safe { IsSafe D.Device parts.old }
+    requires stands { Stands parts.old.desk order }
+    requires name { blank.name ≡ L.name }
+    requires parts { blank.parts ≡ L.parts }
+    requires three { blank.parts ≡ 3 }
+    ensures safe { IsSafe D.Device parts.new }
+    ensures steady { IsSteady D.Device parts.old.desk parts.new.desk }
+    ensures stop { IsStopped parts.new.desk result }
+{
+    let mut steps = Steps::<L>::new(blank);
+    run_order(alloc, parts, order, watch, &mut steps)
+}
+
+/// Judges the units of all groups in their order, and rebuilds them as the plan says; of the turns no unit
+/// loses one, since there are no writers. Answers why the session stopped before its last unit: a full
+/// journal, a fault of the device, or want of memory; None where every unit has its verdict
+/// (XFS Online Fsck Design, "Metadata Scrubbing" and "Metadata Repair").
+pub fn session<D: Device, W: Watch>(
+    alloc: Global,
+    parts: &mut Parts<D>,
+    plan: Plan,
+    turns: u32,
+    watch: &mut W,
+) -> Option<ScrubFault>
+    requires safe { IsSafe D.Device parts.old }
+    ensures safe { IsSafe D.Device parts.new }
+    ensures steady { IsSteady D.Device parts.old.desk parts.new.desk }
+    ensures stop { IsStopped parts.new.desk result }
+{
+    let order = Order::new(parts.desk.store.geo.agcount, plan, turns);
+    let blank = Blank::new(3);
+    session_counted::<D, Brand, W>(alloc, parts, order, blank, watch)
+}
