@@ -12,7 +12,7 @@ words() {
   expect 'another job' 2 "$usage" look a
   expect 'help' 2 "$usage" --help
   expect 'a repair without a redo file' 2 "$usage" repair a
-  expect 'the job repair' 4 'unbuilt job' repair a --redo b
+  expect 'a repair of no file' 5 'host failed' repair nothing.img --redo b
   expect 'the job run' 4 'unbuilt job' run a --redo b --script c
   expect 'the job drill' 4 'unbuilt job' drill 7
   expect 'the job make with a redo file' 2 "$usage" make a --redo b

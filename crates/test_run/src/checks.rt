@@ -37,7 +37,7 @@ fn words_that_ask_for_no_check_open_no_image(rt: HostRuntime) {
         (&["", "a.img"], 2, USAGE),
         (&["check", "a.img", "--help"], 2, USAGE),
         (&["repair", "a.img"], 2, USAGE),
-        (&["repair", "a.img", "--redo", "b"], 4, "unbuilt job\n"),
+        (&["repair", "a.img", "--redo=b", "--script=c"], 2, USAGE),
         (
             &["run", "a.img", "--redo=b", "--script=c"],
             4,

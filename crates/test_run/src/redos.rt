@@ -20,7 +20,11 @@ fn gate(first: u8) -> Block {
 fn redo_of(alloc: Global, size: u64, first: u8) -> Result<MemRedo, AllocError> {
     let mut blocks = BTreeMap::new(alloc);
     blocks.insert(0, gate(first))?;
-    Ok(MemRedo { size, blocks })
+    Ok(MemRedo {
+        size,
+        blocks,
+        is_lost: false,
+    })
 }
 
 // Checks the image with the redo file `b` beside it.

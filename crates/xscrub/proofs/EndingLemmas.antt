@@ -6,12 +6,13 @@ use Rattle.blk_device.specs.Taken.{Takes, TakesFront, IsFront}
 use Rattle.blk_device.proofs.TakenLemmas.{then, whole_front, takes_nothing}
 use Rattle.xscrub.proofs.ShownLemmas.{told_nothing}
 use Rattle.std.specs.List.{list_all, list_any}
-use Rattle.xscrub.specs.Ending.{IsShown, IsToldOf, IsFoundBy, Decides, EndsFor, HasOutcomeCause, IsSettled, IsOutcome, IsAsked, IsShort, IsOfImage, IsOfMake, IsWorded, IsImageLine, IsToldOrShort, EndsByWords, HasUnitsOf}
-use Rattle.xscrub.specs.Command.{Job, check_of, make_of, unbuilt, usage}
+use Rattle.std.specs.Prelude.{⊤}
+use Rattle.xscrub.specs.Ending.{IsShown, IsToldOf, IsFoundBy, Decides, EndsFor, HasOutcomeCause, IsSettled, IsOutcome, IsAsked, IsShort, IsOfImage, IsOfMake, IsWorded, IsImageLine, IsNoRepairLine, IsOfRepair, EndsForRepair, IsToldOrShort, EndsByWords, HasUnitsOf}
+use Rattle.xscrub.specs.Command.{Job, check_of, repair_of, make_of, unbuilt, usage}
 use Rattle.image_hosts.specs.Stored.{Request}
-use Rattle.xscrub.specs.Units.{HasAllUnits, HasFirstUnits, HasUnits}
+use Rattle.xscrub.specs.Units.{HasAllUnits, HasFirstUnits, HasRepairUnits, HasUnits}
 use Rattle.xscrub.proofs.UnitLemmas.{no_units, all_are_first, most_are_first}
-use Rattle.xscrub.specs.Outcome.{Outcome, is_calm, is_given_up, is_refusal, judged_status, judged_outcome, filled_outcome, made_outcome, stopped_outcome, ended_outcome, outcome_of}
+use Rattle.xscrub.specs.Outcome.{Outcome, is_calm, is_given_up, is_no_repair, is_refusal, judged_status, judged_outcome, repaired_status, repaired_outcome, filled_outcome, made_outcome, stopped_outcome, ended_outcome, outcome_of}
 use Rattle.xscrub.specs.declared.ending.Finding.{Finding}
 use Rattle.xscrub.specs.declared.ending.Finding.TheVariants as findings
 use Rattle.run_text.specs.Report.{report_of}
@@ -114,7 +115,7 @@ told_memory found told journal cut n f g of lt is ends =
 -- ---- from what was found to what is told
 
 -- the cause of a status, along the status
-at_status : (told : Outcome) (s : Status) (h h' d d' k k' : ℕ) → told.status ≡ s → EndsFor s told h h' d d' k k' → HasOutcomeCause told h h' d d' k k'
+at_status : (told : Outcome) (s : Status) (h h' d d' k k' : ℕ) → told.status ≡ s → EndsFor s told h h' d d' k k' → EndsFor told.status told h h' d d' k k'
 at_status told s h h' d d' k k' is ends = subst (λ (t : Status). EndsFor t told h h' d d' k k') (sym is) ends
 
 both_ways : (b : Bool) → (b ≡ true) ⊎ (b ≡ false)
@@ -125,10 +126,10 @@ both_ways false = inr refl
 abbrev status_by : Bool → Bool → Status
 status_by calm given_up = cond calm statuses.Clean (cond given_up statuses.GaveUp statuses.Faulty)
 
-judged_ends : (journal : List Entry) (h h' d d' k k' : ℕ) → h' ≡ h → d' ≡ d → k' ≡ k → HasOutcomeCause (judged_outcome journal) h h' d d' k k'
+judged_ends : (journal : List Entry) (h h' d d' k k' : ℕ) → h' ≡ h → d' ≡ d → k' ≡ k → EndsFor (judged_status journal) (judged_outcome journal) h h' d d' k k'
 judged_ends journal h h' d d' k k' i j l = by_calm (both_ways (list_all is_calm journal))
   where
-    by_given_up : list_all is_calm journal ≡ false → (list_any is_given_up journal ≡ true) ⊎ (list_any is_given_up journal ≡ false) → HasOutcomeCause (judged_outcome journal) h h' d d' k k'
+    by_given_up : list_all is_calm journal ≡ false → (list_any is_given_up journal ≡ true) ⊎ (list_any is_given_up journal ≡ false) → EndsFor (judged_status journal) (judged_outcome journal) h h' d d' k k'
     by_given_up loud (inl given) =
         at_status (judged_outcome journal) statuses.GaveUp h h' d d' k k'
         (ap (λ (b : Bool). status_by b (list_any is_given_up journal)) loud ∙ ap (λ (b : Bool). status_by false b) given) (given, refl, i, j, l)
@@ -136,27 +137,122 @@ judged_ends journal h h' d d' k k' i j l = by_calm (both_ways (list_all is_calm 
         at_status (judged_outcome journal) statuses.Faulty h h' d d' k k'
         (ap (λ (b : Bool). status_by b (list_any is_given_up journal)) loud ∙ ap (λ (b : Bool). status_by false b) none) (loud, none, refl, i, j, l)
 
-    by_calm : (list_all is_calm journal ≡ true) ⊎ (list_all is_calm journal ≡ false) → HasOutcomeCause (judged_outcome journal) h h' d d' k k'
+    by_calm : (list_all is_calm journal ≡ true) ⊎ (list_all is_calm journal ≡ false) → EndsFor (judged_status journal) (judged_outcome journal) h h' d d' k k'
     by_calm (inl calm) =
         at_status (judged_outcome journal) statuses.Clean h h' d d' k k' (ap (λ (b : Bool). status_by b (list_any is_given_up journal)) calm) (calm, refl, i, j, l)
     by_calm (inr loud) = by_given_up loud (both_ways (list_any is_given_up journal))
 
-found_ends : (finding : Finding) (h h' d d' k k' : ℕ) → IsFoundBy finding h h' d d' → ((outcome_of finding).last ≡ None → k' ≡ k) → HasOutcomeCause (outcome_of finding) h h' d d' k k'
-found_ends (findings.Judged journal) h h' d d' k k' cause calm = judged_ends journal.items h h' d d' k k' cause.0 cause.1 (calm refl)
-found_ends (findings.Full journal) h h' d d' k k' cause calm = refl
-found_ends (findings.Refused line) h h' d d' k k' cause calm = (line, refl)
-found_ends findings.Made h h' d d' k k' cause calm = (refl, refl, cause.0, cause.1, calm refl)
-found_ends findings.Usage h h' d d' k k' cause calm = refl
-found_ends (findings.DeviceFailed journal) h h' d d' k k' cause calm = inl (refl, cause)
-found_ends findings.HostFailed h h' d d' k k' cause calm = inr (refl, inl cause)
-found_ends (findings.Memory journal) h h' d d' k k' cause calm = refl
+-- a finding that a check or the making of an image may have, and words alone
+abbrev IsUnrepaired : Finding → Type 0
+IsUnrepaired (findings.Repaired journal sick) = ⊥
+IsUnrepaired finding = ⊤
 
-pub told_cause : (finding : Finding) (told : Outcome) (h h' d d' k k' : ℕ) → IsFoundBy finding h h' d d' → IsToldOf (outcome_of finding) k k' told → HasOutcomeCause told h h' d d' k k'
-told_cause finding told h h' d d' k k' cause (inl same) =
-    subst (λ (o : Outcome). HasOutcomeCause o h h' d d' k k') (sym same.0) (found_ends finding h h' d d' k k' cause same.1)
-told_cause finding told h h' d d' k k' cause (inr (inl failed)) =
-    subst (λ (o : Outcome). HasOutcomeCause o h h' d d' k k') (sym failed.0) (inr (refl, inr failed.1))
-told_cause finding told h h' d d' k k' cause (inr (inr memory)) = at_status told statuses.Memory h h' d d' k k' memory.0 memory.1
+found_ends : (finding : Finding) (h h' d d' k k' : ℕ) → IsUnrepaired finding → IsFoundBy finding h h' d d' → ((outcome_of finding).last ≡ None → k' ≡ k) → EndsFor (outcome_of finding).status (outcome_of finding) h h' d d' k k'
+found_ends (findings.Judged journal) h h' d d' k k' un cause calm = judged_ends journal.items h h' d d' k k' cause.0 cause.1 (calm refl)
+found_ends (findings.Repaired journal sick) h h' d d' k k' un cause calm = absurd un
+found_ends (findings.Full journal) h h' d d' k k' un cause calm = refl
+found_ends (findings.Refused line) h h' d d' k k' un cause calm = (line, refl)
+found_ends findings.Made h h' d d' k k' un cause calm = (refl, refl, cause.0, cause.1, calm refl)
+found_ends findings.Usage h h' d d' k k' un cause calm = refl
+found_ends (findings.DeviceFailed journal) h h' d d' k k' un cause calm = inl (refl, cause)
+found_ends findings.HostFailed h h' d d' k k' un cause calm = inr (refl, inl cause)
+found_ends (findings.Memory journal) h h' d d' k k' un cause calm = refl
+
+quiet_cause : (finding : Finding) (told : Outcome) (h h' d d' k k' : ℕ) → IsUnrepaired finding → IsFoundBy finding h h' d d' → IsToldOf (outcome_of finding) k k' told → EndsFor told.status told h h' d d' k k'
+quiet_cause finding told h h' d d' k k' un cause (inl same) =
+    subst (λ (o : Outcome). EndsFor o.status o h h' d d' k k') (sym same.0) (found_ends finding h h' d d' k k' un cause same.1)
+quiet_cause finding told h h' d d' k k' un cause (inr (inl failed)) =
+    subst (λ (o : Outcome). EndsFor o.status o h h' d d' k k') (sym failed.0) (inr (refl, inr failed.1))
+quiet_cause finding told h h' d d' k k' un cause (inr (inr memory)) = at_status told statuses.Memory h h' d d' k k' memory.0 memory.1
+
+-- ---- of a repair
+
+-- what is said of a status of any run is enough for a repair
+for_repair : (s : Status) (told : Outcome) (h h' d d' k k' : ℕ) → EndsFor s told h h' d d' k k' → EndsForRepair s told h h' d d' k k'
+for_repair statuses.Clean told h h' d d' k k' ends = ends
+for_repair statuses.Faulty told h h' d d' k k' ends = (ends.1, ends.2, ends.3, ends.4, ends.5)
+for_repair statuses.Usage told h h' d d' k k' ends = ends
+for_repair statuses.Refused told h h' d d' k k' ends = ends
+for_repair statuses.Failed told h h' d d' k k' ends = ends
+for_repair statuses.GaveUp told h h' d d' k k' ends = ends
+for_repair statuses.Full told h h' d d' k k' ends = ends
+for_repair statuses.Memory told h h' d d' k k' ends = ends
+
+at_status_repair : (told : Outcome) (s : Status) (h h' d d' k k' : ℕ) → told.status ≡ s → EndsForRepair s told h h' d d' k k' → EndsForRepair told.status told h h' d d' k k'
+at_status_repair told s h h' d d' k k' is ends = subst (λ (t : Status). EndsForRepair t told h h' d d' k k') (sym is) ends
+
+repaired_ends : (journal : List Entry) (sick : Bool) (h h' d d' k k' : ℕ) → h' ≡ h → d' ≡ d → k' ≡ k → EndsForRepair (repaired_status sick journal) (repaired_outcome sick journal) h h' d d' k k'
+repaired_ends journal false h h' d d' k k' i j l = for_repair (judged_status journal) (judged_outcome journal) h h' d d' k k' (judged_ends journal h h' d d' k k' i j l)
+repaired_ends journal true h h' d d' k k' i j l = by_given_up (both_ways (list_any is_given_up journal))
+  where
+    by_given_up : (list_any is_given_up journal ≡ true) ⊎ (list_any is_given_up journal ≡ false) → EndsForRepair (repaired_status true journal) (repaired_outcome true journal) h h' d d' k k'
+    by_given_up (inl given) =
+        at_status_repair (repaired_outcome true journal) statuses.GaveUp h h' d d' k k' (ap (λ (b : Bool). cond b statuses.GaveUp statuses.Faulty) given) (given, refl, i, j, l)
+    by_given_up (inr none) =
+        at_status_repair (repaired_outcome true journal) statuses.Faulty h h' d d' k k' (ap (λ (b : Bool). cond b statuses.GaveUp statuses.Faulty) none) (none, refl, i, j, l)
+
+repair_found_ends : (finding : Finding) (h h' d d' k k' : ℕ) → IsFoundBy finding h h' d d' → ((outcome_of finding).last ≡ None → k' ≡ k) → EndsForRepair (outcome_of finding).status (outcome_of finding) h h' d d' k k'
+repair_found_ends (findings.Judged journal) h h' d d' k k' cause calm =
+    for_repair (judged_status journal.items) (judged_outcome journal.items) h h' d d' k k' (judged_ends journal.items h h' d d' k k' cause.0 cause.1 (calm refl))
+repair_found_ends (findings.Repaired journal sick) h h' d d' k k' cause calm = repaired_ends journal.items sick h h' d d' k k' cause.0 cause.1 (calm refl)
+repair_found_ends (findings.Full journal) h h' d d' k k' cause calm = refl
+repair_found_ends (findings.Refused line) h h' d d' k k' cause calm = (line, refl)
+repair_found_ends findings.Made h h' d d' k k' cause calm = (refl, refl, cause.0, cause.1, calm refl)
+repair_found_ends findings.Usage h h' d d' k k' cause calm = refl
+repair_found_ends (findings.DeviceFailed journal) h h' d d' k k' cause calm = inl (refl, cause)
+repair_found_ends findings.HostFailed h h' d d' k k' cause calm = inr (refl, inl cause)
+repair_found_ends (findings.Memory journal) h h' d d' k k' cause calm = refl
+
+repair_cause : (finding : Finding) (told : Outcome) (h h' d d' k k' : ℕ) → IsFoundBy finding h h' d d' → IsToldOf (outcome_of finding) k k' told → EndsForRepair told.status told h h' d d' k k'
+repair_cause finding told h h' d d' k k' cause (inl same) =
+    subst (λ (o : Outcome). EndsForRepair o.status o h h' d d' k k') (sym same.0) (repair_found_ends finding h h' d d' k k' cause same.1)
+repair_cause finding told h h' d d' k k' cause (inr (inl failed)) =
+    subst (λ (o : Outcome). EndsForRepair o.status o h h' d d' k k') (sym failed.0) (inr (refl, inr failed.1))
+repair_cause finding told h h' d d' k k' cause (inr (inr memory)) = at_status_repair told statuses.Memory h h' d d' k k' memory.0 memory.1
+
+image_unrepaired : (given : Bool) (finding : Finding) → IsOfImage given finding → IsUnrepaired finding
+image_unrepaired given (findings.Judged journal) of = tt
+image_unrepaired given (findings.Repaired journal sick) of = of
+image_unrepaired given (findings.Full journal) of = tt
+image_unrepaired given (findings.Refused line) of = tt
+image_unrepaired given findings.Made of = tt
+image_unrepaired given findings.Usage of = tt
+image_unrepaired given (findings.DeviceFailed journal) of = tt
+image_unrepaired given findings.HostFailed of = tt
+image_unrepaired given (findings.Memory journal) of = tt
+
+make_unrepaired : (finding : Finding) → IsOfMake finding → IsUnrepaired finding
+make_unrepaired (findings.Judged journal) of = tt
+make_unrepaired (findings.Repaired journal sick) of = of
+make_unrepaired (findings.Full journal) of = tt
+make_unrepaired (findings.Refused line) of = tt
+make_unrepaired findings.Made of = tt
+make_unrepaired findings.Usage of = tt
+make_unrepaired (findings.DeviceFailed journal) of = tt
+make_unrepaired findings.HostFailed of = tt
+make_unrepaired (findings.Memory journal) of = tt
+
+short_unrepaired : (finding : Finding) → IsShort finding → IsUnrepaired finding
+short_unrepaired (findings.Judged journal) is = tt
+short_unrepaired (findings.Repaired journal sick) is = is
+short_unrepaired (findings.Full journal) is = tt
+short_unrepaired (findings.Refused line) is = tt
+short_unrepaired findings.Made is = tt
+short_unrepaired findings.Usage is = tt
+short_unrepaired (findings.DeviceFailed journal) is = tt
+short_unrepaired findings.HostFailed is = tt
+short_unrepaired (findings.Memory journal) is = tt
+
+words_unrepaired : (finding wanted : Finding) → IsUnrepaired wanted → (finding ≡ wanted) ⊎ IsShort finding → IsUnrepaired finding
+words_unrepaired finding wanted un (inl same) = subst IsUnrepaired (sym same) un
+words_unrepaired finding wanted un (inr short) = short_unrepaired finding short
+
+pub told_cause : (job : Job) (finding : Finding) (told : Outcome) (h h' d d' k k' : ℕ) → IsWorded job finding → IsFoundBy finding h h' d d' → IsToldOf (outcome_of finding) k k' told → HasOutcomeCause job told h h' d d' k k'
+told_cause usage finding told h h' d d' k k' worded cause ends = quiet_cause finding told h h' d d' k k' (words_unrepaired finding findings.Usage tt worded) cause ends
+told_cause unbuilt finding told h h' d d' k k' worded cause ends = quiet_cause finding told h h' d d' k k' (words_unrepaired finding (findings.Refused lines.Unbuilt) tt worded) cause ends
+told_cause (check_of name redo) finding told h h' d d' k k' worded cause ends = quiet_cause finding told h h' d d' k k' (image_unrepaired (is_some redo) finding worded) cause ends
+told_cause (repair_of name redo plan turns) finding told h h' d d' k k' worded cause ends = repair_cause finding told h h' d d' k k' cause ends
+told_cause (make_of name) finding told h h' d d' k k' worded cause ends = quiet_cause finding told h h' d d' k k' (make_unrepaired finding worded) cause ends
 
 -- a stopped run isn't settled
 unsettled : (s t : Status) → s ≡ t → (IsSettled t → ⊥) → {P : Type 0} → IsSettled s → P
@@ -192,6 +288,7 @@ told_stop told o s journal line k k' stops front (inr (inr memory)) =
 pub told_decided : (decided : Option Outcome) (finding : Finding) (told : Outcome) (k k' : ℕ) → Decides decided finding → IsToldOf (outcome_of finding) k k' told → IfSome decided (IsOutcome told)
 told_decided None finding told k k' decides ends = tt
 told_decided (Some o) (findings.Judged journal) told k k' decides ends = told_same told (judged_outcome journal.items) o k k' decides ends
+told_decided (Some o) (findings.Repaired journal sick) told k k' decides ends = told_same told (repaired_outcome sick journal.items) o k k' decides ends
 told_decided (Some o) (findings.Full journal) told k k' decides ends = told_same told (filled_outcome journal.items) o k k' decides ends
 told_decided (Some o) (findings.Refused line) told k k' decides ends = told_same told (ended_outcome statuses.Refused line) o k k' decides ends
 told_decided (Some o) findings.Made told k k' decides ends = told_same told made_outcome o k k' decides ends
@@ -203,6 +300,7 @@ told_decided (Some o) (findings.Memory journal) told k k' decides ends = told_st
 -- where memory was short as a device was opened, that is told
 told_short : (told : Outcome) (finding : Finding) (k k' : ℕ) → IsShort finding → IsToldOf (outcome_of finding) k k' told → told.status ≡ statuses.Memory
 told_short told (findings.Judged journal) k k' is ends = absurd is
+told_short told (findings.Repaired journal sick) k k' is ends = absurd is
 told_short told (findings.Full journal) k k' is ends = absurd is
 told_short told (findings.Refused line) k k' is ends = absurd is
 told_short told findings.Made k k' is ends = absurd is
@@ -257,6 +355,7 @@ judged_not_usage journal e = either (list_all is_calm journal) (list_any is_give
 
 found_not_usage : (given : Bool) (finding : Finding) → IsOfImage given finding → (outcome_of finding).status ≡ statuses.Usage → ⊥
 found_not_usage given (findings.Judged journal) of e = judged_not_usage journal.items e
+found_not_usage given (findings.Repaired journal sick) of e = of
 found_not_usage given (findings.Full journal) of e = cc
 found_not_usage given (findings.Refused line) of e = cc
 found_not_usage given findings.Made of e = of
@@ -273,6 +372,7 @@ not_unbuilt given line image e = let same : line ≡ lines.Unbuilt = cc in clash
 
 found_not_unbuilt : (given : Bool) (finding : Finding) → IsOfImage given finding → (outcome_of finding).last ≡ Some lines.Unbuilt → ⊥
 found_not_unbuilt given (findings.Judged journal) of e = cc
+found_not_unbuilt given (findings.Repaired journal sick) of e = of
 found_not_unbuilt given (findings.Full journal) of e = cc
 found_not_unbuilt given (findings.Refused line) of e = not_unbuilt given line of e
 found_not_unbuilt given findings.Made of e = of
@@ -301,6 +401,7 @@ judged_not_refused journal e = either (list_all is_calm journal) (list_any is_gi
 
 found_image : (given : Bool) (finding : Finding) → IsOfImage given finding → (outcome_of finding).status ≡ statuses.Refused → IsImageLine given (outcome_of finding).last
 found_image given (findings.Judged journal) of e = absurd (judged_not_refused journal.items e)
+found_image given (findings.Repaired journal sick) of e = absurd of
 found_image given (findings.Full journal) of e = absurd (full_not_refused e)
 found_image given (findings.Refused line) of e = (line, refl, of)
 found_image given findings.Made of e = absurd of
@@ -318,6 +419,7 @@ told_image given finding told k k' of (inr (inr memory)) e = absurd (memory_not_
 -- a finding that there was no memory before the first unit
 short_told : (finding : Finding) (told : Outcome) (k k' : ℕ) → IsShort finding → IsToldOf (outcome_of finding) k k' told → told ≡ ended_outcome statuses.Memory lines.Memory
 short_told (findings.Judged journal) told k k' short ends = absurd short
+short_told (findings.Repaired journal sick) told k k' short ends = absurd short
 short_told (findings.Full journal) told k k' short ends = absurd short
 short_told (findings.Refused line) told k k' short ends = absurd short
 short_told findings.Made told k k' short ends = absurd short
@@ -337,6 +439,7 @@ worded_told finding wanted s line told k k' is fixed (inr short) ends = inr (sho
 -- the making of an image is told as that, or why it was stopped
 made_told : (finding : Finding) (told : Outcome) (k k' : ℕ) → IsOfMake finding → IsToldOf (outcome_of finding) k k' told → (told ≡ made_outcome) ⊎ ((told.journal ≡ []) × (IsSettled told.status → ⊥))
 made_told (findings.Judged journal) told k k' of ends = absurd of
+made_told (findings.Repaired journal sick) told k k' of ends = absurd of
 made_told (findings.Full journal) told k k' of ends = absurd of
 made_told (findings.Refused line) told k k' of ends = absurd of
 made_told findings.Made told k k' of (inl whole) = inl whole.0
@@ -347,12 +450,87 @@ made_told (findings.DeviceFailed journal) told k k' of ends = inr (told_none (ou
 made_told findings.HostFailed told k k' of ends = inr (told_none (outcome_of findings.HostFailed) told k k' refl (λ settled. settled) ends)
 made_told (findings.Memory journal) told k k' of ends = inr (told_none (outcome_of (findings.Memory journal)) told k k' of (λ settled. settled) ends)
 
+-- ---- what the words say of a repair
+
+repaired_not_usage : (journal : List Entry) (sick : Bool) → repaired_status sick journal ≡ statuses.Usage → ⊥
+repaired_not_usage journal false e = judged_not_usage journal e
+repaired_not_usage journal true e = either (list_any is_given_up journal) e
+  where
+    either : (b : Bool) → cond b statuses.GaveUp statuses.Faulty ≡ statuses.Usage → ⊥
+    either true e = cc
+    either false e = cc
+
+repaired_not_refused : (journal : List Entry) (sick : Bool) → repaired_status sick journal ≡ statuses.Refused → ⊥
+repaired_not_refused journal false e = judged_not_refused journal e
+repaired_not_refused journal true e = either (list_any is_given_up journal) e
+  where
+    either : (b : Bool) → cond b statuses.GaveUp statuses.Faulty ≡ statuses.Refused → ⊥
+    either true e = cc
+    either false e = cc
+
+repair_not_usage : (finding : Finding) → IsOfRepair finding → (outcome_of finding).status ≡ statuses.Usage → ⊥
+repair_not_usage (findings.Judged journal) of e = of
+repair_not_usage (findings.Repaired journal sick) of e = repaired_not_usage journal.items sick e
+repair_not_usage (findings.Full journal) of e = cc
+repair_not_usage (findings.Refused line) of e = cc
+repair_not_usage findings.Made of e = of
+repair_not_usage findings.Usage of e = of
+repair_not_usage (findings.DeviceFailed journal) of e = cc
+repair_not_usage findings.HostFailed of e = cc
+repair_not_usage (findings.Memory journal) of e = cc
+
+other_than_unbuilt : (line : LastLine) → is_no_repair line ≡ true → Some line ≡ Some lines.Unbuilt → ⊥
+other_than_unbuilt line refuses e = let same : line ≡ lines.Unbuilt = cc in clash (subst (λ (l : LastLine). is_no_repair l ≡ true) same refuses)
+  where
+    clash : false ≡ true → ⊥
+    clash e = cc
+
+repair_not_unbuilt : (finding : Finding) → IsOfRepair finding → (outcome_of finding).last ≡ Some lines.Unbuilt → ⊥
+repair_not_unbuilt (findings.Judged journal) of e = of
+repair_not_unbuilt (findings.Repaired journal sick) of e = cc
+repair_not_unbuilt (findings.Full journal) of e = cc
+repair_not_unbuilt (findings.Refused line) of e = other_than_unbuilt line of e
+repair_not_unbuilt findings.Made of e = of
+repair_not_unbuilt findings.Usage of e = of
+repair_not_unbuilt (findings.DeviceFailed journal) of e = cc
+repair_not_unbuilt findings.HostFailed of e = cc
+repair_not_unbuilt (findings.Memory journal) of e = cc
+
+repair_refused : (finding : Finding) → IsOfRepair finding → (outcome_of finding).status ≡ statuses.Refused → IsNoRepairLine (outcome_of finding).last
+repair_refused (findings.Judged journal) of e = absurd of
+repair_refused (findings.Repaired journal sick) of e = absurd (repaired_not_refused journal.items sick e)
+repair_refused (findings.Full journal) of e = absurd (full_not_refused e)
+repair_refused (findings.Refused line) of e = (line, refl, of)
+repair_refused findings.Made of e = absurd of
+repair_refused findings.Usage of e = absurd of
+repair_refused (findings.DeviceFailed journal) of e = absurd (failed_not_refused e)
+repair_refused findings.HostFailed of e = absurd (failed_not_refused e)
+repair_refused (findings.Memory journal) of e = absurd (memory_not_refused e)
+
+told_not_usage_repair : (finding : Finding) (told : Outcome) (k k' : ℕ) → IsOfRepair finding → IsToldOf (outcome_of finding) k k' told → told.status ≡ statuses.Usage → ⊥
+told_not_usage_repair finding told k k' of (inl whole) e = repair_not_usage finding of (ap (λ (q : Outcome). q.status) (sym whole.0) ∙ e)
+told_not_usage_repair finding told k k' of (inr (inl failed)) e = let clash : statuses.Failed ≡ statuses.Usage = ap (λ (q : Outcome). q.status) (sym failed.0) ∙ e in cc
+told_not_usage_repair finding told k k' of (inr (inr memory)) e = let clash : statuses.Memory ≡ statuses.Usage = sym memory.0 ∙ e in cc
+
+told_not_unbuilt_repair : (finding : Finding) (told : Outcome) (k k' : ℕ) → IsOfRepair finding → IsToldOf (outcome_of finding) k k' told → told.last ≡ Some lines.Unbuilt → ⊥
+told_not_unbuilt_repair finding told k k' of (inl whole) e = repair_not_unbuilt finding of (ap (λ (q : Outcome). q.last) (sym whole.0) ∙ e)
+told_not_unbuilt_repair finding told k k' of (inr (inl failed)) e = let clash : Some lines.HostFailed ≡ Some lines.Unbuilt = ap (λ (q : Outcome). q.last) (sym failed.0) ∙ e in cc
+told_not_unbuilt_repair finding told k k' of (inr (inr memory)) e = let clash : Some lines.Memory ≡ Some lines.Unbuilt = sym memory.1 ∙ e in cc
+
+told_no_repair : (finding : Finding) (told : Outcome) (k k' : ℕ) → IsOfRepair finding → IsToldOf (outcome_of finding) k k' told → told.status ≡ statuses.Refused → IsNoRepairLine told.last
+told_no_repair finding told k k' of (inl whole) e =
+    subst (λ (o : Outcome). IsNoRepairLine o.last) (sym whole.0) (repair_refused finding of (ap (λ (q : Outcome). q.status) (sym whole.0) ∙ e))
+told_no_repair finding told k k' of (inr (inl failed)) e = absurd (failed_not_refused (ap (λ (q : Outcome). q.status) (sym failed.0) ∙ e))
+told_no_repair finding told k k' of (inr (inr memory)) e = absurd (memory_not_refused (sym memory.0 ∙ e))
+
 pub told_by_words : (job : Job) (finding : Finding) (told : Outcome) (k k' : ℕ) → IsWorded job finding → IsToldOf (outcome_of finding) k k' told → EndsByWords job told
 told_by_words usage finding told k k' worded ends = worded_told finding findings.Usage statuses.Usage lines.Usage told k k' refl refl worded ends
 told_by_words unbuilt finding told k k' worded ends =
     worded_told finding (findings.Refused lines.Unbuilt) statuses.Refused lines.Unbuilt told k k' refl refl worded ends
 told_by_words (check_of name redo) finding told k k' worded ends =
     (told_not_usage (is_some redo) finding told k k' worded ends, told_not_unbuilt (is_some redo) finding told k k' worded ends, told_image (is_some redo) finding told k k' worded ends)
+told_by_words (repair_of name redo plan turns) finding told k k' worded ends =
+    (told_not_usage_repair finding told k k' worded ends, told_not_unbuilt_repair finding told k k' worded ends, told_no_repair finding told k k' worded ends)
 told_by_words (make_of name) finding told k k' worded ends = made_told finding told k k' worded ends
 
 -- ---- the units of a journal
@@ -367,6 +545,7 @@ judged_units journal all = either (list_all is_calm journal) (list_any is_given_
 
 found_units : (given : Bool) (finding : Finding) → IsOfImage given finding → HasUnits (outcome_of finding).status (outcome_of finding).journal
 found_units given (findings.Judged journal) of = judged_units journal.items of
+found_units given (findings.Repaired journal sick) of = absurd of
 found_units given (findings.Full journal) of = of
 found_units given (findings.Refused line) of = tt
 found_units given findings.Made of = absurd of
@@ -377,6 +556,7 @@ found_units given (findings.Memory journal) of = (journal.items, of, ([], sym (a
 
 found_first : (given : Bool) (finding : Finding) → IsOfImage given finding → HasFirstUnits (outcome_of finding).journal
 found_first given (findings.Judged journal) of = all_are_first journal.items of
+found_first given (findings.Repaired journal sick) of = absurd of
 found_first given (findings.Full journal) of = most_are_first journal.items of
 found_first given (findings.Refused line) of = no_units
 found_first given findings.Made of = no_units
@@ -387,6 +567,7 @@ found_first given (findings.Memory journal) of = of
 
 short_of_image : (given : Bool) (finding : Finding) → IsShort finding → IsOfImage given finding
 short_of_image given (findings.Judged journal) short = absurd short
+short_of_image given (findings.Repaired journal sick) short = absurd short
 short_of_image given (findings.Full journal) short = absurd short
 short_of_image given (findings.Refused line) short = absurd short
 short_of_image given findings.Made short = absurd short
@@ -397,6 +578,7 @@ short_of_image given (findings.Memory journal) short = subst HasFirstUnits (sym 
 
 short_of_make : (finding : Finding) → IsShort finding → IsOfMake finding
 short_of_make (findings.Judged journal) short = absurd short
+short_of_make (findings.Repaired journal sick) short = absurd short
 short_of_make (findings.Full journal) short = absurd short
 short_of_make (findings.Refused line) short = absurd short
 short_of_make findings.Made short = absurd short
@@ -405,11 +587,23 @@ short_of_make (findings.DeviceFailed journal) short = absurd short
 short_of_make findings.HostFailed short = absurd short
 short_of_make (findings.Memory journal) short = short
 
+short_of_repair : (finding : Finding) → IsShort finding → IsOfRepair finding
+short_of_repair (findings.Judged journal) short = absurd short
+short_of_repair (findings.Repaired journal sick) short = absurd short
+short_of_repair (findings.Full journal) short = absurd short
+short_of_repair (findings.Refused line) short = absurd short
+short_of_repair findings.Made short = absurd short
+short_of_repair findings.Usage short = absurd short
+short_of_repair (findings.DeviceFailed journal) short = absurd short
+short_of_repair findings.HostFailed short = absurd short
+short_of_repair (findings.Memory journal) short = tt
+
 -- there was no memory for the words
 pub short_worded : (job : Job) (finding : Finding) → IsShort finding → IsWorded job finding
 short_worded usage finding short = inr short
 short_worded unbuilt finding short = inr short
 short_worded (check_of name redo) finding short = short_of_image (is_some redo) finding short
+short_worded (repair_of name redo plan turns) finding short = short_of_repair finding short
 short_worded (make_of name) finding short = short_of_make finding short
 
 -- words alone have no units
@@ -434,10 +628,41 @@ no_made_units : (told : Outcome) → (told ≡ made_outcome) ⊎ ((told.journal 
 no_made_units told (inl made) = ap (λ (o : Outcome). o.journal) made
 no_made_units told (inr stopped) = stopped.0
 
+-- a repair has a full journal only with so many entries
+repaired_units : (journal : List Entry) (sick : Bool) → HasRepairUnits (repaired_status sick journal) journal
+repaired_units journal false = either (list_all is_calm journal) (list_any is_given_up journal)
+  where
+    either : (a b : Bool) → HasRepairUnits (status_by a b) journal
+    either true b = tt
+    either false true = tt
+    either false false = tt
+repaired_units journal true = either (list_any is_given_up journal)
+  where
+    either : (b : Bool) → HasRepairUnits (cond b statuses.GaveUp statuses.Faulty) journal
+    either true = tt
+    either false = tt
+
+found_repair_units : (finding : Finding) → IsOfRepair finding → HasRepairUnits (outcome_of finding).status (outcome_of finding).journal
+found_repair_units (findings.Judged journal) of = absurd of
+found_repair_units (findings.Repaired journal sick) of = repaired_units journal.items sick
+found_repair_units (findings.Full journal) of = of
+found_repair_units (findings.Refused line) of = tt
+found_repair_units findings.Made of = absurd of
+found_repair_units findings.Usage of = absurd of
+found_repair_units (findings.DeviceFailed journal) of = tt
+found_repair_units findings.HostFailed of = tt
+found_repair_units (findings.Memory journal) of = tt
+
+told_repair_units : (finding : Finding) (told : Outcome) (k k' : ℕ) → IsOfRepair finding → IsToldOf (outcome_of finding) k k' told → HasRepairUnits told.status told.journal
+told_repair_units finding told k k' of (inl whole) = subst (λ (o : Outcome). HasRepairUnits o.status o.journal) (sym whole.0) (found_repair_units finding of)
+told_repair_units finding told k k' of (inr (inl failed)) = subst (λ (o : Outcome). HasRepairUnits o.status o.journal) (sym failed.0) tt
+told_repair_units finding told k k' of (inr (inr memory)) = subst (λ (s : Status). HasRepairUnits s told.journal) (sym memory.0) tt
+
 pub told_units : (job : Job) (finding : Finding) (told : Outcome) (k k' : ℕ) → IsWorded job finding → IsToldOf (outcome_of finding) k k' told → HasUnitsOf job told.status told.journal
 told_units usage finding told k k' worded ends =
     units_told finding told k k' (no_words_units finding findings.Usage tt worded) (no_words_first finding findings.Usage no_units worded) ends
 told_units unbuilt finding told k k' worded ends =
     units_told finding told k k' (no_words_units finding (findings.Refused lines.Unbuilt) tt worded) (no_words_first finding (findings.Refused lines.Unbuilt) no_units worded) ends
 told_units (check_of name redo) finding told k k' worded ends = units_told finding told k k' (found_units (is_some redo) finding worded) (found_first (is_some redo) finding worded) ends
+told_units (repair_of name redo plan turns) finding told k k' worded ends = told_repair_units finding told k k' worded ends
 told_units (make_of name) finding told k k' worded ends = no_made_units told (made_told finding told k k' worded ends)

@@ -1,5 +1,5 @@
 -- The device that is handed out for a check, and comes back.
-use Rattle.std.proofs.Common.{◌≡◌, ℕ, Bool, true, false, List, [], ◌∷◌, ◌++◌, Option, Some, None, is_some, Result, IfSome, cond, if◌then◌else◌, inl, inr, refl, sym, ◌∙◌, ap, subst, append_assoc, append-nil, arith}
+use Rattle.std.proofs.Common.{◌≡◌, ◌⊎◌, ℕ, Bool, true, false, List, [], ◌∷◌, ◌++◌, Option, Some, None, is_some, Result, IfSome, cond, if◌then◌else◌, inl, inr, refl, sym, ◌∙◌, ap, subst, append_assoc, append-nil, arith}
 use Rattle.std.proofs.lemmas.Slice.Eq.{bytes_eq-Decides}
 use Rattle.std.specs.Borrow.{Bor}
 use Rattle.std.specs.Global.{Vec}
@@ -16,13 +16,13 @@ use Rattle.blk_device.specs.declared.device.Region.TheVariants.{Image, Redo}
 use Rattle.fs_model.specs.declared.entry.Entry.{Entry}
 use Rattle.fresh_image.specs.Written.{AllButFresh, BecomesFresh, OthersStay}
 use Rattle.image_check.specs.Image.{ReadsForEvents}
-use Rattle.xscrub.specs.Command.{Job, check_of, make_of, unbuilt, usage}
-use Rattle.xscrub.specs.Ending.{CameBack, EndsUnopened, IsFreshFile, IsWorded, FindsBy, IsOfMake, IsSettled, IsToldOf, IsUnopened, LeavesStored, MakesImage, TellsBy, WasMade}
+use Rattle.xscrub.specs.Command.{Job, check_of, repair_of, make_of, unbuilt, usage}
+use Rattle.xscrub.specs.Ending.{CameBack, EndsUnopened, IsFreshFile, IsWorded, FindsBy, IsOfMake, IsSettled, IsToldOf, IsUnopened, LeavesRedos, LeavesStored, MakesImage, TellsBy, WasMade}
 use Rattle.xscrub.proofs.EndingLemmas.{told_none}
 use Rattle.xscrub.specs.Image.{device_events}
 use Rattle.xscrub.specs.Judged.{ReadsForDevice, journal_in}
 use Rattle.xscrub.specs.Outcome.{Outcome, outcome_of}
-use Rattle.image_hosts.specs.Stored.{Stored, Loan, Out, Back, Lends, IsNew, IsOpened, redo_named, stored_image, stored_with}
+use Rattle.image_hosts.specs.Stored.{Stored, Loan, Out, Back, HoldsRedo, Lends, IsNew, IsOpened, redo_named, stored_image, stored_redo, stored_with}
 use Rattle.xscrub.specs.declared.ending.Finding.{Finding}
 use Rattle.xscrub.specs.declared.ending.Finding.TheVariants as findings
 use Rattle.xscrub.specs.declared.ending.Status.{Status}
@@ -30,7 +30,7 @@ use Rattle.xscrub.specs.declared.ending.Status.TheVariants as statuses
 use Rattle.xscrub.specs.declared.judging.JudgeFault.{JudgeFault}
 use Rattle.xscrub.specs.declared.judging.Judgement.{Judgement}
 
-lent_both : {D : Type 0} (dev back : D) (a b c : Option (List (Loan D))) → Lends (Out dev ∷ []) a b → Lends (Back back ∷ []) b c → Lends (Out dev ∷ Back back ∷ []) a c
+pub lent_both : {D : Type 0} (dev back : D) (a b c : Option (List (Loan D))) → Lends (Out dev ∷ []) a b → Lends (Back back ∷ []) b c → Lends (Out dev ∷ Back back ∷ []) a c
 lent_both dev back None None None h k = tt
 lent_both dev back None None (Some c) h k = absurd k
 lent_both dev back None (Some b) c h k = absurd h
@@ -54,10 +54,11 @@ came_back g given file redo a b c dev back result journal out home opened same c
 }
 
 -- there was no memory before a device was asked for
-pub short_finds : {D : Type 0} (g : Ghosts D) (job : Job) (stored redos : List ℕ → Option Stored) (a b : Option (List (Loan D))) (finding : Finding) → IsUnopened finding → b ≡ a → FindsBy g job stored redos a b finding
+pub short_finds : {D : Type 0} (g : Ghosts D) (job : Job) (stored redos : List ℕ → Option Stored) (a b : Option (List (Loan D))) (finding : Finding) → IsUnopened finding → b ≡ a → FindsBy g job stored redos stored redos a b finding
 short_finds g usage stored redos a b finding is same = same
 short_finds g unbuilt stored redos a b finding is same = same
 short_finds g (check_of name redo) stored redos a b finding is same = inl (is, same)
+short_finds g (repair_of name redo plan turns) stored redos a b finding is same = inl (is, same, record { images = λ n. refl; redo_files = λ n. refl })
 short_finds g (make_of name) stored redos a b finding is same = inl (is, same)
 
 -- a device that a new image was written to, and that was put back
@@ -80,6 +81,7 @@ was_made g a b c dev back done out home size written durable others crash = reco
 
 unopened_none : (finding : Finding) → IsUnopened finding → (outcome_of finding).journal ≡ []
 unopened_none (findings.Judged journal) is = absurd is
+unopened_none (findings.Repaired journal sick) is = absurd is
 unopened_none (findings.Full journal) is = absurd is
 unopened_none (findings.Refused line) is = absurd is
 unopened_none findings.Made is = absurd is
@@ -90,6 +92,7 @@ unopened_none (findings.Memory journal) is = is
 
 unopened_stops : (finding : Finding) → IsUnopened finding → IsSettled (outcome_of finding).status → ⊥
 unopened_stops (findings.Judged journal) is settled = absurd is
+unopened_stops (findings.Repaired journal sick) is settled = absurd is
 unopened_stops (findings.Full journal) is settled = absurd is
 unopened_stops (findings.Refused line) is settled = absurd is
 unopened_stops findings.Made is settled = absurd is
@@ -110,6 +113,7 @@ not_clean s stops clean = stops (subst IsSettled (sym clean) tt)
 -- the run is clean only where the image was written
 pub clean_made : (finding : Finding) (told : Outcome) (k k' : ℕ) → IsOfMake finding → IsToldOf (outcome_of finding) k k' told → told.status ≡ statuses.Clean → finding ≡ findings.Made
 clean_made (findings.Judged journal) told k k' of ends clean = absurd of
+clean_made (findings.Repaired journal sick) told k k' of ends clean = absurd of
 clean_made (findings.Full journal) told k k' of ends clean = absurd of
 clean_made (findings.Refused line) told k k' of ends clean = absurd of
 clean_made findings.Made told k k' of ends clean = refl
@@ -127,6 +131,7 @@ fixed_clash e = cc
 -- it is neither clean nor ended by a failed device only where none was handed out
 pub unopened_so : (finding : Finding) (told : Outcome) (k k' : ℕ) → IsOfMake finding → IsToldOf (outcome_of finding) k k' told → EndsUnopened told → IsUnopened finding
 unopened_so (findings.Judged journal) told k k' of ends is = absurd of
+unopened_so (findings.Repaired journal sick) told k k' of ends is = absurd of
 unopened_so (findings.Full journal) told k k' of ends is = absurd of
 unopened_so (findings.Refused line) told k k' of ends is = absurd of
 unopened_so findings.Made told k k' of (inl whole) is = is.0 (ap (λ (o : Outcome). o.status) whole.0)
@@ -144,6 +149,7 @@ pub short_leaves : (job : Job) (tells : Bool) (journal : Vec Entry) (unopened : 
 short_leaves usage tells journal unopened stored = λ n. refl
 short_leaves unbuilt tells journal unopened stored = λ n. refl
 short_leaves (check_of name redo) tells journal unopened stored = λ n. refl
+short_leaves (repair_of name redo plan turns) tells journal unopened stored = λ n apart. refl
 short_leaves (make_of name) tells journal unopened stored = record { others = λ n apart. refl; fresh_one = λ made. absurd (clash made); kept = λ is n. refl }
   where
     clash : findings.Memory journal ≡ findings.Made → ⊥
@@ -187,11 +193,28 @@ pub told_stored : (job : Job) (tells : Bool) (finding : Finding) (told : Outcome
 told_stored usage tells finding told k k' stored stored' stored'' worded ends leaves same = λ n. same n ∙ leaves n
 told_stored unbuilt tells finding told k k' stored stored' stored'' worded ends leaves same = λ n. same n ∙ leaves n
 told_stored (check_of name redo) tells finding told k k' stored stored' stored'' worded ends leaves same = λ n. same n ∙ leaves n
+told_stored (repair_of name redo plan turns) tells finding told k k' stored stored' stored'' worded ends leaves same = λ n apart. same n ∙ leaves n apart
 told_stored (make_of name) tells finding told k k' stored stored' stored'' worded ends leaves same = record {
   others = λ n apart. same n ∙ leaves.others n apart;
   fresh_one = λ clean so. subst IsFreshFile (sym (same name)) (leaves.fresh_one (clean_made finding told k k' worded ends clean) so);
   kept = λ is n. same n ∙ leaves.kept (unopened_so finding told k k' worded ends is) n;
 }
+
+-- and of the redo files
+pub told_redos : (job : Job) (redos redos' redos'' : List ℕ → Option Stored) → LeavesRedos job redos redos' → ((n : List ℕ) → redos'' n ≡ redos' n) → LeavesRedos job redos redos''
+told_redos usage redos redos' redos'' leaves same = λ n. same n ∙ leaves n
+told_redos unbuilt redos redos' redos'' leaves same = λ n. same n ∙ leaves n
+told_redos (check_of name redo) redos redos' redos'' leaves same = λ n. same n ∙ leaves n
+told_redos (repair_of name redo plan turns) redos redos' redos'' leaves same = λ n apart. same n ∙ leaves n apart
+told_redos (make_of name) redos redos' redos'' leaves same = λ n. same n ∙ leaves n
+
+-- all redo files stay
+pub all_redos : (job : Job) (redos redos' : List ℕ → Option Stored) → ((n : List ℕ) → redos' n ≡ redos n) → LeavesRedos job redos redos'
+all_redos usage redos redos' same = same
+all_redos unbuilt redos redos' same = same
+all_redos (check_of name redo) redos redos' same = same
+all_redos (repair_of name redo plan turns) redos redos' same = λ n apart. same n
+all_redos (make_of name) redos redos' same = same
 
 same_front : (told found : List Entry) → told ≡ found → IsFront told found
 same_front told found same = ([], sym same ∙ sym (append-nil told))
@@ -203,13 +226,34 @@ told_front found told k k' (inr (inl failed)) =
     let same : told.journal ≡ found.journal = ap (λ (o : Outcome). o.journal) failed.0 in (same_front told.journal found.journal same, λ other. same)
 told_front found told k k' (inr (inr memory)) = (memory.2, λ other. absurd (other memory.0))
 
-pub told_by : {D : Type 0} (g : Ghosts D) (job : Job) (stored redos : List ℕ → Option Stored) (a b c : Option (List (Loan D))) (finding : Finding) (told : Outcome) (k k' : ℕ)
-    → FindsBy g job stored redos a b finding → c ≡ b → IsWorded job finding → IsToldOf (outcome_of finding) k k' told → TellsBy g job stored redos a c told
-told_by g usage stored redos a b c finding told k k' found same worded ends = same ∙ found
-told_by g unbuilt stored redos a b c finding told k k' found same worded ends = same ∙ found
-told_by g (make_of name) stored redos a b c finding told k k' (inl none) same worded ends =
+holds_on : (name : List ℕ) (held : Option Stored) (old mid new : List ℕ → Option Stored) → HoldsRedo name held old mid → ((n : List ℕ) → new n ≡ mid n) → HoldsRedo name held old new
+holds_on name held old mid new holds same = record { others = λ n apart. same n ∙ holds.others n apart; one = by_one holds.one }
+  where
+    by_one : (mid name ≡ held) ⊎ (mid name ≡ None) → (new name ≡ held) ⊎ (new name ≡ None)
+    by_one (inl is) = inl (same name ∙ is)
+    by_one (inr none) = inr (same name ∙ none)
+
+pub told_by : {D : Type 0} (g : Ghosts D) (job : Job) (stored redos stored' redos' stored'' redos'' : List ℕ → Option Stored) (a b c : Option (List (Loan D))) (finding : Finding) (told : Outcome) (k k' : ℕ)
+    → FindsBy g job stored redos stored' redos' a b finding → c ≡ b → ((n : List ℕ) → stored'' n ≡ stored' n) → ((n : List ℕ) → redos'' n ≡ redos' n) → IsWorded job finding → IsToldOf (outcome_of finding) k k' told
+    → TellsBy g job stored redos stored'' redos'' a c told
+told_by g usage stored redos stored' redos' stored'' redos'' a b c finding told k k' found same ss rs worded ends = same ∙ found
+told_by g unbuilt stored redos stored' redos' stored'' redos'' a b c finding told k k' found same ss rs worded ends = same ∙ found
+told_by g (repair_of name redo plan turns) stored redos stored' redos' stored'' redos'' a b c finding told k k' (inl none) same ss rs worded ends =
+    let is = told_unopened finding told k k' none.0 ends in inl (same ∙ none.1, is.0, is.1, record { images = λ n. ss n ∙ none.2.images n; redo_files = λ n. rs n ∙ none.2.redo_files n })
+told_by {D = D} g (repair_of name redo plan turns) stored redos stored' redos' stored'' redos'' a b c finding told k k' (inr was) same ss rs worded ends =
+    inr (record {
+      dev = was.dev;
+      back = was.back;
+      lent = subst (λ (l : Option (List (Loan D))). Lends (Out was.dev ∷ Back was.back ∷ []) a l) (sym same) was.lent;
+      opened_so = was.opened_so;
+      sizes = was.sizes;
+      later = was.later;
+      image = ss name ∙ was.image;
+      redo_file = holds_on redo (stored_redo (g.content was.back) (g.blocks was.back)) redos redos' redos'' was.redo_file rs;
+    })
+told_by g (make_of name) stored redos stored' redos' stored'' redos'' a b c finding told k k' (inl none) same ss rs worded ends =
     let is = told_unopened finding told k k' none.0 ends in inl (same ∙ none.1, is.0, is.1)
-told_by {D = D} g (make_of name) stored redos a b c finding told k k' (inr made) same worded ends =
+told_by {D = D} g (make_of name) stored redos stored' redos' stored'' redos'' a b c finding told k k' (inr made) same ss rs worded ends =
     inr (record {
       dev = made.dev;
       back = made.back;
@@ -220,9 +264,9 @@ told_by {D = D} g (make_of name) stored redos a b c finding told k k' (inr made)
       others = made.others;
       crash = made.crash;
     })
-told_by g (check_of name redo) stored redos a b c finding told k k' (inl none) same worded ends =
+told_by g (check_of name redo) stored redos stored' redos' stored'' redos'' a b c finding told k k' (inl none) same ss rs worded ends =
     let is = told_unopened finding told k k' none.0 ends in inl (same ∙ none.1, is.0, is.1)
-told_by {D = D} g (check_of name redo) stored redos a b c finding told k k' (inr came) same worded ends =
+told_by {D = D} g (check_of name redo) stored redos stored' redos' stored'' redos'' a b c finding told k k' (inr came) same ss rs worded ends =
     let is = told_front (outcome_of finding) told k k' ends in
     inr ((outcome_of finding).journal, subst (λ (l : Option (List (Loan D))). CameBack g (is_some redo) (stored name) (redo_named redos redo) a l (outcome_of finding).journal) (sym same) came, is.0, is.1)
 

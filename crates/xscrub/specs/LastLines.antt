@@ -10,8 +10,10 @@ use Rattle.geom.specs.declared.fault.ImageFault.TheVariants as images
 use Rattle.run_text.specs.Lines.{line_from, spaced}
 use Rattle.xscrub.specs.declared.last_lines.RedoRefusal.{RedoRefusal}
 use Rattle.xscrub.specs.declared.last_lines.RedoRefusal.TheVariants as redos
+use Rattle.xscrub.specs.declared.last_lines.BatchRefusal.{BatchRefusal}
+use Rattle.xscrub.specs.declared.last_lines.BatchRefusal.TheVariants as batches
 use Rattle.xscrub.specs.declared.last_lines.LastLine.{LastLine}
-use Rattle.xscrub.specs.declared.last_lines.LastLine.TheVariants.{Usage, Unbuilt, Redo, Image, Head, DeviceFailed, HostFailed, JournalFull, Memory}
+use Rattle.xscrub.specs.declared.last_lines.LastLine.TheVariants.{Usage, Unbuilt, Redo, Batch, Image, Head, Trees, DeviceFailed, HostFailed, JournalFull, Memory}
 
 abbrev pub head_name : GroupHead → List ℕ
 head_name Agf = codes "agf"
@@ -43,12 +45,19 @@ abbrev pub redo_word : RedoRefusal → List ℕ
 redo_word redos.Short = codes "short"
 redo_word redos.Waiting = codes "waiting"
 
+abbrev pub batch_word : BatchRefusal → List ℕ
+batch_word batches.Count = codes "count"
+batch_word batches.Size = codes "size"
+batch_word batches.Place = codes "place"
+
 abbrev pub last_words : LastLine → List (List ℕ)
 last_words Usage = codes "usage: xscrub JOB TARGET [--redo FILE] [--script FILE] [--rebuild] [--turns N]" ∷ []
 last_words Unbuilt = codes "unbuilt job" ∷ []
 last_words (Redo refusal) = codes "redo" ∷ redo_word refusal ∷ []
+last_words (Batch refusal) = codes "redo" ∷ batch_word refusal ∷ []
 last_words (Image fault) = codes "image" ∷ image_fault_words fault
 last_words (Head group head fault) = codes "group" ∷ decimal group ∷ head_name head ∷ head_fault_text fault ∷ []
+last_words Trees = codes "unbuilt trees" ∷ []
 last_words DeviceFailed = codes "device failed" ∷ []
 last_words HostFailed = codes "host failed" ∷ []
 last_words JournalFull = codes "journal full" ∷ []

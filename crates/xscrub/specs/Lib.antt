@@ -4,6 +4,7 @@ pub mod Image
 pub mod Judged
 pub mod LastLines
 pub mod Outcome
+pub mod Repairs
 pub mod Run
 pub mod Shown
 pub mod Units

@@ -11,6 +11,7 @@ use Rattle.xscrub.specs.declared.ending.Status.{Status}
 use Rattle.xscrub.specs.declared.ending.Status.TheVariants as statuses
 use Rattle.xscrub.specs.declared.last_lines.LastLine.{LastLine}
 use Rattle.xscrub.specs.declared.last_lines.LastLine.TheVariants as lines
+use Rattle.xscrub.specs.declared.last_lines.RedoRefusal.TheVariants as redos
 
 pub record Outcome : Type 0 where
   pub status : Status
@@ -63,6 +64,14 @@ judged_status journal =
 abbrev pub judged_outcome : List Entry → Outcome
 judged_outcome journal = record { status = judged_status journal; journal = journal; last = None }
 
+-- of a repair: also faulty where a btree is sick at the end
+abbrev pub repaired_status : (sick : Bool) → List Entry → Status
+repaired_status true journal = if list_any is_given_up journal then statuses.GaveUp else statuses.Faulty
+repaired_status false journal = judged_status journal
+
+abbrev pub repaired_outcome : Bool → List Entry → Outcome
+repaired_outcome sick journal = record { status = repaired_status sick journal; journal = journal; last = None }
+
 -- an end before the last unit, with the journal so far and a line that says why
 abbrev pub stopped_outcome : Status → List Entry → LastLine → Outcome
 stopped_outcome status journal line = record { status = status; journal = journal; last = Some line }
@@ -86,6 +95,8 @@ is_image_line (lines.Head group head fault) = true
 is_image_line lines.Usage = false
 is_image_line lines.Unbuilt = false
 is_image_line (lines.Redo refusal) = false
+is_image_line (lines.Batch refusal) = false
+is_image_line lines.Trees = false
 is_image_line lines.DeviceFailed = false
 is_image_line lines.HostFailed = false
 is_image_line lines.JournalFull = false
@@ -96,8 +107,17 @@ abbrev pub is_refusal : Bool → LastLine → Bool
 is_refusal given (lines.Redo refusal) = given
 is_refusal given line = is_image_line line
 
+-- a line that refuses a repair: of the image, of the redo file, of the change that waits in it, or of large trees
+abbrev pub is_no_repair : LastLine → Bool
+is_no_repair (lines.Redo redos.Short) = true
+is_no_repair (lines.Redo redos.Waiting) = false
+is_no_repair (lines.Batch refusal) = true
+is_no_repair lines.Trees = true
+is_no_repair line = is_image_line line
+
 abbrev pub outcome_of : Finding → Outcome
 outcome_of (findings.Judged journal) = judged_outcome journal.items
+outcome_of (findings.Repaired journal sick) = repaired_outcome sick journal.items
 outcome_of (findings.Full journal) = filled_outcome journal.items
 outcome_of (findings.Refused line) = ended_outcome statuses.Refused line
 outcome_of findings.Made = made_outcome

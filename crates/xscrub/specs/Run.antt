@@ -3,7 +3,7 @@ use Rattle.std.specs.Prelude.{◌≡◌, ℕ, Bool, List, [], ◌∷◌, length,
 use Rattle.blk_device.specs.declared.device.Device.{Ghosts}
 use Rattle.blk_device.specs.declared.sink.Sink.{Ghosts as SinkGhosts}
 use Rattle.xscrub.specs.Command.{Job}
-use Rattle.xscrub.specs.Ending.{EndsByWords, EndsUnopened, HasOutcomeCause, HasUnitsOf, IsAsked, IsOutcome, IsShown, LeavesStored, TellsBy, decided_by}
+use Rattle.xscrub.specs.Ending.{EndsByWords, EndsUnopened, HasOutcomeCause, HasUnitsOf, IsAsked, IsOutcome, IsShown, LeavesRedos, LeavesStored, TellsBy, decided_by}
 use Rattle.xscrub.specs.Outcome.{Outcome, code_of}
 use Rattle.image_hosts.specs.Stored.{Stored, Request, Loan}
 use Rattle.xscrub.specs.declared.ending.Status.TheVariants as statuses
@@ -37,20 +37,20 @@ seen g s h = record {
 
 -- What a run owes: how it ended is what words and bytes decide, or has a cause in a count that
 -- rose; its journal has each unit of each group, or the first of them where it was stopped; this is what
--- the sink took; and what is stored is as it was, but for a new image. No redo file is changed.
+-- the sink took; and what is stored is as it was, but for a new image and for what a repair changes.
 pub record IsRun {D : Type 0} (job : Job) (told : Outcome) (old new : Seen D) (end : RunEnd) : Type 0 where
   pub status : end.status ≡ code_of told.status
   pub journal : end.journal.items ≡ told.journal
   pub starts : end.starts ≡ 0 ∷ length told.journal ∷ length told.journal ∷ []
   pub words : EndsByWords job told
   pub decided : IfSome (decided_by job old.stored old.redos) (IsOutcome told)
-  pub cause : HasOutcomeCause told old.host new.host old.devices new.devices old.sink new.sink
+  pub cause : HasOutcomeCause job told old.host new.host old.devices new.devices old.sink new.sink
   pub units : HasUnitsOf job told.status told.journal
   pub shown : IsShown told.journal told.last old.sink new.sink old.taken new.taken
   pub asked_for : IsAsked job (told.status ≡ statuses.Memory) old.asked new.asked
   pub stored : LeavesStored job old.tells (told.status ≡ statuses.Clean) (EndsUnopened told) old.stored new.stored
-  pub redo_files : (n : List ℕ) → new.redos n ≡ old.redos n
+  pub redo_files : LeavesRedos job old.redos new.redos
 
 -- a run for these words, with the device that was handed out for it
 abbrev pub RunsFor : {D : Type 0} → Ghosts D → Job → (old new : Seen D) → RunEnd → Type 0
-RunsFor g job old new end = (told : Outcome) × TellsBy g job old.stored old.redos old.loans new.loans told × IsRun job told old new end
+RunsFor g job old new end = (told : Outcome) × TellsBy g job old.stored old.redos new.stored new.redos old.loans new.loans told × IsRun job told old new end

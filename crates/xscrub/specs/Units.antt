@@ -1,6 +1,6 @@
 -- What a journal has, whether or not the host tells the image: the units of all groups in the order of a session, each
 -- with its faults and its verdict, given up, or skipped for a unit that it needs; or the first of them.
-use Rattle.std.specs.Prelude.{◌≡◌, ⊤, ℕ, ◌≤◌, ◌++◌, List, []}
+use Rattle.std.specs.Prelude.{◌≡◌, ⊤, ℕ, ◌≤◌, ◌++◌, List, [], length}
 use Rattle.blk_device.specs.Taken.{IsFront}
 use Rattle.fs_model.specs.declared.entry.Entry.{Entry}
 use Rattle.image_check.specs.Units.{AreUnits, HasUnits as HasUnitsOfGroups, StopsInUnits}
@@ -40,3 +40,11 @@ HasUnits statuses.Usage journal = ⊤
 HasUnits statuses.Refused journal = ⊤
 HasUnits statuses.Failed journal = HasFirstUnits journal
 HasUnits statuses.Memory journal = HasFront journal
+
+-- the most entries of a journal, before which another unit begins
+abbrev pub IsFullJournal : List Entry → Type 0
+IsFullJournal journal = 1048576 ≤ length journal
+
+abbrev pub HasRepairUnits : Status → List Entry → Type 0
+HasRepairUnits statuses.Full journal = IsFullJournal journal
+HasRepairUnits status journal = ⊤

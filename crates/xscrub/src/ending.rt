@@ -21,10 +21,12 @@ pub enum Status {
 
 /// What a run found, before it is told: the journal of a judged image, a journal that was full
 /// before the last unit, the line of a refusal, a new image that was written, or what stopped it;
-/// with the journal so far where the device failed or memory was short.
+/// with the journal so far where the device failed or memory was short. Of a repair that wasn't stopped
+/// it is the journal, and whether a btree is sick at the end.
 #[derive(Debug, PartialEq, Eq, Drop)]
 pub enum Finding {
     Judged(Vec<Entry>),
+    Repaired { journal: Vec<Entry>, is_sick: bool },
     Full(Vec<Entry>),
     Refused(LastLine),
     Made,

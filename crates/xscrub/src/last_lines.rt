@@ -13,20 +13,31 @@ pub enum RedoRefusal {
     Waiting,
 }
 
+/// Why a repair refuses the change that waits in a redo file: for its count of blocks, for the size of the
+/// image that it is of, or for the place of a block.
+#[derive(Clone, Copy, Debug, PartialEq, Eq)]
+pub enum BatchRefusal {
+    Count,
+    Size,
+    Place,
+}
+
 /// What a run says last where it ended before its last verdict: the words are wrong or ask for
-/// a job that isn't built yet, the redo file or the image is refused, the journal was full, or device,
-/// host or memory failed.
+/// a job that isn't built yet, the redo file, the change in it or the image is refused, a tree is too large
+/// for now, the journal was full, or device, host or memory failed.
 #[derive(Clone, Copy, Debug, PartialEq, Eq)]
 pub enum LastLine {
     Usage,
     Unbuilt,
     Redo(RedoRefusal),
+    Batch(BatchRefusal),
     Image(ImageFault),
     Head {
         group: u32,
         head: Head,
         fault: HeadFault,
     },
+    Trees,
     DeviceFailed,
     HostFailed,
     JournalFull,
@@ -70,8 +81,10 @@ pub fn fixed_line(line: &LastLine) -> Option<&'static str>
         ),
         LastLine::Unbuilt => Some("unbuilt job\n"),
         LastLine::Redo(refusal) => Some(redo_line(refusal)),
+        LastLine::Batch(refusal) => Some(batch_line(refusal)),
         LastLine::Image(fault) => fixed_image_line(fault),
         LastLine::Head { .. } => None,
+        LastLine::Trees => Some("unbuilt trees\n"),
         LastLine::DeviceFailed => Some("device failed\n"),
         LastLine::HostFailed => Some("host failed\n"),
         LastLine::JournalFull => Some("journal full\n"),
@@ -86,6 +99,17 @@ fn redo_line(refusal: RedoRefusal) -> &'static str
     match refusal {
         RedoRefusal::Short => "redo short\n",
         RedoRefusal::Waiting => "redo waiting\n",
+    }
+}
+
+#[tactic(auto, unfolding(crate::specs::LastLines::last_line_of))]
+fn batch_line(refusal: BatchRefusal) -> &'static str
+    ensures { result.now ≡ last_line_of (LastLine.Batch refusal) }
+{
+    match refusal {
+        BatchRefusal::Count => "redo count\n",
+        BatchRefusal::Size => "redo size\n",
+        BatchRefusal::Place => "redo place\n",
     }
 }
 

@@ -1,5 +1,5 @@
-//! The top call over any host: checks an XFS version 5 image, and reports what was found; or makes a
-//! new image. Checked are the inodes of each group, its reverse mappings against all that has blocks of
+//! The top call over any host: checks or repairs an XFS version 5 image, and reports what was found and
+//! done; or makes a new image. Checked are the inodes of each group, its reverse mappings against all that has blocks of
 //! the group, its free space, its reference counts, and the counters of each.
 #![tactic(auto)]
 
@@ -10,12 +10,13 @@ mod judging;
 mod last_lines;
 mod making;
 mod redo;
+mod repairing;
 mod telling;
 mod top;
 
 pub use crate::command::{Command, command_of};
 pub use crate::ending::{Finding, Status, Told};
 pub use crate::judging::{JudgeFault, Judgement, judge};
-pub use crate::last_lines::{LastLine, RedoRefusal, fixed_line, last_line};
+pub use crate::last_lines::{BatchRefusal, LastLine, RedoRefusal, fixed_line, last_line};
 pub use crate::telling::tell;
 pub use crate::top::{RunEnd, fsck_main};

@@ -23,7 +23,7 @@ pub fn make<H: Host>(alloc: Global, host: &mut H, image: &str) -> Finding
     ensures found { Finds H.Host.own (Some made_outcome) host.old host.new result }
     ensures words { IsOfMake result }
     ensures device { FindsBy H.Dev.Device (make_of image.now) (H.stored host.old) (H.redo_files host.old)
-        (H.loans host.old) (H.loans host.new) result }
+        (H.stored host.new) (H.redo_files host.new) (H.loans host.old) (H.loans host.new) result }
     ensures stored { LeavesStored (make_of image.now) (H.tells host.old)
         (result ≡ Finding.Made) (IsUnopened result) (H.stored host.old) (H.stored host.new) }
     ensures redo { (n : List ℕ) → H.redo_files host.new n ≡ H.redo_files host.old n }

@@ -4,7 +4,7 @@ ghost use Rattle.std.specs.List.{list_all, list_any};
 ghost use Rattle.blk_device.specs.Causes.{Rose};
 ghost use Rattle.blk_device.specs.Taken.{Takes};
 ghost use Rattle.xscrub.specs.Ending.{IsShown, IsToldOf, ShowsStopped, TellsStopped, told_outcome};
-ghost use Rattle.xscrub.specs.Outcome.{is_calm as is_calm_entry, is_calm_verdict as is_calm_verdict_of, is_given_up as is_given_up_entry, is_given_up_verdict as is_given_up_verdict_of, judged_status, judged_outcome, stopped_outcome, ended_outcome, outcome_of};
+ghost use Rattle.xscrub.specs.Outcome.{is_calm as is_calm_entry, is_calm_verdict as is_calm_verdict_of, is_given_up as is_given_up_entry, is_given_up_verdict as is_given_up_verdict_of, judged_status, judged_outcome, repaired_outcome, repaired_status as repaired_status_of, stopped_outcome, ended_outcome, outcome_of};
 ghost use Rattle.run_text.specs.Report.{report_of};
 ghost use Rattle.xscrub.specs.LastLines.{is_fixed, last_line_of};
 ghost use Rattle.xscrub.specs.Shown.{StopsAt, IsLineShown, EndsWith, last_text};
@@ -175,6 +175,19 @@ fn status_of(journal: &[Entry]) -> Status
     Status::Faulty
 }
 
+// The status of a repair. What is sick at the end needs another repair.
+fn repaired_status(is_sick: bool, journal: &[Entry]) -> Status
+    ensures { result ≡ repaired_status_of is_sick journal.now }
+{
+    if !is_sick {
+        return status_of(journal);
+    }
+    if is_any_given_up(journal) {
+        return Status::GaveUp;
+    }
+    Status::Faulty
+}
+
 // Ends a run whose journal wasn't told whole: the host has failed, or there was no memory, and the
 // journal is cut to what was told.
 fn end_early<K: Sink>(alloc: Global, sink: &mut K, journal: Vec<Entry>, stop: TellStop) -> Told
@@ -205,6 +218,25 @@ fn tell_judged<K: Sink>(alloc: Global, sink: &mut K, journal: Vec<Entry>) -> Tol
     match put_journal(alloc, sink, journal.as_slice()) {
         Ok(()) => Told {
             status: status_of(journal.as_slice()),
+            journal,
+            last: None,
+        },
+        Err(stop) => end_early(alloc, sink, journal, stop),
+    }
+}
+
+// Tells the journal of a repair that wasn't stopped, as far as the sink and memory go.
+fn tell_repaired<K: Sink>(alloc: Global, sink: &mut K, journal: Vec<Entry>, is_sick: bool) -> Told
+    ensures rest { K.kept sink.old sink.new }
+    ensures shown { IsShown result.journal.items result.last
+        (K.sink_faults sink.old) (K.sink_faults sink.new)
+        (K.taken sink.old) (K.taken sink.new) }
+    ensures told { IsToldOf (repaired_outcome is_sick journal.items)
+        (K.sink_faults sink.old) (K.sink_faults sink.new) (told_outcome result) }
+{
+    match put_journal(alloc, sink, journal.as_slice()) {
+        Ok(()) => Told {
+            status: repaired_status(is_sick, journal.as_slice()),
             journal,
             last: None,
         },
@@ -258,6 +290,7 @@ pub fn tell<K: Sink>(alloc: Global, sink: &mut K, finding: Finding) -> Told
 {
     match finding {
         Finding::Judged(journal) => tell_judged(alloc, sink, journal),
+        Finding::Repaired { journal, is_sick } => tell_repaired(alloc, sink, journal, is_sick),
         Finding::Full(journal) => {
             tell_stopped(alloc, sink, Status::Full, journal, LastLine::JournalFull)
         }

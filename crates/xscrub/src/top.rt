@@ -1,5 +1,5 @@
 ghost use Rattle.std.specs.Prelude.{◌≡◌, ℕ, List, is_some};
-ghost use Rattle.xscrub.specs.Ending.{Finds, IsOfImage, IsWorded, IsAsked, IsShort, IsUnopened, FindsBy, LeavesStored, decided_by, stored_outcome};
+ghost use Rattle.xscrub.specs.Ending.{Finds, IsOfImage, IsWorded, IsAsked, IsShort, IsUnopened, FindsBy, LeavesRedos, LeavesStored, decided_by, stored_outcome};
 ghost use Rattle.xscrub.specs.Command.{check_of, job_of};
 ghost use Rattle.xscrub.specs.Run.{RunsFor, seen};
 ghost use Rattle.image_hosts.specs.Stored.{name_of, redo_asked};
@@ -10,6 +10,7 @@ use crate::judging::{JudgeFault, Judgement};
 use crate::last_lines::LastLine;
 use crate::making::make;
 use crate::redo::judge_device;
+use crate::repairing::repair;
 use crate::telling::tell;
 use fs_model::Entry;
 use image_hosts::{Host, OpenFault, Purpose, Watched};
@@ -31,7 +32,8 @@ fn check<H: Host>(alloc: Global, host: &mut H, image: &str, redo: Option<&str>) 
         host.old host.new result }
     ensures image { IsOfImage (is_some redo.entry) result }
     ensures device { FindsBy H.Dev.Device (check_of image.now (name_of redo.entry))
-        (H.stored host.old) (H.redo_files host.old) (H.loans host.old) (H.loans host.new) result }
+        (H.stored host.old) (H.redo_files host.old) (H.stored host.new) (H.redo_files host.new)
+        (H.loans host.old) (H.loans host.new) result }
     ensures stored { LeavesStored (check_of image.now (name_of redo.entry)) (H.tells host.old)
         (result ≡ Finding.Made) (IsUnopened result) (H.stored host.old) (H.stored host.new) }
     ensures redo { (n : List ℕ) → H.redo_files host.new n ≡ H.redo_files host.old n }
@@ -62,10 +64,10 @@ fn find<H: Host>(alloc: Global, host: &mut H, words: &[String]) -> Finding
     ensures found { Finds H.Host.own (decided_by (job_of words.now) (H.stored host.old) (H.redo_files host.old)) host.old host.new result }
     ensures words { IsWorded (job_of words.now) result }
     ensures device { FindsBy H.Dev.Device (job_of words.now) (H.stored host.old) (H.redo_files host.old)
-        (H.loans host.old) (H.loans host.new) result }
+        (H.stored host.new) (H.redo_files host.new) (H.loans host.old) (H.loans host.new) result }
     ensures stored { LeavesStored (job_of words.now) (H.tells host.old)
         (result ≡ Finding.Made) (IsUnopened result) (H.stored host.old) (H.stored host.new) }
-    ensures redo { (n : List ℕ) → H.redo_files host.new n ≡ H.redo_files host.old n }
+    ensures redo { LeavesRedos (job_of words.now) (H.redo_files host.old) (H.redo_files host.new) }
     ensures asked { IsAsked (job_of words.now) (IsShort result) (H.asked host.old) (H.asked host.new) }
     ensures report { H.taken host.new ≡ H.taken host.old }
     ensures sink { H.sink_faults host.new ≡ H.sink_faults host.old }
@@ -75,6 +77,7 @@ fn find<H: Host>(alloc: Global, host: &mut H, words: &[String]) -> Finding
     };
     match command {
         Command::Check(image, redo) => check(alloc, host, image, redo),
+        Command::Repair(image, redo, plan, turns) => repair(alloc, host, image, redo, plan, turns),
         Command::Make(image) => make(alloc, host, image),
         Command::Unbuilt => Finding::Refused(LastLine::Unbuilt),
         Command::Usage => Finding::Usage,
@@ -83,8 +86,8 @@ fn find<H: Host>(alloc: Global, host: &mut H, words: &[String]) -> Finding
 
 /// Runs the words, without the program's name, and tells the host's sink what was found, in pieces of
 /// whole lines: where a device fails or memory is short, the journal so far, and then the line that says so.
-/// A check changes no image and no redo file, and the making of an image that image alone; each device
-/// that the host hands out is given back.
+/// A check changes no image and no redo file, the making of an image that image alone, and a repair its
+/// image and redo file; each device that the host hands out is given back.
 pub fn fsck_main<H: Host>(alloc: Global, host: &mut H, words: &[String]) -> RunEnd
     ensures run { RunsFor H.Dev.Device (job_of words.now)
         (seen H.Host.own H.Sink host.old) (seen H.Host.own H.Sink host.new) result }

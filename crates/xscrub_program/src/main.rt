@@ -1,6 +1,6 @@
-//! The program: hands the words of the command line and a host over real files to the check, and
-//! ends with its status. Beside the report it says, on standard error, what wasn't looked at, and what
-//! it means that a unit was given up; on a terminal also how far a long check is.
+//! The program: hands the words of the command line and a host over real files to the top call, and
+//! ends with its status. Beside the report it says, on standard error, what wasn't looked at, what
+//! it means that a unit was given up, and what to do after a repair; on a terminal also how far it is.
 #![tactic(auto)]
 
 use blk_device::reader_queue;
@@ -65,6 +65,6 @@ fn main(rt: HostRuntime) -> ExitCode {
         }
     }
     let status = run(alloc, &rt, &mut host);
-    tell_status(&rt, status);
+    tell_status(&rt, status, host.is_changing());
     ExitCode::from(status)
 }

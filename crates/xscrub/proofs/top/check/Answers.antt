@@ -1,4 +1,4 @@
-use Rattle.std.proofs.Common.{rules, ◌≡◌, ◌∙◌, List, ℕ, Bool, is_some, inr, sym, subst}
+use Rattle.std.proofs.Common.{rules, ◌≡◌, ◌∙◌, List, ℕ, Bool, is_some, inr, refl, sym, subst}
 use Rattle.std.specs.Borrow.{Bor}
 use Rattle.std.specs.Option.{option_map}
 use Rattle.xscrub.specs.Ending.{stored_outcome}
@@ -8,6 +8,10 @@ use Rattle.xscrub.specs.Units.{HasFirstUnits}
 use Rattle.xscrub.proofs.UnitLemmas.{no_units}
 use Rattle.xscrub.proofs.JudgedLemmas.{front_before}
 use Rattle.xscrub.proofs.LoanLemmas.{came_back, given_same, put_back_stored}
+use Rattle.image_hosts.specs.Stored.{asks, name_of}
+use Rattle.image_hosts.specs.declared.host.OpenFault.TheVariants.{Memory}
+use Rattle.image_hosts.specs.declared.host.Purpose.TheVariants.{Check as ForCheck}
+use Rattle.xscrub.proofs.RepairLemmas.{asked_whole, redos_kept}
 use Rattle.xscrub.proofs.top.check.Goals as goal
 
 pub returns-in-Err-Memory-clause-found : goal.returns-in-Err-Memory-clause-found
@@ -77,3 +81,28 @@ returns-in-Err-Memory-found-clause-device g c =
     c.in-Ok.ensures.lent c.put_back.ensures.lent c.in-Ok.ensures.told c.judge_device-found.ensures.same c.judge_device-found.ensures.crash
     (subst (λ (b : Bool). ReadsForDevice b (g.H.Dev.Device.content c.in-Ok.dev) (g.H.Dev.Device.blocks c.in-Ok.dev) (g.H.Dev.Device.reads c.in-Ok.dev) (g.H.Dev.Device.reads c.judge_device-found.new.dev) c.judge_device-found.result)
     (c.is_some.ensures ∙ sym (given_same c.args.redo)) c.judge_device-found.ensures.kept) journal)
+
+pub returns-in-Ok-Judged-clause-redo : goal.returns-in-Ok-Judged-clause-redo
+returns-in-Ok-Judged-clause-redo g c =
+    redos_kept _ _ (asks c.args.image.now (name_of c.args.redo) ForCheck) _ (g.H.Host.redo_files c.args.host.now) (g.H.Host.redo_files c.device.new.self) (g.H.Host.redo_files c.put_back.new.self)
+    (asked_whole c.in-Ok.dev Memory (asks c.args.image.now (name_of c.args.redo) ForCheck) (g.H.Host.asked c.args.host.now) (g.H.Host.asked c.device.new.self) c.in-Ok.ensures.asked) refl c.put_back.ensures.redo c.device.ensures.redo
+
+pub returns-in-Ok-Full-clause-redo : goal.returns-in-Ok-Full-clause-redo
+returns-in-Ok-Full-clause-redo g c =
+    redos_kept _ _ (asks c.args.image.now (name_of c.args.redo) ForCheck) _ (g.H.Host.redo_files c.args.host.now) (g.H.Host.redo_files c.device.new.self) (g.H.Host.redo_files c.put_back.new.self)
+    (asked_whole c.in-Ok.dev Memory (asks c.args.image.now (name_of c.args.redo) ForCheck) (g.H.Host.asked c.args.host.now) (g.H.Host.asked c.device.new.self) c.in-Ok.ensures.asked) refl c.put_back.ensures.redo c.device.ensures.redo
+
+pub returns-in-Ok-Refused-clause-redo : goal.returns-in-Ok-Refused-clause-redo
+returns-in-Ok-Refused-clause-redo g c =
+    redos_kept _ _ (asks c.args.image.now (name_of c.args.redo) ForCheck) _ (g.H.Host.redo_files c.args.host.now) (g.H.Host.redo_files c.device.new.self) (g.H.Host.redo_files c.put_back.new.self)
+    (asked_whole c.in-Ok.dev Memory (asks c.args.image.now (name_of c.args.redo) ForCheck) (g.H.Host.asked c.args.host.now) (g.H.Host.asked c.device.new.self) c.in-Ok.ensures.asked) refl c.put_back.ensures.redo c.device.ensures.redo
+
+pub returns-in-Err-Device-clause-redo : goal.returns-in-Err-Device-clause-redo
+returns-in-Err-Device-clause-redo g c =
+    redos_kept _ _ (asks c.args.image.now (name_of c.args.redo) ForCheck) _ (g.H.Host.redo_files c.args.host.now) (g.H.Host.redo_files c.device.new.self) (g.H.Host.redo_files c.put_back.new.self)
+    (asked_whole c.in-Ok.dev Memory (asks c.args.image.now (name_of c.args.redo) ForCheck) (g.H.Host.asked c.args.host.now) (g.H.Host.asked c.device.new.self) c.in-Ok.ensures.asked) refl c.put_back.ensures.redo c.device.ensures.redo
+
+pub returns-in-Err-Memory-found-clause-redo : goal.returns-in-Err-Memory-found-clause-redo
+returns-in-Err-Memory-found-clause-redo g c =
+    redos_kept _ _ (asks c.args.image.now (name_of c.args.redo) ForCheck) _ (g.H.Host.redo_files c.args.host.now) (g.H.Host.redo_files c.device.new.self) (g.H.Host.redo_files c.put_back.new.self)
+    (asked_whole c.in-Ok.dev Memory (asks c.args.image.now (name_of c.args.redo) ForCheck) (g.H.Host.asked c.args.host.now) (g.H.Host.asked c.device.new.self) c.in-Ok.ensures.asked) refl c.put_back.ensures.redo c.device.ensures.redo

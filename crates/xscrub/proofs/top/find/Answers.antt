@@ -1,9 +1,10 @@
+use Rattle.std.proofs.Common.{refl}
 use Rattle.xscrub.specs.Command.{job_of}
 use Rattle.xscrub.specs.Ending.{decided_by}
 use Rattle.xscrub.specs.declared.ending.Finding.TheVariants.{Memory}
 use Rattle.xscrub.proofs.EndingLemmas.{short_worded}
 use Rattle.xscrub.proofs.JudgedLemmas.{front_before}
-use Rattle.xscrub.proofs.LoanLemmas.{short_leaves}
+use Rattle.xscrub.proofs.LoanLemmas.{all_redos, short_finds, short_leaves}
 use Rattle.xscrub.proofs.top.find.Goals as goal
 
 pub returns-in_default-clause-found : goal.returns-in_default-clause-found
@@ -17,3 +18,11 @@ returns-in_default-clause-words g c = short_worded (job_of c.args.words.now) (Me
 
 pub returns-in_default-clause-stored : goal.returns-in_default-clause-stored
 returns-in_default-clause-stored g c = short_leaves (job_of c.args.words.now) _ c.new.result _ (g.H.Host.stored c.args.host.now)
+
+pub returns-in_default-clause-device : goal.returns-in_default-clause-device
+returns-in_default-clause-device g c =
+    short_finds g.H.Dev.Device (job_of c.args.words.now) (g.H.Host.stored c.args.host.now) (g.H.Host.redo_files c.args.host.now) (g.H.Host.loans c.args.host.now) (g.H.Host.loans c.args.host.now)
+    (Memory c.new.result) c.new.ensures.items refl
+
+pub returns-in_default-clause-redo : goal.returns-in_default-clause-redo
+returns-in_default-clause-redo g c = all_redos (job_of c.args.words.now) (g.H.Host.redo_files c.args.host.now) (g.H.Host.redo_files c.args.host.now) (λ n. refl)

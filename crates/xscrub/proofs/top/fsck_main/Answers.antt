@@ -1,8 +1,8 @@
-use Rattle.std.proofs.Common.{ℕ, List, ◌∷◌, [], ◌≡◌, length, refl, ap, arith, ◌∙◌}
+use Rattle.std.proofs.Common.{ℕ, List, ◌∷◌, [], ◌≡◌, length, refl, ap, arith}
 use Rattle.xscrub.specs.Ending.{told_outcome}
 use Rattle.fs_model.specs.declared.entry.Entry.{Entry}
 use Rattle.xscrub.proofs.EndingLemmas.{told_cause, told_decided, told_by_words, told_units, asked_so}
-use Rattle.xscrub.proofs.LoanLemmas.{told_by, told_stored}
+use Rattle.xscrub.proofs.LoanLemmas.{told_by, told_redos, told_stored}
 use Rattle.xscrub.proofs.top.fsck_main.Goals as goal
 
 pub returns : goal.returns
@@ -11,18 +11,18 @@ returns g c =
     let ends = rw c.find-finding.ensures.sink at c.tell-told.ensures.told in record {
       run = (
         told_outcome c.tell-told.result,
-        told_by _ _ _ _ _ _ _ c.find-finding.result _ _ _ c.find-finding.ensures.device kept.4 c.find-finding.ensures.words ends,
+        told_by _ _ _ _ _ _ _ _ _ _ _ c.find-finding.result _ _ _ c.find-finding.ensures.device kept.4 kept.3 kept.5 c.find-finding.ensures.words ends,
         record {
           status = c.code.ensures;
           journal = refl {A = List Entry};
           starts = let len : c.len-end.result ≡ length c.tell-told.result.journal.items = omega (arith, c.len-end.ensures, c.tell-told.result.journal.ok.0) in ap (λ (n : ℕ). 0 ∷ n ∷ n ∷ []) len;
           words = told_by_words _ c.find-finding.result _ _ _ c.find-finding.ensures.words ends;
           decided = told_decided _ c.find-finding.result _ _ _ c.find-finding.ensures.found.decides ends;
-          cause = rw (kept.0, kept.1) (told_cause c.find-finding.result _ _ _ _ _ _ _ c.find-finding.ensures.found.cause ends);
+          cause = rw (kept.0, kept.1) (told_cause _ c.find-finding.result _ _ _ _ _ _ _ c.find-finding.ensures.words c.find-finding.ensures.found.cause ends);
           units = told_units _ c.find-finding.result _ _ _ c.find-finding.ensures.words ends;
           shown = rw (c.find-finding.ensures.sink, c.find-finding.ensures.report) at c.tell-told.ensures.shown;
           stored = told_stored _ _ c.find-finding.result _ _ _ _ _ _ c.find-finding.ensures.words ends c.find-finding.ensures.stored kept.3;
-          redo_files = λ n. kept.5 n ∙ c.find-finding.ensures.redo n;
+          redo_files = told_redos _ _ _ _ c.find-finding.ensures.redo kept.5;
           asked_for = asked_so _ _ c.find-finding.result _ _ _ _ _ ends kept.2 c.find-finding.ensures.asked;
         },
       );
