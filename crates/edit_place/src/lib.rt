@@ -1,0 +1,9 @@
+//! A tree of a group with a record put in, taken out or changed: a tree of one leaf is written anew, and of a
+//! larger one the blocks on the edited way alone.
+#![tactic(auto)]
+
+mod edits;
+
+pub use edits::edit;
+pub use list_edit::Edit;
+pub use tree_edit::EditFault;
