@@ -16,7 +16,6 @@
 # --only-checked leaves the repairs out, for a program that has none.
 #
 # Statuses other than 0 after a damage, each with its line:
-#     4  unbuilt trees                 a counter of a head is more than 24 blocks of a tree
 #     4  group G HEAD NAME             a field of a head that isn't of a tree
 #     6  G inode gaveup badtree ..     ino and rmap both can't be read
 #     6  G UNIT gaveup later ..        a holemask, or a reference count with the bit of copy on write

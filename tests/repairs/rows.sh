@@ -248,23 +248,13 @@ refused_with() {
   verdict "$1" $? "${why[@]}"
 }
 
-# Images whose heads count more than 24 blocks of a tree.
+# Groups with more blocks in a tree than a batch of the redo file has room for, and with trees of three levels.
 large_trees() {
-  aged 'large trees' 1 96M 6000
-  copy sound.img real.img
-  refused_with 'large trees' 'unbuilt trees' real.img
-  tool real.img --on 0:bno:byte:0:0:70
-  refused_with 'large trees, and a damage' 'unbuilt trees' real.img
-  # a counter alone is believed
-  real 'two groups' 32M -m "$required" -d agcount=2 || return
-  group_count=2
-  mv real.img sound.img
-  local field head
-  for field in agf:rmapblocks agf:refcntblocks agf:btreeblks agi:iblocks agi:fblocks; do
-    copy sound.img real.img
-    tool real.img --on "1:${field%:*}:counter:${field#*:}:25"
-    refused_with "25 $field" 'unbuilt trees' real.img
-  done
+  aged 'large trees' 1 160M 18000
+  mv sound.img real.img
+  begin 'large trees'
+  rows 4 1 1
+  row 0:agf:counter:rmapblocks:25
 }
 
 # A head that is refused, in the group that isn't the first.

@@ -101,10 +101,6 @@ static REFUSALS: [(&str, &str); 19] = [
         "This job comes later: today xscrub checks images, repairs them, and makes new ones.",
     ),
     (
-        "unbuilt trees\n",
-        "A btree of a group has more than 24 blocks: such an image can't be repaired yet. It can be checked.",
-    ),
-    (
         "redo short\n",
         "The redo file has fewer than 162 blocks of 4096 bytes: is it the right file?",
     ),

@@ -12,7 +12,6 @@ is_failed entries.Size = false
 is_failed entries.Place = false
 is_failed (entries.Image fault) = false
 is_failed (entries.Head group head fault) = false
-is_failed entries.Trees = false
 is_failed entries.Failed = true
 is_failed entries.Memory = false
 

@@ -6,7 +6,6 @@ ghost use Rattle.redo_area.specs.Area.{after_recovery};
 ghost use Rattle.repair_door.specs.Causes.{is_failed};
 
 use crate::no_entry::NoEntry;
-use crate::trees::have_large_tree;
 use blk_device::{Device, Region};
 use byte_fields::{Block, Steps};
 use check_phases::read_all_heads;
@@ -90,8 +89,7 @@ fn heads_of<D: Device>(
 }
 
 /// Finishes a change that waits in the redo region, then tests superblock and heads, and answers the
-/// geometry of an image that may be repaired: its heads pass, and no counter of a head says that a tree
-/// of its group has more than 24 blocks. Nothing but the waiting change is written
+/// geometry of an image that may be repaired: its heads pass. Nothing but the waiting change is written
 /// (XFS Online Fsck Design, "Metadata Repair").
 pub fn pass_door<D: Device>(alloc: Global, dev: &mut D) -> Result<Geometry, NoEntry>
     ensures room { IfOk result (λ geo. geo.dblocks ≤ D.blocks dev.old Image) }
@@ -102,9 +100,6 @@ pub fn pass_door<D: Device>(alloc: Global, dev: &mut D) -> Result<Geometry, NoEn
 {
     finish_change(dev)?;
     let geo = geometry_of(dev)?;
-    let all = heads_of(alloc, dev, &geo)?;
-    if have_large_tree(&geo, all.as_slice()) {
-        return Err(NoEntry::Trees);
-    }
+    let _ = heads_of(alloc, dev, &geo)?;
     Ok(geo)
 }

@@ -10,8 +10,7 @@ use space_check::Halt;
 
 /// Why an image isn't repaired: the redo file is too short, or the change that waits in it is refused
 /// for its count of blocks, the size of its image or a block's place; the first test of the superblock
-/// that fails; the first head that is refused; a tree that is too large for now; a read or write failed;
-/// or memory is wanting (XFS Online Fsck Design, "Metadata Repair").
+/// that fails; the first head that is refused; a read or write failed; or memory is wanting (XFS Online Fsck Design, "Metadata Repair").
 #[derive(Clone, Copy, Debug, PartialEq, Eq)]
 pub enum NoEntry {
     Short,
@@ -24,7 +23,6 @@ pub enum NoEntry {
         head: Head,
         fault: HeadFault,
     },
-    Trees,
     Failed,
     Memory,
 }

@@ -60,7 +60,6 @@ image_refuses given (lines.Redo refusal) is = absurd (clash is)
     clash : false ≡ true → ⊥
     clash e = cc
 image_refuses given (lines.Batch refusal) is = is
-image_refuses given lines.Trees is = is
 image_refuses given (lines.Image fault) is = is
 image_refuses given (lines.Head group head fault) is = is
 image_refuses given lines.DeviceFailed is = is

@@ -13,7 +13,7 @@ use Rattle.xscrub.specs.declared.last_lines.RedoRefusal.TheVariants as redos
 use Rattle.xscrub.specs.declared.last_lines.BatchRefusal.{BatchRefusal}
 use Rattle.xscrub.specs.declared.last_lines.BatchRefusal.TheVariants as batches
 use Rattle.xscrub.specs.declared.last_lines.LastLine.{LastLine}
-use Rattle.xscrub.specs.declared.last_lines.LastLine.TheVariants.{Usage, Unbuilt, Redo, Batch, Image, Head, Trees, DeviceFailed, HostFailed, JournalFull, Memory}
+use Rattle.xscrub.specs.declared.last_lines.LastLine.TheVariants.{Usage, Unbuilt, Redo, Batch, Image, Head, DeviceFailed, HostFailed, JournalFull, Memory}
 
 abbrev pub head_name : GroupHead → List ℕ
 head_name Agf = codes "agf"
@@ -57,7 +57,6 @@ last_words (Redo refusal) = codes "redo" ∷ redo_word refusal ∷ []
 last_words (Batch refusal) = codes "redo" ∷ batch_word refusal ∷ []
 last_words (Image fault) = codes "image" ∷ image_fault_words fault
 last_words (Head group head fault) = codes "group" ∷ decimal group ∷ head_name head ∷ head_fault_text fault ∷ []
-last_words Trees = codes "unbuilt trees" ∷ []
 last_words DeviceFailed = codes "device failed" ∷ []
 last_words HostFailed = codes "host failed" ∷ []
 last_words JournalFull = codes "journal full" ∷ []

@@ -96,7 +96,6 @@ is_image_line lines.Usage = false
 is_image_line lines.Unbuilt = false
 is_image_line (lines.Redo refusal) = false
 is_image_line (lines.Batch refusal) = false
-is_image_line lines.Trees = false
 is_image_line lines.DeviceFailed = false
 is_image_line lines.HostFailed = false
 is_image_line lines.JournalFull = false
@@ -107,12 +106,11 @@ abbrev pub is_refusal : Bool → LastLine → Bool
 is_refusal given (lines.Redo refusal) = given
 is_refusal given line = is_image_line line
 
--- a line that refuses a repair: of the image, of the redo file, of the change that waits in it, or of large trees
+-- a line that refuses a repair: of the image, of the redo file, or of the change that waits in it
 abbrev pub is_no_repair : LastLine → Bool
 is_no_repair (lines.Redo redos.Short) = true
 is_no_repair (lines.Redo redos.Waiting) = false
 is_no_repair (lines.Batch refusal) = true
-is_no_repair lines.Trees = true
 is_no_repair line = is_image_line line
 
 abbrev pub outcome_of : Finding → Outcome

@@ -23,8 +23,8 @@ pub enum BatchRefusal {
 }
 
 /// What a run says last where it ended before its last verdict: the words are wrong or ask for
-/// a job that isn't built yet, the redo file, the change in it or the image is refused, a tree is too large
-/// for now, the journal was full, or device, host or memory failed.
+/// a job that isn't built yet, the redo file, the change in it or the image is refused, the journal was
+/// full, or device, host or memory failed.
 #[derive(Clone, Copy, Debug, PartialEq, Eq)]
 pub enum LastLine {
     Usage,
@@ -37,7 +37,6 @@ pub enum LastLine {
         head: Head,
         fault: HeadFault,
     },
-    Trees,
     DeviceFailed,
     HostFailed,
     JournalFull,
@@ -84,7 +83,6 @@ pub fn fixed_line(line: &LastLine) -> Option<&'static str>
         LastLine::Batch(refusal) => Some(batch_line(refusal)),
         LastLine::Image(fault) => fixed_image_line(fault),
         LastLine::Head { .. } => None,
-        LastLine::Trees => Some("unbuilt trees\n"),
         LastLine::DeviceFailed => Some("device failed\n"),
         LastLine::HostFailed => Some("host failed\n"),
         LastLine::JournalFull => Some("journal full\n"),

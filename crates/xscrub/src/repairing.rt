@@ -33,7 +33,6 @@ fn refused(alloc: Global, entry: NoEntry) -> Finding
         NoEntry::Head { group, head, fault } => {
             Finding::Refused(LastLine::Head { group, head, fault })
         }
-        NoEntry::Trees => Finding::Refused(LastLine::Trees),
         NoEntry::Failed => Finding::DeviceFailed(Vec::new(alloc)),
         NoEntry::Memory => Finding::Memory(Vec::new(alloc)),
     }
