@@ -47,7 +47,7 @@ static BROKEN: [&str; 2] = [
 ];
 
 // What a line of a refused image means, and what to do.
-static REFUSALS: [(&str, &str); 19] = [
+static REFUSALS: [(&str, &str); 18] = [
     (
         "image magic\n",
         "There is no XFS file system: is it the right file or partition?",
