@@ -1,6 +1,7 @@
-ghost use Rattle.std.specs.Prelude.{◌≡◌, ◌<◌, ◌≤◌, ◌+◌, None, IfErr, OnOk};
+ghost use Rattle.std.specs.Prelude.{◌≡◌, ◌<◌, ◌≤◌, ◌+◌, ◌∷◌, [], None, IfErr, OnErr, OnOk};
 ghost use Rattle.std.specs.Vec.{vec_capacity, vec_len};
 ghost use Rattle.core_desk.specs.Asks.{Adds, Answers, IsSame, IsStopped, IsUsable};
+ghost use Rattle.core_desk.specs.Entries.{HasMore, IsHalt, WantsRoom, verdict_entry};
 ghost use Rattle.core_parts.specs.Keeps.{IsShaken, IsSteady};
 ghost use Rattle.core_parts.specs.Reasons.{AnswersWell, HasReason};
 ghost use Rattle.core_parts.specs.Safe.{IsDesk};
@@ -15,6 +16,7 @@ use fs_model::{Entry, Unit, Verdict};
 pub fn unless_shut<D: Device>(desk: &Desk<D>) -> Result<(), ScrubFault>
     ensures unshut { OnOk result (desk.now.book.shut ≡ None) }
     ensures shut { IfErr result (HasReason desk.now) }
+    ensures halts { IfErr result IsHalt }
 {
     match desk.book.shut {
         Some(count) => Err(ScrubFault::Shut(count)),
@@ -29,6 +31,8 @@ pub fn note_fault<D: Device>(desk: &mut Desk<D>) -> ScrubFault
     ensures desk { IsDesk D.Device desk.new }
     ensures steady { IsSteady D.Device desk.old desk.new }
     ensures reason { HasReason desk.new result }
+    ensures items { desk.new.book.journal.items ≡ desk.old.book.journal.items }
+    ensures halts { IsHalt result }
 {
     let count = desk.store.dev.fault_count();
     desk.book.shut = Some(count);
@@ -42,6 +46,8 @@ pub fn stop_by<D: Device>(desk: &mut Desk<D>, is_failed: bool) -> ScrubFault
     ensures desk { IsDesk D.Device desk.new }
     ensures steady { IsSteady D.Device desk.old desk.new }
     ensures reason { HasReason desk.new result }
+    ensures items { desk.new.book.journal.items ≡ desk.old.book.journal.items }
+    ensures halts { IsHalt result }
 {
     if is_failed {
         note_fault(desk)
@@ -57,6 +63,7 @@ pub fn entry_room<D: Device>(desk: &mut Desk<D>, many: usize) -> Result<(), Scru
     ensures room { OnOk result (vec_len desk.new.book.journal + many ≤ vec_capacity desk.new.book.journal) }
     ensures same { IsSame desk.old desk.new }
     ensures reason { AnswersWell desk.new result }
+    ensures wants { IfErr result WantsRoom }
 {
     if desk.book.journal.len() >= MOST_ENTRIES {
         return Err(ScrubFault::JournalFull);
@@ -85,6 +92,9 @@ pub fn say_verdict<D: Device>(
 ) -> Result<(), ScrubFault>
     requires usable { IsUsable D.Device desk.old }
     ensures answers { Answers D.Device desk.old desk.new result }
+    ensures said { OnOk result (HasMore desk.old desk.new (verdict_entry group unit verdict ∷ [])) }
+    ensures unsaid { OnErr result (desk.new.book.journal.items ≡ desk.old.book.journal.items) }
+    ensures wants { IfErr result WantsRoom }
 {
     entry_room(desk, 1)?;
     add_entry(
