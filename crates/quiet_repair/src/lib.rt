@@ -4,6 +4,7 @@
 
 mod repair;
 mod sessions;
+mod sound;
 mod telling;
 
 pub use repair::{Repair, Repaired, repair_device};

@@ -1,10 +1,11 @@
-ghost use Rattle.std.specs.Prelude.{◌≡◌, ◌≤◌, IfErr, IfOk};
+ghost use Rattle.std.specs.Prelude.{◌≡◌, ◌≤◌, ℕ, IfErr, IfOk};
 ghost use Rattle.blk_device.specs.declared.device.Region.TheVariants.{Image, Redo};
 ghost use Rattle.core_parts.specs.Safe.{IsSafe};
 ghost use Rattle.fsck_core.specs.Opens.{IsBack, IsBegun};
 ghost use Rattle.quiet_repair.specs.Ends.{EndsWell, IsSameRefusal};
 
 use crate::sessions::session;
+use crate::sound::sound_journal;
 use blk_device::Device;
 use byte_fields::Steps;
 use check_watch::Watch;
@@ -130,9 +131,66 @@ fn repair_passed<D: Device, W: Watch>(
     }
 }
 
+// A repair that had nothing to do.
+fn nothing_done(journal: Vec<Entry>) -> Repair
+    ensures { (before now : ℕ) → EndsWell before now result }
+{
+    Repair::Ended(Repaired {
+        journal,
+        stop: None,
+        is_sick: false,
+    })
+}
+
+// Repairs a device whose image may be repaired and has this geometry, where a check finds something to
+// repair. The check is quicker than the core, which reads all inodes once for each group.
+#[tactic(auto, using(crate::proofs::EndLemmas::moves_later, crate::proofs::EndLemmas::room_on, crate::proofs::EndLemmas::ends_on))]
+fn repair_found<D: Device, W: Watch>(
+    alloc: Global,
+    dev: D,
+    geo: Geometry,
+    turns: u32,
+    watch: &mut W,
+) -> (D, Repair)
+    requires image { geo.dblocks ≤ D.blocks dev Image }
+    requires redo { REDO_BLOCKS ≤ D.blocks dev Redo }
+    ensures sizes { D.blocks result.0 ≡ D.blocks dev }
+    ensures later { D.faults dev ≤ D.faults result.0 }
+    ensures ends { EndsWell (D.faults dev) (D.faults result.0) result.1 }
+{
+    let mut dev = dev;
+    match sound_journal(alloc, &mut dev, &geo, watch) {
+        Ok(Some(journal)) => (dev, nothing_done(journal)),
+        Ok(None) => repair_passed(alloc, dev, geo, Plan::Repair, turns, watch),
+        Err(_) => (dev, Repair::Refused(NoEntry::Failed)),
+    }
+}
+
+// The same by the plan.
+fn repair_geometry<D: Device, W: Watch>(
+    alloc: Global,
+    dev: D,
+    geo: Geometry,
+    plan: Plan,
+    turns: u32,
+    watch: &mut W,
+) -> (D, Repair)
+    requires image { geo.dblocks ≤ D.blocks dev Image }
+    requires redo { REDO_BLOCKS ≤ D.blocks dev Redo }
+    ensures sizes { D.blocks result.0 ≡ D.blocks dev }
+    ensures later { D.faults dev ≤ D.faults result.0 }
+    ensures ends { EndsWell (D.faults dev) (D.faults result.0) result.1 }
+{
+    match plan {
+        Plan::Repair => repair_found(alloc, dev, geo, turns, watch),
+        Plan::Check | Plan::Rebuild => repair_passed(alloc, dev, geo, plan, turns, watch),
+    }
+}
+
 /// Repairs the image of a device that nobody else changes: a change that waits in the redo region is
 /// finished, superblock and heads are tested, and then the units of all groups are judged, and rebuilt
-/// as the plan says. The device comes back, with the journal of what was found and done
+/// as the plan says; where a check finds them all good, and they aren't to be rebuilt anyway, that is all.
+/// The device comes back, with the journal of what was found and done
 /// (XFS Online Fsck Design, "Metadata Repair").
 #[tactic(auto, using(crate::proofs::EndLemmas::moves_later, crate::proofs::EndLemmas::room_on))]
 pub fn repair_device<D: Device, W: Watch>(
@@ -148,7 +206,7 @@ pub fn repair_device<D: Device, W: Watch>(
 {
     let mut dev = dev;
     match pass_door(alloc, &mut dev) {
-        Ok(geo) => repair_passed(alloc, dev, geo, plan, turns, watch),
+        Ok(geo) => repair_geometry(alloc, dev, geo, plan, turns, watch),
         Err(no) => (dev, Repair::Refused(no)),
     }
 }
