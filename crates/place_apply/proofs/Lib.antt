@@ -1,0 +1,3 @@
+pub mod CauseLemmas
+pub mod DraftLemmas
+pub mod FitLemmas
