@@ -2,7 +2,7 @@
 use Rattle.std.specs.Prelude.{◌≡◌, ℕ, ◌+◌, ◌≤◌, ◌⊎◌, true, List, ◌++◌, length, All, Option, IfSome, Ok}
 use Rattle.blk_device.specs.Contents.{Contents}
 use Rattle.blk_device.specs.declared.device.Region.TheVariants.{Image}
-use Rattle.meta_txn.specs.Joined.{Joined, bytes_at, written}
+use Rattle.meta_txn.specs.Joined.{bytes_at, written}
 use Rattle.redo_area.specs.declared.TheConstants.{MAX_BATCH}
 use Rattle.sblock.specs.Form.{Form}
 use Rattle.tree_defs.specs.Lists.{In, times}

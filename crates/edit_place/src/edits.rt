@@ -13,6 +13,8 @@ ghost use Rattle.tree_edit.specs.Faults.{is_devices};
 ghost use Rattle.tree_edit.specs.Stays.{IsAsBefore, StaySame};
 ghost use Rattle.edit_place.specs.Calls.{Changes};
 
+use crate::anew::anew;
+use crate::place::in_place;
 use ag_headers::Agfl;
 use blk_cache::BlkCache;
 use blk_device::Device;
@@ -20,10 +22,12 @@ use byte_fields::Steps;
 use geom::Geometry;
 use list_edit::Edit;
 use meta_txn::Txn;
+use place_plan::Ask;
 use sblock::RecKind;
 use std::alloc::Global;
 use std::sync::ledger::Ledger;
 use tree_blocks::TreeAt;
+use tree_defs::Site;
 use tree_edit::EditFault;
 
 /// Edits a tree, as one change of the transaction. Refused, in this order, with the first bad block of the
@@ -59,6 +63,12 @@ pub fn edit<K: RecKind, D: Device, L: Ledger>(
     ensures cause { HasCause is_devices (D.faults dev.old) (D.faults dev.new) result }
     ensures agrees { AgreesTold cache.new (D.content dev.new) }
 {
-    let _ = (alloc, cache, geo, txn, list, limbo, how, rec, steps, dev, tree);
-    Err(EditFault::Memory)
+    let site = Site::of_group(geo, tree.group);
+    let ask = Ask { site, how, rec };
+    if in_place::<K, D, L>(alloc, dev, cache, txn, tree, list, limbo, &ask, steps)? {
+        return Ok(());
+    }
+    anew::<K, D, L>(
+        alloc, dev, cache, geo, txn, tree, list, limbo, how, rec, steps,
+    )
 }

@@ -2,7 +2,12 @@
 //! larger one the blocks on the edited way alone.
 #![tactic(auto)]
 
+mod anew;
+mod checked;
+mod drafted;
 mod edits;
+mod place;
+mod stop;
 
 pub use edits::edit;
 pub use list_edit::Edit;

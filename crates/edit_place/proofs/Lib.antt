@@ -1,0 +1,4 @@
+pub mod AnewLemmas
+pub mod DeviceLemmas
+pub mod NumberLemmas
+pub mod PlaceLemmas

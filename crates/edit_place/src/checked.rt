@@ -1,0 +1,111 @@
+// An edit of a tree in memory, and whether it is what it must be.
+ghost use Rattle.std.specs.Prelude.{◌≡◌, ◌≤◌, ℕ, List, Ok, IfOk, true, length, take};
+ghost use Rattle.ag_headers.specs.Ring.{entries};
+ghost use Rattle.blk_device.specs.Causes.{HasCause};
+ghost use Rattle.list_edit.specs.Edits.{edited};
+ghost use Rattle.over_blocks.specs.Over.{over};
+ghost use Rattle.tree_blocks.specs.Calls.{Reads};
+ghost use Rattle.tree_blocks.specs.Reading.{is_failed as is_walks};
+ghost use Rattle.tree_blocks.specs.Told.{WhereTold};
+ghost use Rattle.tree_defs.specs.Tree.{read_tree};
+ghost use Rattle.tree_walk.specs.Meets.{MeetsTree};
+ghost use Rattle.edit_place.specs.Checked.{HasBlocks, IsChecked};
+ghost use Rattle.edit_place.specs.Stops.{is_failed};
+
+use crate::stop::Stop;
+use ag_headers::Agfl;
+use draft_check::{all_placed, are_moved, are_same, are_stamped, are_theirs, none_of};
+use edit_blocks::choose;
+use list_edit::edit_list;
+use over_blocks::{Draft, Over};
+use place_apply::apply;
+use place_plan::Ask;
+use sblock::RecKind;
+use std::alloc::{AllocError, Global};
+use tree_blocks::{Blocks, TreeAt, TreeRead, WalkFault};
+use tree_defs::Site;
+use tree_walk::walk_site;
+
+// The records and blocks of a tree that was made in memory, or its first fault.
+fn walk_draft<K: RecKind, B: Blocks>(
+    alloc: Global,
+    blocks: &mut B,
+    site: &Site,
+    tree: &TreeAt,
+    draft: &Draft,
+) -> Result<TreeRead<K::Rec>, WalkFault>
+    requires here { B.place blocks.old ≡ site.now }
+    ensures exact { WhereTold (B.told blocks.old) (λ m.
+        MeetsTree (read_tree K.form site.now (over draft.now.placed.items m) draft.now.root draft.now.levels) result) }
+    ensures reading { Reads B.Blocks blocks.old blocks.new }
+    ensures cause { HasCause is_walks (B.faults blocks.old) (B.faults blocks.new) result }
+{
+    let made = TreeAt {
+        kind: tree.kind,
+        group: tree.group,
+        root: draft.root,
+        levels: draft.levels,
+        lsn: tree.lsn,
+    };
+    let mut over = Over {
+        under: blocks,
+        placed: &draft.placed,
+    };
+    walk_site::<K, Over<B>>(alloc, &mut over, site, &made)
+}
+
+// So many of the list's first blocks.
+fn first_of(alloc: Global, list: &Agfl, count: u32) -> Result<Vec<u32>, AllocError>
+    requires { count ≤ length (entries list.now) }
+    ensures { IfOk result (λ first. first.items ≡ take count (entries list.now)) }
+{
+    choose(alloc, &[], list, count as usize, count)
+}
+
+// Whether the draft has the blocks that it may have; false also where it isn't known without memory.
+fn has_blocks(
+    alloc: Global,
+    before: &[u32],
+    taken: &[u32],
+    after: &[u32],
+    draft: &Draft,
+    lsn: u64,
+) -> Result<bool, AllocError>
+    ensures { IfOk result (λ yes. yes ≡ true → HasBlocks lsn before.now taken.now after.now draft.now) }
+{
+    let (placed, freed) = (&draft.placed, &draft.freed);
+    if !are_theirs(placed, before, taken) || !all_placed(taken, placed) {
+        return Ok(false);
+    }
+    if !none_of(placed, freed) || !are_stamped(placed, lsn) {
+        return Ok(false);
+    }
+    are_moved(alloc, before, taken, after, freed)
+}
+
+// The tree edited in memory, where that is the edited list in blocks that it may have; the blocks are only read.
+pub(crate) fn checked<K: RecKind, B: Blocks>(
+    alloc: Global,
+    blocks: &mut B,
+    ask: &Ask<K::Rec>,
+    tree: &TreeAt,
+    list: &Agfl,
+) -> Result<Draft, Stop>
+    requires here { B.place blocks.old ≡ ask.now.site }
+    ensures checked { IfOk result (IsChecked K.form ask.now tree.now (B.told blocks.old) (entries list.now)) }
+    ensures reading { Reads B.Blocks blocks.old blocks.new }
+    ensures cause { HasCause is_failed (B.faults blocks.old) (B.faults blocks.new) result }
+{
+    let read = walk_site::<K, B>(alloc, blocks, &ask.site, tree)?;
+    let mut recs = read.recs;
+    let before = read.blocks;
+    edit_list::<K>(&mut recs, ask.how, &ask.rec)?;
+    let draft = apply::<K, B>(alloc, blocks, ask, tree, list)?;
+    let after = walk_draft::<K, B>(alloc, blocks, &ask.site, tree, &draft)?;
+    let taken = first_of(alloc, list, draft.taken)?;
+    let same = are_same::<K>(&recs, &after.recs);
+    if !same || !has_blocks(alloc, &before, &taken, &after.blocks, &draft, tree.lsn)? {
+        return Err(Stop::Unfit);
+    }
+    Ok(draft)
+}
