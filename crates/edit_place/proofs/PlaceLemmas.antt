@@ -1,7 +1,8 @@
 -- A draft that was compared and joined is an edit of the tree.
-use Rattle.std.proofs.Common.{◌≡◌, ℕ, ◌+◌, ◌≤◌, List, take, drop, Ok, refl, sym, ap, subst, ◌∙◌, inl, inr, arith, take-append-drop}
+use Rattle.std.proofs.Common.{◌++◌, ◌≡◌, ℕ, ◌+◌, ◌≤◌, List, take, drop, Ok, refl, sym, ap, subst, ◌∙◌, inl, inr, arith, take-append-drop}
 use Rattle.std.specs.Prelude.{◌⊎◌, Option, Result, IfSome, unwrap_or}
 use Rattle.ag_headers.specs.Ring.{FreeRing}
+use Rattle.edit_blocks.specs.Choice.{for_list, for_limbo}
 use Rattle.blk_device.specs.Contents.{Contents}
 use Rattle.blk_device.specs.declared.device.Region.TheVariants.{Image}
 use Rattle.byte_fields.specs.declared.block.Block.{Block}
@@ -115,3 +116,10 @@ has_all lsn before taken after draft own_of all_of apart_of stamped_of apart_fro
 pub placed_in_same : (first : ℕ) (draft : Draft) (tree : TreeAt) (txn txn' : Joined) (list : FreeRing) (limbo limbo' : List ℕ) (new : Held) → txn' ≡ txn → limbo' ≡ limbo → IsPlaced first draft (held tree txn' list limbo') new → IsPlaced first draft (held tree txn list limbo) new
 placed_in_same first draft tree txn txn' list limbo limbo' new t l p =
     subst (λ (x : List ℕ). IsPlaced first draft (held tree txn list x) new) l (subst (λ (x : Joined). IsPlaced first draft (held tree x list limbo') new) t p)
+
+-- the list and limbo, by what was taken off the list before and what was given back
+pub listed_so : (now mid rest left freed : List ℕ) → now ≡ mid ++ for_list mid left → mid ≡ rest → left ≡ freed → now ≡ rest ++ for_list rest freed
+listed_so now mid rest left freed is m l = is ∙ ap (λ (xs : List ℕ). xs ++ for_list xs left) m ∙ ap (λ (bs : List ℕ). rest ++ for_list rest bs) l
+
+pub limbo_so : (now limbo mid rest left freed : List ℕ) → now ≡ limbo ++ for_limbo mid left → mid ≡ rest → left ≡ freed → now ≡ limbo ++ for_limbo rest freed
+limbo_so now limbo mid rest left freed is m l = is ∙ ap (λ (xs : List ℕ). limbo ++ for_limbo xs left) m ∙ ap (λ (bs : List ℕ). limbo ++ for_limbo rest bs) l

@@ -15,10 +15,12 @@ use Rattle.tree_edit.specs.Edited.{IsStamped}
 use Rattle.tree_edit.specs.Prepared.{Held, ReadsTo}
 
 module _ {R K : Type 0} (form : Form R K) (site : Site) (how : Edit) (rec : R) where
-  -- The tree is that of the edited list. Its blocks are those that it had and the list's first ones, less those that
-  -- went to the list's end or to limbo, and of the image only these blocks are changed in the transaction.
+  -- The tree is that of the edited list. Its blocks are those that it had and the list's first ones,
+  -- less those that went to the list's end or to limbo, and of the image only these blocks are
+  -- changed in the transaction.
   pub record IsChanged (lsn : ℕ) (told : Option Contents) (old new : Held) : Type 0 where
-    -- the records before and after, the tree's blocks before and after, those taken from the list, and those left over
+    -- the records before and after, the tree's blocks before and after, those taken from the list,
+    -- the list without these, and those that are left over
     pub recs : List R
     pub records : List R
     pub before : List ℕ
@@ -38,7 +40,8 @@ module _ {R K : Type 0} (form : Form R K) (site : Site) (how : Edit) (rec : R) w
     -- what was joined is joined still, and all together have room in a batch
     pub stay : (at : ℕ) → is_joined old.joined.blocks at ≡ true → is_joined new.joined.blocks at ≡ true
     pub room : length new.joined.blocks ≤ MAX_BATCH
-    -- a block of the tree that was another one's, or has other bytes than before, has the tree's log sequence number
+    -- a block of the tree that was another one's, or has other bytes than before, has the tree's
+    -- log sequence number
     pub stamped : (b : ℕ) → In b after → IsStamped lsn (site.first + b) new.joined ⊎ (In b before × IfSome told (λ c. written (c Image) new.joined (site.first + b) ≡ written (c Image) old.joined (site.first + b)))
     -- a block that is left over has the bytes that it had
     pub left_stays : (b : ℕ) → In b left → IfSome told (λ c. written (c Image) new.joined (site.first + b) ≡ written (c Image) old.joined (site.first + b))

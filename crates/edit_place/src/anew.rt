@@ -43,12 +43,20 @@ pub(crate) fn anew<K: RecKind, D: Device, L: Ledger>(
     requires kind { tree.old.kind ≡ K.form.kind }
     requires group { tree.old.group < geo.now.agcount }
     requires room { geo.now.dblocks ≤ D.blocks dev.old Image }
-    requires given { IsPut how → (K.form.is_in_range (site_of (layout geo.now) tree.old.group).bounds rec ≡ true) × (K.form.is_supported rec ≡ true) }
+    requires given { IsPut how →
+        (K.form.is_in_range (site_of (layout geo.now) tree.old.group).bounds rec ≡ true)
+        × (K.form.is_supported rec ≡ true) }
     requires agreed { AgreesTold cache.old (D.content dev.old) }
-    ensures edited { OnOk result (Changes K.form (site_of (layout geo.now) tree.old.group) how rec (D.content dev.old) tree.old txn.old list.old limbo.old tree.new txn.new list.new limbo.new) }
-    ensures refused { IfErr result (Refuses K.form (site_of (layout geo.now) tree.old.group) how rec (D.content dev.old) tree.old txn.old list.old limbo.old) }
-    ensures kept { IfErr result (IsAsBefore tree.old txn.old list.old limbo.old tree.new txn.new list.new limbo.new) }
-    ensures below { AreBelow (D.blocks dev.old Image) txn.old.blocks → OnOk result (AreBelow (D.blocks dev.old Image) txn.new.blocks) }
+    ensures edited { OnOk result (
+        Changes K.form (site_of (layout geo.now) tree.old.group) how rec (D.content dev.old)
+        tree.old txn.old list.old limbo.old tree.new txn.new list.new limbo.new) }
+    ensures refused { IfErr result (
+        Refuses K.form (site_of (layout geo.now) tree.old.group) how rec (D.content dev.old)
+        tree.old txn.old list.old limbo.old) }
+    ensures kept { IfErr result (
+        IsAsBefore tree.old txn.old list.old limbo.old tree.new txn.new list.new limbo.new) }
+    ensures below { AreBelow (D.blocks dev.old Image) txn.old.blocks →
+        OnOk result (AreBelow (D.blocks dev.old Image) txn.new.blocks) }
     ensures same { StaySame tree.old txn.old list.old tree.new txn.new list.new }
     ensures left { IsLeft D.Device dev.old dev.new steps.old steps.new }
     ensures cause { HasCause is_devices (D.faults dev.old) (D.faults dev.new) result }

@@ -3,13 +3,11 @@ ghost use Rattle.std.specs.Prelude.{◌≡◌, ◌≤◌, ℕ, List, Ok, IfOk, t
 ghost use Rattle.ag_headers.specs.Ring.{entries};
 ghost use Rattle.blk_device.specs.Causes.{HasCause};
 ghost use Rattle.list_edit.specs.Edits.{edited};
-ghost use Rattle.over_blocks.specs.Over.{over};
 ghost use Rattle.tree_blocks.specs.Calls.{Reads};
 ghost use Rattle.tree_blocks.specs.Reading.{is_failed as is_walks};
 ghost use Rattle.tree_blocks.specs.Told.{WhereTold};
-ghost use Rattle.tree_defs.specs.Tree.{read_tree};
 ghost use Rattle.tree_walk.specs.Meets.{MeetsTree};
-ghost use Rattle.edit_place.specs.Checked.{HasBlocks, IsChecked};
+ghost use Rattle.edit_place.specs.Checked.{HasBlocks, IsChecked, reads_draft};
 ghost use Rattle.edit_place.specs.Stops.{is_failed};
 
 use crate::stop::Stop;
@@ -36,7 +34,7 @@ fn walk_draft<K: RecKind, B: Blocks>(
 ) -> Result<TreeRead<K::Rec>, WalkFault>
     requires here { B.place blocks.old ≡ site.now }
     ensures exact { WhereTold (B.told blocks.old) (λ m.
-        MeetsTree (read_tree K.form site.now (over draft.now.placed.items m) draft.now.root draft.now.levels) result) }
+        MeetsTree (reads_draft K.form site.now draft.now m) result) }
     ensures reading { Reads B.Blocks blocks.old blocks.new }
     ensures cause { HasCause is_walks (B.faults blocks.old) (B.faults blocks.new) result }
 {
@@ -62,7 +60,8 @@ fn first_of(alloc: Global, list: &Agfl, count: u32) -> Result<Vec<u32>, AllocErr
     choose(alloc, &[], list, count as usize, count)
 }
 
-// Whether the draft has the blocks that it may have; false also where it isn't known without memory.
+// Whether the draft has the blocks that it may have, where these are the tree's before and
+// afterwards, and those that it takes.
 fn has_blocks(
     alloc: Global,
     before: &[u32],
@@ -71,7 +70,8 @@ fn has_blocks(
     draft: &Draft,
     lsn: u64,
 ) -> Result<bool, AllocError>
-    ensures { IfOk result (λ yes. yes ≡ true → HasBlocks lsn before.now taken.now after.now draft.now) }
+    ensures { IfOk result (λ yes. yes ≡ true →
+        HasBlocks lsn before.now taken.now after.now draft.now) }
 {
     let (placed, freed) = (&draft.placed, &draft.freed);
     if !are_theirs(placed, before, taken) || !all_placed(taken, placed) {
@@ -83,7 +83,8 @@ fn has_blocks(
     are_moved(alloc, before, taken, after, freed)
 }
 
-// The tree edited in memory, where that is the edited list in blocks that it may have; the blocks are only read.
+// The tree edited in memory, where that is the edited list in blocks that it may have; the blocks
+// are only read.
 pub(crate) fn checked<K: RecKind, B: Blocks>(
     alloc: Global,
     blocks: &mut B,
@@ -92,7 +93,8 @@ pub(crate) fn checked<K: RecKind, B: Blocks>(
     list: &Agfl,
 ) -> Result<Draft, Stop>
     requires here { B.place blocks.old ≡ ask.now.site }
-    ensures checked { IfOk result (IsChecked K.form ask.now tree.now (B.told blocks.old) (entries list.now)) }
+    ensures checked { IfOk result (
+        IsChecked K.form ask.now tree.now (B.told blocks.old) (entries list.now)) }
     ensures reading { Reads B.Blocks blocks.old blocks.new }
     ensures cause { HasCause is_failed (B.faults blocks.old) (B.faults blocks.new) result }
 {

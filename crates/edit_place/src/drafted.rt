@@ -1,13 +1,12 @@
 // An edit of a tree in memory, read through a transaction, with room for its blocks.
-ghost use Rattle.std.specs.Prelude.{◌≡◌, ◌+◌, ◌*◌, ◌^◌, ◌<◌, ◌≤◌, true, length, IfOk};
-ghost use Rattle.ag_headers.specs.Ring.{entries};
+ghost use Rattle.std.specs.Prelude.{◌≡◌, ◌+◌, ◌*◌, ◌^◌, ◌<◌, ◌≤◌, true, IfOk};
 ghost use Rattle.blk_cache.specs.Cache.{AgreesTold};
 ghost use Rattle.blk_device.specs.Causes.{HasCause};
 ghost use Rattle.blk_device.specs.Reading.{OnlyRead};
 ghost use Rattle.blk_device.specs.declared.device.Region.TheVariants.{Image};
-ghost use Rattle.join_blocks.specs.Joins.{count_of, placed_in, LieBelow};
-ghost use Rattle.txn_blocks.specs.Through.{changed};
-ghost use Rattle.edit_place.specs.Checked.{IsChecked};
+ghost use Rattle.join_blocks.specs.Joins.{placed_in, LieBelow};
+ghost use Rattle.edit_place.specs.Checked.{Checks};
+ghost use Rattle.edit_place.specs.Placed.{HaveRoom};
 ghost use Rattle.edit_place.specs.Stops.{is_failed};
 
 use crate::checked::checked;
@@ -34,8 +33,7 @@ fn numbers_of(alloc: Global, placed: &[(u32, Block)]) -> Result<Vec<u32>, AllocE
     placed.iter().map(|e| e.0).collect(alloc)
 }
 
-// Whether the transaction has room for these blocks, counted from the group's block 0; false also where that isn't
-// known without memory.
+// Whether the transaction has room for these blocks, which are counted from the group's block 0.
 fn has_room(
     alloc: Global,
     txn: &Txn,
@@ -43,7 +41,7 @@ fn has_room(
     placed: &[(u32, Block)],
 ) -> Result<bool, AllocError>
     requires fits { LieBelow (2 ^ 64) first (placed_in placed.now) }
-    ensures { IfOk result (λ yes. yes ≡ true → count_of txn.now.blocks first (placed_in placed.now) ≤ MAX_BATCH) }
+    ensures { IfOk result (λ yes. yes ≡ true → HaveRoom txn.now first placed.now) }
 {
     let numbers = numbers_of(alloc, placed)?;
     let count = count_with(alloc, txn, first, &numbers)?;
@@ -64,7 +62,8 @@ fn through<K: RecKind, D: Device, L: Ledger>(
     requires room { ask.now.site.first + ask.now.site.bounds.length ≤ D.blocks dev.old Image }
     requires fits { 8 * (ask.now.site.first + ask.now.site.bounds.length) < 2 ^ 64 }
     requires agreed { AgreesTold cache.old (D.content dev.old) }
-    ensures checked { IfOk result (IsChecked K.form ask.now tree.now (changed ask.now.site txn.old (D.content dev.old)) (entries list.now)) }
+    ensures checked { IfOk result (
+        Checks K.form ask.now tree.now txn.old (D.content dev.old) list.now) }
     ensures txn { txn.new ≡ txn.old }
     ensures reading { OnlyRead D.Device dev.old dev.new steps.old steps.new }
     ensures cause { HasCause is_failed (D.faults dev.old) (D.faults dev.new) result }
@@ -94,8 +93,10 @@ pub(crate) fn drafted<K: RecKind, D: Device, L: Ledger>(
     requires room { ask.now.site.first + ask.now.site.bounds.length ≤ D.blocks dev.old Image }
     requires fits { 8 * (ask.now.site.first + ask.now.site.bounds.length) < 2 ^ 64 }
     requires agreed { AgreesTold cache.old (D.content dev.old) }
-    ensures checked { IfOk result (IsChecked K.form ask.now tree.now (changed ask.now.site txn.old (D.content dev.old)) (entries list.now)) }
-    ensures few { IfOk result (λ draft. count_of txn.old.blocks ask.now.site.first (placed_in draft.placed.items) ≤ MAX_BATCH) }
+    ensures checked { IfOk result (
+        Checks K.form ask.now tree.now txn.old (D.content dev.old) list.now) }
+    ensures few { IfOk result (λ draft.
+        HaveRoom txn.old ask.now.site.first draft.placed.items) }
     ensures txn { txn.new ≡ txn.old }
     ensures reading { OnlyRead D.Device dev.old dev.new steps.old steps.new }
     ensures cause { HasCause is_failed (D.faults dev.old) (D.faults dev.new) result }

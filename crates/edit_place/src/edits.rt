@@ -30,12 +30,10 @@ use tree_blocks::TreeAt;
 use tree_defs::Site;
 use tree_edit::EditFault;
 
-/// Edits a tree, as one change of the transaction. Refused, in this order, with the first bad block of the
-/// tree, Missing or Overlap where the list of its records can't be edited, Short where the free list has
-/// fewer blocks than the tree needs, TooLarge where the transaction would have more than 160 blocks; Failed
-/// only where the device failed, and for want of memory before anything is joined. After a refusal the tree,
-/// the list, limbo and the mark are as they were, and so is what is joined, but after Failed
-/// (XFS Algorithms and Data Structures, "Short Format B+trees").
+/// Edits a tree, as one change of the transaction. Refused, in this order, with a first bad block,
+/// Missing, Overlap, Short of free blocks, TooLarge above 160 blocks; for memory; Failed where the
+/// device failed. After a refusal the tree, list and limbo are as they were, and so is what is
+/// joined, but after Failed (XFS Algorithms and Data Structures, "Short Format B+trees").
 pub fn edit<K: RecKind, D: Device, L: Ledger>(
     alloc: Global,
     dev: &mut D,
@@ -52,12 +50,20 @@ pub fn edit<K: RecKind, D: Device, L: Ledger>(
     requires kind { tree.old.kind ≡ K.form.kind }
     requires group { tree.old.group < geo.now.agcount }
     requires room { geo.now.dblocks ≤ D.blocks dev.old Image }
-    requires given { IsPut how → (K.form.is_in_range (site_of (layout geo.now) tree.old.group).bounds rec ≡ true) × (K.form.is_supported rec ≡ true) }
+    requires given { IsPut how →
+        (K.form.is_in_range (site_of (layout geo.now) tree.old.group).bounds rec ≡ true)
+        × (K.form.is_supported rec ≡ true) }
     requires agreed { AgreesTold cache.old (D.content dev.old) }
-    ensures edited { OnOk result (Changes K.form (site_of (layout geo.now) tree.old.group) how rec (D.content dev.old) tree.old txn.old list.old limbo.old tree.new txn.new list.new limbo.new) }
-    ensures refused { IfErr result (Refuses K.form (site_of (layout geo.now) tree.old.group) how rec (D.content dev.old) tree.old txn.old list.old limbo.old) }
-    ensures kept { IfErr result (IsAsBefore tree.old txn.old list.old limbo.old tree.new txn.new list.new limbo.new) }
-    ensures below { AreBelow (D.blocks dev.old Image) txn.old.blocks → OnOk result (AreBelow (D.blocks dev.old Image) txn.new.blocks) }
+    ensures edited { OnOk result (
+        Changes K.form (site_of (layout geo.now) tree.old.group) how rec (D.content dev.old)
+        tree.old txn.old list.old limbo.old tree.new txn.new list.new limbo.new) }
+    ensures refused { IfErr result (
+        Refuses K.form (site_of (layout geo.now) tree.old.group) how rec (D.content dev.old)
+        tree.old txn.old list.old limbo.old) }
+    ensures kept { IfErr result (
+        IsAsBefore tree.old txn.old list.old limbo.old tree.new txn.new list.new limbo.new) }
+    ensures below { AreBelow (D.blocks dev.old Image) txn.old.blocks →
+        OnOk result (AreBelow (D.blocks dev.old Image) txn.new.blocks) }
     ensures same { StaySame tree.old txn.old list.old tree.new txn.new list.new }
     ensures left { IsLeft D.Device dev.old dev.new steps.old steps.new }
     ensures cause { HasCause is_devices (D.faults dev.old) (D.faults dev.new) result }

@@ -1,5 +1,5 @@
-//! A tree of a group with a record put in, taken out or changed: a tree of one leaf is written anew, and of a
-//! larger one the blocks on the edited way alone.
+//! A tree of a group with a record put in, taken out or changed: a tree of one leaf is written
+//! anew, and of a larger one the blocks on the edited way alone.
 #![tactic(auto)]
 
 mod anew;

@@ -1,18 +1,18 @@
 // An edit of a tree in place: the blocks on its way alone are written.
-ghost use Rattle.std.specs.Prelude.{◌≡◌, ◌+◌, ◌*◌, ◌^◌, ◌<◌, ◌≤◌, true, false, length, drop, OnOk, OnErr, IfOk, IfErr};
+ghost use Rattle.std.specs.Prelude.{◌≡◌, ◌+◌, ◌*◌, ◌^◌, ◌<◌, ◌≤◌, true, false, length};
+ghost use Rattle.std.specs.Prelude.{OnOk, OnErr, IfOk, IfErr};
 ghost use Rattle.ag_headers.specs.Ring.{entries};
 ghost use Rattle.blk_cache.specs.Cache.{AgreesTold};
 ghost use Rattle.blk_device.specs.Causes.{HasCause};
 ghost use Rattle.blk_device.specs.Reading.{OnlyRead};
 ghost use Rattle.blk_device.specs.declared.device.Region.TheVariants.{Image};
 ghost use Rattle.edit_blocks.specs.Choice.{for_limbo, HasRoomFor};
-ghost use Rattle.join_blocks.specs.Joins.{count_of, placed_in, LieBelow};
+ghost use Rattle.join_blocks.specs.Joins.{placed_in, LieBelow};
 ghost use Rattle.meta_txn.specs.Joined.{AreBelow};
 ghost use Rattle.tree_edit.specs.Faults.{is_devices};
-ghost use Rattle.tree_edit.specs.Prepared.{held};
 ghost use Rattle.tree_edit.specs.Stays.{StaySame};
 ghost use Rattle.edit_place.specs.Calls.{Changes};
-ghost use Rattle.edit_place.specs.Placed.{IsPlaced, StayAll, StayBut};
+ghost use Rattle.edit_place.specs.Placed.{HaveRoom, Places, StayAll, StayBut, untaken};
 
 use crate::drafted::drafted;
 use crate::stop::Stop;
@@ -25,7 +25,6 @@ use join_blocks::join_put;
 use meta_txn::Txn;
 use over_blocks::Draft;
 use place_plan::Ask;
-use redo_area::MAX_BATCH;
 use sblock::RecKind;
 use std::alloc::Global;
 use std::sync::ledger::Ledger;
@@ -46,11 +45,14 @@ fn put<D: Device, L: Ledger>(
 ) -> Result<(), EditFault>
     requires inside { LieBelow (D.blocks dev.old Image) first (placed_in draft.now.placed.items) }
     requires fits { LieBelow (2 ^ 64) first (placed_in draft.now.placed.items) }
-    requires few { count_of txn.old.blocks first (placed_in draft.now.placed.items) ≤ MAX_BATCH }
+    requires few { HaveRoom txn.old first draft.now.placed.items }
     requires enough { draft.now.taken ≤ length (entries list.old) }
-    requires room { HasRoomFor limbo.old (for_limbo (drop draft.now.taken (entries list.old)) draft.now.freed.items) }
+    requires room { HasRoomFor limbo.old (
+        for_limbo (untaken draft.now list.old) draft.now.freed.items) }
     requires agreed { AgreesTold cache.old (D.content dev.old) }
-    ensures placed { OnOk result (IsPlaced first draft.now (held tree.old txn.old list.old limbo.old.items) (held tree.new txn.new list.new limbo.new.items)) }
+    ensures placed { OnOk result (
+        Places first draft.now tree.old txn.old list.old limbo.old
+        tree.new txn.new list.new limbo.new) }
     ensures kept { OnErr result (StayBut tree.old list.old limbo.old tree.new list.new limbo.new) }
     ensures failed { IfErr result (λ fault. fault ≡ EditFault.Failed) }
     ensures same { StaySame tree.old txn.old list.old tree.new txn.new list.new }
@@ -66,7 +68,8 @@ fn put<D: Device, L: Ledger>(
     Ok(())
 }
 
-// Edits the tree of a group that lies here in place; false where that isn't done, and then nothing is changed.
+// Edits the tree of a group that lies here in place; false where that isn't done, and then nothing
+// is changed.
 pub(crate) fn in_place<K: RecKind, D: Device, L: Ledger>(
     alloc: Global,
     dev: &mut D,
@@ -81,9 +84,14 @@ pub(crate) fn in_place<K: RecKind, D: Device, L: Ledger>(
     requires room { ask.now.site.first + ask.now.site.bounds.length ≤ D.blocks dev.old Image }
     requires fits { 8 * (ask.now.site.first + ask.now.site.bounds.length) < 2 ^ 64 }
     requires agreed { AgreesTold cache.old (D.content dev.old) }
-    ensures edited { IfOk result (λ is. is ≡ true → Changes K.form ask.now.site ask.now.how ask.now.rec (D.content dev.old) tree.old txn.old list.old limbo.old tree.new txn.new list.new limbo.new) }
-    ensures below { IfOk result (λ is. is ≡ true → AreBelow (D.blocks dev.old Image) txn.old.blocks → AreBelow (D.blocks dev.old Image) txn.new.blocks) }
-    ensures unchanged { IfOk result (λ is. is ≡ false → StayAll tree.old txn.old list.old limbo.old tree.new txn.new list.new limbo.new) }
+    ensures edited { IfOk result (λ is. is ≡ true →
+        Changes K.form ask.now.site ask.now.how ask.now.rec (D.content dev.old)
+        tree.old txn.old list.old limbo.old tree.new txn.new list.new limbo.new) }
+    ensures below { IfOk result (λ is. is ≡ true →
+        AreBelow (D.blocks dev.old Image) txn.old.blocks →
+        AreBelow (D.blocks dev.old Image) txn.new.blocks) }
+    ensures unchanged { IfOk result (λ is. is ≡ false →
+        StayAll tree.old txn.old list.old limbo.old tree.new txn.new list.new limbo.new) }
     ensures kept { OnErr result (StayBut tree.old list.old limbo.old tree.new list.new limbo.new) }
     ensures failed { IfErr result (λ fault. fault ≡ EditFault.Failed) }
     ensures same { StaySame tree.old txn.old list.old tree.new txn.new list.new }

@@ -5,7 +5,8 @@ use list_edit::ListFault;
 use std::alloc::AllocError;
 use tree_blocks::WalkFault;
 
-// Why a tree isn't edited in place: the device failed, or for any other reason, and then it is written anew.
+// Why a tree isn't edited in place: the device failed, or for any other reason, and then it is
+// written anew.
 #[derive(Clone, Copy)]
 pub(crate) enum Stop {
     Failed,

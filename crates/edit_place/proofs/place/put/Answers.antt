@@ -1,9 +1,9 @@
-use Rattle.std.proofs.Common.{◌++◌, ℕ, List, drop, refl, ap, ◌∙◌, arith}
+use Rattle.std.proofs.Common.{ℕ, List, drop, refl, ap, ◌∙◌, arith}
 use Rattle.ag_headers.specs.Ring.{entries}
 use Rattle.byte_fields.specs.declared.block.Block.{Block}
-use Rattle.edit_blocks.specs.Choice.{for_list, for_limbo}
 use Rattle.join_blocks.specs.Joins.{count_of, placed_in, with_all}
 use Rattle.join_blocks.proofs.CountLemmas.{counts_joined}
+use Rattle.edit_place.proofs.PlaceLemmas.{limbo_so, listed_so}
 use Rattle.edit_place.proofs.place.put.Goals as goal
 
 pub returns-clause-placed : goal.returns-clause-placed
@@ -18,9 +18,9 @@ returns-clause-placed g c =
     record {
       root = refl {a = c.args.draft.now.root};
       levels = refl {a = c.args.draft.now.levels};
-      joined = c.in_ok-join_put.ensures.put ∙ ap (λ (es : List (ℕ × Block)). with_all first es old) c.deref.ensures.value;
+      joined = ◌∙◌ {b = with_all first c.deref.result.now old} c.in_ok-join_put.ensures.put (ap (λ (es : List (ℕ × Block)). with_all first es old) c.deref.ensures.value);
       marked = c.join_put.ensures.marked;
       room = omega (arith, many, same, few);
-      list = c.give_back.ensures.list ∙ ap (λ (xs : List ℕ). xs ++ for_list xs c.deref-2.result.now) c.take_from.ensures.rest ∙ ap (λ (bs : List ℕ). rest ++ for_list rest bs) c.deref-2.ensures.value;
-      limbo = c.give_back.ensures.limbo ∙ ap (λ (xs : List ℕ). c.args.limbo.now.items ++ for_limbo xs c.deref-2.result.now) c.take_from.ensures.rest ∙ ap (λ (bs : List ℕ). c.args.limbo.now.items ++ for_limbo rest bs) c.deref-2.ensures.value;
+      list = listed_so (entries c.give_back.new.list) (entries c.take_from.new.list) rest c.deref-2.result.now draft.freed.items c.give_back.ensures.list c.take_from.ensures.rest c.deref-2.ensures.value;
+      limbo = limbo_so c.give_back.new.limbo.items c.args.limbo.now.items (entries c.take_from.new.list) rest c.deref-2.result.now draft.freed.items c.give_back.ensures.limbo c.take_from.ensures.rest c.deref-2.ensures.value;
     }
