@@ -1,10 +1,11 @@
 -- When a check finds nothing to repair.
-use Rattle.std.specs.Prelude.{◌≡◌, ◌&&◌, Bool, true, false, List, [], ◌∷◌, Option, Some, None, Result, Ok, Err, ⊤}
+use Rattle.std.specs.Prelude.{◌≡◌, Bool, true, false, Option, Some, None, ⊤}
 use Rattle.std.specs.Global.{Vec}
 use Rattle.fs_model.specs.declared.entry.Entry.{Entry}
 use Rattle.fs_model.specs.declared.entry.Entry.TheVariants as entries
 use Rattle.fs_model.specs.declared.verdict.Verdict.{Verdict}
 use Rattle.fs_model.specs.declared.verdict.Verdict.TheVariants as verdicts
+use Rattle.sblock.specs.Lists.{Each}
 use Rattle.space_check.specs.Checked.{Checked, Judged}
 
 abbrev pub is_good : Verdict → Bool
@@ -16,12 +17,7 @@ abbrev pub is_good_entry : Entry → Bool
 is_good_entry (entries.Verdict g unit verdict) = is_good verdict
 is_good_entry entry = false
 
--- nothing else is in the journal
-unfoldable pub all_good : List Entry → Bool
-all_good [] = true
-all_good (entry ∷ es) = is_good_entry entry && all_good es
-
 -- this is the journal of a check that found every unit good
 abbrev pub IsSound : Checked → Option (Vec Entry) → Type 0
 IsSound checked None = ⊤
-IsSound checked (Some journal) = (checked ≡ Judged journal.items) × (all_good journal.items ≡ true)
+IsSound checked (Some journal) = (checked ≡ Judged journal.items) × Each is_good_entry journal.items

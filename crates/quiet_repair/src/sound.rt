@@ -1,12 +1,13 @@
 // The check that comes before a repair.
-ghost use Rattle.std.specs.Prelude.{◌≡◌, ◌≤◌, ℕ, IfOk, IfSome, None};
+ghost use Rattle.std.specs.Prelude.{◌≡◌, ◌≤◌, ℕ, IfOk, IfSome, IsTrue, None};
 ghost use Rattle.blk_device.specs.Causes.{HasCause, MovesOnly, any_error};
 ghost use Rattle.blk_device.specs.declared.device.Region.TheVariants.{Image};
 ghost use Rattle.geom.specs.Places.{layout};
 ghost use Rattle.image_check.specs.Image.{image_checked};
+ghost use Rattle.sblock.specs.Lists.{Each};
 ghost use Rattle.space_check.specs.Checked.{CheckCause, MeetsCheck};
 ghost use Rattle.space_check.specs.Progress.{is_failed};
-ghost use Rattle.quiet_repair.specs.Sound.{IsSound, all_good, is_good_entry};
+ghost use Rattle.quiet_repair.specs.Sound.{IsSound, is_good_entry};
 
 use blk_device::{Device, DeviceFailed};
 use byte_fields::Steps;
@@ -31,7 +32,7 @@ fn is_good(entry: &Entry) -> bool
 
 // Whether nothing else is in a journal.
 fn are_all_good(journal: &[Entry]) -> bool
-    ensures { result ≡ all_good journal.now }
+    ensures { IsTrue result → Each is_good_entry journal.now }
 {
     for entry in journal {
         if !is_good(entry) {

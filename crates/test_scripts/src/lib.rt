@@ -1,5 +1,5 @@
-//! Tests of the reader of scripts: what some texts ask for, and which line of others is wrong. And which
-//! entries of a journal fit the lines of a script.
+//! Tests of the reader of scripts: what some texts ask for, and which line of others is wrong.
+//! And which entries of a journal fit the lines of a script.
 #![tactic(auto)]
 
 mod rows;

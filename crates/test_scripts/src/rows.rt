@@ -16,8 +16,8 @@ pub fn stopped_line_fits()
     ensures { StoppedLineFits }
 {}
 
-/// A line that is done twice, one that is half done and says it is whole, one that is done at another
-/// place, one of another name, and one that answers what stops a writer.
+/// What doesn't fit: a line that is done twice, is half done and says it is whole, is done at
+/// another place or in another file, answers what stops a writer, or leaves an entry behind it.
 pub fn none_fits()
     ensures { NoneFits }
 {}
