@@ -138,8 +138,8 @@ fn a_long_report_goes_to_the_sink_in_pieces(rt: HostRuntime) {
     }
 }
 
-// A journal with these verdicts on free space.
-fn journal_of(alloc: Global, verdicts: &[Verdict]) -> Result<Vec<Entry>, AllocError> {
+// How a journal with these verdicts on free space is told.
+fn status_of(alloc: Global, verdicts: &[Verdict]) -> Result<Status, AllocError> {
     let mut journal = Vec::new(alloc);
     for verdict in verdicts {
         journal.push(Entry::Verdict {
@@ -148,45 +148,8 @@ fn journal_of(alloc: Global, verdicts: &[Verdict]) -> Result<Vec<Entry>, AllocEr
             verdict: *verdict,
         })?;
     }
-    Ok(journal)
-}
-
-// How a check with this journal is told.
-fn status_of(alloc: Global, verdicts: &[Verdict]) -> Result<Status, AllocError> {
-    let journal = journal_of(alloc, verdicts)?;
     let (told, _host) = tell_to(alloc, Finding::Judged(journal), 9)?;
     Ok(told.status)
-}
-
-// How a repair with this journal is told.
-fn repaired_status(
-    alloc: Global,
-    verdicts: &[Verdict],
-    is_sick: bool,
-) -> Result<Status, AllocError> {
-    let journal = journal_of(alloc, verdicts)?;
-    let (told, _host) = tell_to(alloc, Finding::Repaired { journal, is_sick }, 9)?;
-    Ok(told.status)
-}
-
-#[test]
-fn a_repair_is_clean_where_nothing_is_sick_at_its_end(rt: HostRuntime) {
-    let space = Verdict::GaveUp(Reason::Space {
-        reserve: 1,
-        need: 2,
-    });
-    let rows: [(&[Verdict], bool, Status); 6] = [
-        (&[Verdict::Good, Verdict::Rebuilt], false, Status::Clean),
-        (&[Verdict::Good, Verdict::Rebuilt], true, Status::Faulty),
-        (&[], true, Status::Faulty),
-        (&[Verdict::Faulty(1)], false, Status::Faulty),
-        (&[Verdict::Rebuilt, space], false, Status::GaveUp),
-        (&[Verdict::Rebuilt, space], true, Status::GaveUp),
-    ];
-    for (verdicts, is_sick, status) in &rows {
-        let found = repaired_status(rt.alloc(), *verdicts, *is_sick).expect(&rt, MEMORY);
-        same(&rt, found, *status);
-    }
 }
 
 #[test]

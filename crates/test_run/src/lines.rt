@@ -1,13 +1,11 @@
 use super::same::same;
 use crate::runs::MEMORY;
 use ag_headers::HeadFault;
-use fs_derive::Plan;
 use fs_model::Head;
 use geom::ImageFault;
-use small_images::words_of;
 use std::alloc::Global;
 use std::process::Abort;
-use xscrub::{BatchRefusal, Command, LastLine, RedoRefusal, command_of, fixed_line, last_line};
+use xscrub::{Command, LastLine, command_of, fixed_line, last_line};
 
 // Asserts the text of a last line.
 fn expect_text(rt: &impl Abort, alloc: Global, line: LastLine, text: &str) {
@@ -39,41 +37,6 @@ fn last_lines_name_the_cause(rt: HostRuntime) {
     same(&rt, fixed_line(&LastLine::Memory), Some("memory\n"));
     let full = fixed_line(&LastLine::JournalFull);
     same(&rt, full, Some("journal full\n"));
-}
-
-#[test]
-fn last_lines_name_why_there_is_no_repair(rt: HostRuntime) {
-    for (line, text) in [
-        (LastLine::Redo(RedoRefusal::Short), "redo short\n"),
-        (LastLine::Redo(RedoRefusal::Waiting), "redo waiting\n"),
-        (LastLine::Batch(BatchRefusal::Count), "redo count\n"),
-        (LastLine::Batch(BatchRefusal::Size), "redo size\n"),
-        (LastLine::Batch(BatchRefusal::Place), "redo place\n"),
-        (LastLine::Trees, "unbuilt trees\n"),
-    ] {
-        expect_text(&rt, rt.alloc(), line, text);
-        same(&rt, fixed_line(&line), Some(text));
-    }
-}
-
-// Asserts what these words ask for.
-fn expect_command(rt: &impl Abort, alloc: Global, words: &[&str], wanted: Command<'_>) {
-    let words = words_of(alloc, words).expect(rt, MEMORY);
-    let command = command_of(alloc, words.as_slice()).expect(rt, MEMORY);
-    same(rt, command, wanted);
-}
-
-#[test]
-fn words_ask_for_a_repair_with_plan_and_turns(rt: HostRuntime) {
-    let alloc = rt.alloc();
-    let usual = Command::Repair("a.img", "b", Plan::Repair, 1_000_000);
-    expect_command(&rt, alloc, &["repair", "a.img", "--redo", "b"], usual);
-    let all = Command::Repair("a.img", "b", Plan::Rebuild, 7);
-    let words = ["repair", "--rebuild", "--turns=7", "--redo=b", "a.img"];
-    expect_command(&rt, alloc, &words, all);
-    expect_command(&rt, alloc, &["repair", "a.img"], Command::Usage);
-    let no_turns = ["repair", "a.img", "--redo=b", "--turns=0"];
-    expect_command(&rt, alloc, &no_turns, Command::Usage);
 }
 
 #[test]

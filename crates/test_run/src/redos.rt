@@ -1,9 +1,8 @@
 //! Checks with a redo file beside the image.
 use super::same::same;
 use crate::runs::{MEMORY, expect_end, image_with};
-use blk_device::{Device, Region};
 use byte_fields::Block;
-use image_hosts::{Host, MemHost, MemImage, MemRedo, OpenFault, Purpose};
+use image_hosts::{MemHost, MemImage, MemRedo, Purpose};
 use small_images::{ALL_GOOD, altered, mended_heads, small_heads, small_image, words_of};
 use std::alloc::{AllocError, Global};
 use std::collections::BTreeMap;
@@ -164,59 +163,4 @@ fn a_device_that_fails_at_the_gate_ends_the_check(rt: HostRuntime) {
     // A gate that is open ends it before that.
     let (end, host) = check_failing(&rt, alloc, 1, 1);
     expect_end(&rt, &end, &host, 4, "redo waiting\n");
-}
-
-// A host with the small image, of whose device's calls these fail.
-fn host_failing(alloc: Global, call: u64) -> Result<MemHost, AllocError> {
-    let mut image = small_image(alloc)?;
-    image.failing.push(call)?;
-    let mut images = BTreeMap::new(alloc);
-    images.insert(String::from_str(alloc, "a.img")?, image)?;
-    Ok(MemHost::new(alloc, images, Vec::new(alloc)))
-}
-
-// Opens the image for a change beside the redo file `b`, writes a block there, gives the device back, and
-// says whether the block was written.
-fn change_beside(host: &mut MemHost, at: u64, first: u8) -> Result<bool, OpenFault> {
-    let mut dev = host.device("a.img", Some("b"), Purpose::Change)?;
-    let is_there = at < dev.size(Region::Redo);
-    let is_written = is_there && dev.write(Region::Redo, at, &gate(first)).is_ok();
-    host.put_back("a.img", dev);
-    Ok(is_written)
-}
-
-// Asserts that the redo file `b` has this block.
-fn expect_block(rt: &impl Abort, host: &MemHost, at: u64, block: &Block) {
-    match host.redos.get("b") {
-        Some(kept) => {
-            same(rt, kept.is_lost, false);
-            same(rt, kept.size, 162);
-            same(rt, kept.blocks.get(&at), Some(block));
-        }
-        None => panic!(rt; "the redo file is gone"),
-    }
-}
-
-#[test]
-fn the_redo_file_of_a_change_has_what_was_written(rt: HostRuntime) {
-    let mut host = host_failing(rt.alloc(), 100_000).expect(&rt, MEMORY);
-    same(&rt, change_beside(&mut host, 3, 9), Ok(true));
-    expect_block(&rt, &host, 3, &gate(9));
-    expect_block(&rt, &host, 4, &Block::zeroed());
-    // The file is there now: what it had stays.
-    same(&rt, change_beside(&mut host, 161, 8), Ok(true));
-    expect_block(&rt, &host, 3, &gate(9));
-    expect_block(&rt, &host, 161, &gate(8));
-    same(&rt, change_beside(&mut host, 162, 7), Ok(false));
-    same(&rt, host.dev_faults, 0);
-}
-
-#[test]
-fn a_redo_file_that_couldn_t_be_kept_is_lost(rt: HostRuntime) {
-    // Call 0 writes, and call 2 is among those that read the region when the device comes back.
-    let mut host = host_failing(rt.alloc(), 2).expect(&rt, MEMORY);
-    same(&rt, change_beside(&mut host, 3, 9), Ok(true));
-    same(&rt, change_beside(&mut host, 3, 9), Err(OpenFault::Memory));
-    same(&rt, host.dev_faults, 0);
-    same(&rt, host.host_faults, 0);
 }
