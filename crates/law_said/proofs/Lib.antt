@@ -1,0 +1,13 @@
+pub mod Clean
+pub mod Dues
+pub mod Letters
+pub mod Places
+pub mod Ready
+pub mod Rising
+pub mod Session
+pub mod Tests
+pub mod Through
+pub mod Timely
+pub mod True
+pub mod Trust
+pub mod Trusted

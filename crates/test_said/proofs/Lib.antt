@@ -1,0 +1,4 @@
+mod Computing
+mod Nothing
+mod Stands
+mod Within
