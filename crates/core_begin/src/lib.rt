@@ -9,8 +9,10 @@ mod needs;
 mod pieces;
 mod starts;
 mod taking;
+mod whole;
 
 pub use closing::close;
 pub use moves::advance;
 pub use pieces::scan_piece;
 pub use starts::start;
+pub use whole::end_scan;

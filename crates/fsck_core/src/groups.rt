@@ -18,9 +18,9 @@ use fs_model::Unit;
 use std::alloc::Global;
 use std::sync::ledger::Ledger;
 
-// Takes the open unit of a group out of its place, for an event on it: Shut where a fault of the device
-// was noted, and OtherPhase where no unit is open there.
-fn take_open<D: Device>(parts: &mut Parts<D>, g: u32) -> Result<UnitState, ScrubFault>
+/// Takes the open unit of a group out of its place, for an event on it: Shut where a fault of the device
+/// was noted, and OtherPhase where no unit is open there.
+pub(crate) fn take_open<D: Device>(parts: &mut Parts<D>, g: u32) -> Result<UnitState, ScrubFault>
     requires safe { IsSafe D.Device parts.old }
     requires group { g < parts.old.desk.store.geo.agcount }
     ensures taken { IfOk result (IsTaken D.Device parts.old parts.new) }

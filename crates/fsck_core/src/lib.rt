@@ -9,7 +9,9 @@ mod events;
 mod groups;
 mod opened;
 mod opening;
+mod scans;
 
 pub use calls::act;
 pub use ends::{any_sick, into_device};
 pub use opening::open;
+pub use scans::end_scan;

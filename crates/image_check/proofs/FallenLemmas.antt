@@ -34,7 +34,7 @@ fallen_is ps n (Some g) long is = let zero_more : 0 + g ≡ g = omega arith in s
 
 -- ---- no inodes fell
 
-some_none : (n : ℕ) → ◌≡◌ {A = Option ℕ} (Some n) None → ⊥
+pub some_none : (n : ℕ) → ◌≡◌ {A = Option ℕ} (Some n) None → ⊥
 some_none n e = cc
 
 all_from : (f : ℕ → Bool) (k n : ℕ) → first_fallen_from k (flat_map (λ g. f g ∷ []) (numbers k n)) ≡ None → (h : ℕ) → k ≤ h → h < k + n → f h ≡ true

@@ -38,8 +38,8 @@ use std::mem;
 use std::sync::ledger::Ledger;
 use unit_plan::ClaimSet;
 
-// All groups.
-fn whole(geo: &Geometry) -> Part
+/// All groups.
+pub(crate) fn whole(geo: &Geometry) -> Part
     ensures from { result.from ≡ 0 }
     ensures to { result.to ≡ geo.now.agcount }
 {
@@ -49,8 +49,8 @@ fn whole(geo: &Geometry) -> Part
     }
 }
 
-// The units of a phase, of which each passed or not; the next phase is put down anew.
-fn take_passed(alloc: Global, tally: &mut Tally) -> Vec<bool>
+/// The units of a phase, of which each passed or not; the next phase is put down anew.
+pub(crate) fn take_passed(alloc: Global, tally: &mut Tally) -> Vec<bool>
     ensures taken { result.items ≡ tally.old.passed.items }
     ensures fresh { tally.new.passed.items ≡ [] }
     ensures journal { tally.new.journal ≡ tally.old.journal }
@@ -59,8 +59,8 @@ fn take_passed(alloc: Global, tally: &mut Tally) -> Vec<bool>
     mem::replace(&mut tally.passed, fresh)
 }
 
-// What was kept of the inodes of each group; the tally has none of it then.
-fn take_inodes(alloc: Global, tally: &mut Tally) -> Vec<GroupInodes>
+/// What was kept of the inodes of each group; the tally has none of it then.
+pub(crate) fn take_inodes(alloc: Global, tally: &mut Tally) -> Vec<GroupInodes>
     ensures taken { result.items ≡ tally.old.inodes.items }
     ensures passed { tally.new.passed.items ≡ tally.old.passed.items }
     ensures journal { tally.new.journal ≡ tally.old.journal }
@@ -69,8 +69,8 @@ fn take_inodes(alloc: Global, tally: &mut Tally) -> Vec<GroupInodes>
     mem::replace(&mut tally.inodes, fresh)
 }
 
-// Reads the forks of all inodes, with the stops of a check.
-fn forks_of<D: Device, L: Ledger, W: Watch>(
+/// Reads the forks of all inodes, with the stops of a check.
+pub(crate) fn forks_of<D: Device, L: Ledger, W: Watch>(
     alloc: Global,
     dev: &mut D,
     geo: &Geometry,
@@ -104,8 +104,8 @@ fn has_fallen(passed: &[bool], g: u32) -> bool
     }
 }
 
-// The first group whose unit didn't pass.
-fn first_fallen(passed: &[bool], groups: u32) -> Option<u32>
+/// The first group whose unit didn't pass.
+pub(crate) fn first_fallen(passed: &[bool], groups: u32) -> Option<u32>
     ensures { IsFirstFallen passed.now groups result }
 {
     for g in 0..groups {

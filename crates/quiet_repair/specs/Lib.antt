@@ -1,3 +1,4 @@
 pub mod Ends
+pub mod Forks
 pub mod Sessions
 pub mod Sound

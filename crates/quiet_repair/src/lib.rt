@@ -2,6 +2,7 @@
 //! and the device with the journal behind it.
 #![tactic(auto)]
 
+mod forks;
 mod repair;
 mod sessions;
 mod sound;

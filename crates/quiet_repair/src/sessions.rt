@@ -1,10 +1,12 @@
 ghost use Rattle.std.specs.Prelude.{◌≡◌, if◌then◌else◌};
 ghost use Rattle.core_parts.specs.Keeps.{IsSteady};
 ghost use Rattle.core_parts.specs.Safe.{IsSafe};
+ghost use Rattle.fsck_core.specs.Acts.{Acts};
 ghost use Rattle.fsck_core.specs.Asks.{MayAsk};
 ghost use Rattle.quiet_repair.specs.Sessions.{EndsFor, GoesOn, IsStopped, Stands};
 ghost use Rattle.scrub_order.specs.Orders.{took_in};
 
+use crate::forks::{Forks, advance_quick};
 use crate::telling::{tell_passed, tell_started};
 use blk_device::Device;
 use byte_fields::Steps;
@@ -35,12 +37,31 @@ fn take_answer(order: &mut Order, answer: Answer, phase: Phase) -> bool
     true
 }
 
+// Does one event. A scan is moved on by the pass over all forks: nobody changes a file meanwhile.
+fn answer_of<D: Device, L: Ledger>(
+    alloc: Global,
+    parts: &mut Parts<D>,
+    forks: &mut Forks,
+    ask: Ask,
+    steps: &mut Steps<L>,
+) -> (Answer, Phase)
+    requires safe { IsSafe D.Device parts.old }
+    requires asked { MayAsk parts.old.desk.store.geo.agcount ask }
+    ensures acted { Acts D.Device parts.old parts.new result.0 }
+{
+    match ask {
+        Ask::Advance { group } => advance_quick(alloc, parts, forks, group, steps),
+        _ => act(alloc, parts, ask, steps),
+    }
+}
+
 // Does the event that the order asks for, and tells the order what it answered. False where the answer
 // isn't one that may come.
 fn ask_once<D: Device, L: Ledger>(
     alloc: Global,
     parts: &mut Parts<D>,
     order: &mut Order,
+    forks: &mut Forks,
     ask: Ask,
     steps: &mut Steps<L>,
 ) -> bool
@@ -49,7 +70,7 @@ fn ask_once<D: Device, L: Ledger>(
     requires stands { Stands parts.old.desk order.old }
     ensures on { GoesOn D.Device parts.old parts.new order.new }
 {
-    let told = act(alloc, parts, ask, steps);
+    let told = answer_of(alloc, parts, forks, ask, steps);
     take_answer(order, told.0, told.1)
 }
 
@@ -58,6 +79,7 @@ fn ask_watched<D: Device, L: Ledger, W: Watch>(
     alloc: Global,
     parts: &mut Parts<D>,
     order: &mut Order,
+    forks: &mut Forks,
     ask: Ask,
     watch: &mut W,
     steps: &mut Steps<L>,
@@ -69,7 +91,7 @@ fn ask_watched<D: Device, L: Ledger, W: Watch>(
 {
     tell_started(watch, ask, parts.desk.store.geo.agcount);
     let before = order.units();
-    let is_taken = ask_once(alloc, parts, order, ask, steps);
+    let is_taken = ask_once(alloc, parts, order, forks, ask, steps);
     tell_passed(watch, before, order.units());
     is_taken
 }
@@ -80,6 +102,7 @@ fn turn_asked<D: Device, L: Ledger, W: Watch>(
     alloc: Global,
     parts: &mut Parts<D>,
     order: &mut Order,
+    forks: &mut Forks,
     ask: Ask,
     watch: &mut W,
     steps: &mut Steps<L>,
@@ -90,7 +113,7 @@ fn turn_asked<D: Device, L: Ledger, W: Watch>(
     ensures on { GoesOn D.Device parts.old parts.new order.new }
     ensures end { EndsFor parts.new.desk result }
 {
-    if ask_watched(alloc, parts, order, ask, watch, steps) {
+    if ask_watched(alloc, parts, order, forks, ask, watch, steps) {
         return None;
     }
     Some(End {
@@ -103,6 +126,7 @@ fn turn<D: Device, L: Ledger, W: Watch>(
     alloc: Global,
     parts: &mut Parts<D>,
     order: &mut Order,
+    forks: &mut Forks,
     watch: &mut W,
     steps: &mut Steps<L>,
 ) -> Option<End>
@@ -112,7 +136,7 @@ fn turn<D: Device, L: Ledger, W: Watch>(
     ensures end { EndsFor parts.new.desk result }
 {
     match order.ask() {
-        Some(ask) => turn_asked(alloc, parts, order, ask, watch, steps),
+        Some(ask) => turn_asked(alloc, parts, order, forks, ask, watch, steps),
         None => Some(End { stop: order.stop() }),
     }
 }
@@ -132,8 +156,9 @@ fn run_order<D: Device, L: Ledger, W: Watch>(
     ensures stop { IsStopped parts.new.desk result }
 {
     let mut order = order;
+    let mut forks = Forks::Unread;
     for _ in 0..u64::MAX {
-        if let Some(end) = turn(alloc, parts, &mut order, watch, steps) {
+        if let Some(end) = turn(alloc, parts, &mut order, &mut forks, watch, steps) {
             return end.stop;
         }
     }
