@@ -76,11 +76,7 @@ fn end_in<D: Device>(parts: &mut Parts<D>, g: u32, owners: Vec<RmapRec>) -> Answ
 /// of all inodes has found, and answers as the move does that ends a scan; with the phase of the group
 /// behind it. It is for a core beside which nobody changes a file
 /// (XFS Online Fsck Design, "Live Inode Scans").
-pub fn end_scan<D: Device>(
-    parts: &mut Parts<D>,
-    g: u32,
-    owners: Vec<RmapRec>,
-) -> (Answer, Phase)
+pub fn end_scan<D: Device>(parts: &mut Parts<D>, g: u32, owners: Vec<RmapRec>) -> (Answer, Phase)
     requires safe { IsSafe D.Device parts.old }
     requires group { g < parts.old.desk.store.geo.agcount }
     ensures safe { IsSafe D.Device parts.new }

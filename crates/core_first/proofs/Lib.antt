@@ -1,0 +1,4 @@
+pub mod GroupLemmas
+pub mod OrderLemmas
+pub mod SeekLemmas
+pub mod WriteLemmas

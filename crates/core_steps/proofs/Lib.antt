@@ -1,0 +1,4 @@
+pub mod PartLemmas
+pub mod ReadLemmas
+pub mod RunLemmas
+pub mod StretchLemmas

@@ -1,0 +1,11 @@
+-- A chain's next step, as the events have it.
+use Rattle.std.specs.Prelude.{◌<◌}
+use Rattle.core_steps.specs.declared.asked.Next.{Next}
+use Rattle.core_write.specs.Chains.{IsNext}
+use Rattle.defer_chain.specs.Owed.{owed}
+use Rattle.defer_chain.specs.declared.kinds.StepKind.{StepKind}
+
+-- the chain has a number, and owes this intent first, for a step of this kind
+pub record IsStep (kind : StepKind) (n : Next) : Type 0 where
+  pub number : n.number < 16
+  pub next : IsNext kind (owed n.chain) n.intent

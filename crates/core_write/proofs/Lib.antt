@@ -1,0 +1,6 @@
+pub mod CallLemmas
+pub mod ChainLemmas
+pub mod FitLemmas
+pub mod PartLemmas
+pub mod Places
+pub mod WriteLemmas

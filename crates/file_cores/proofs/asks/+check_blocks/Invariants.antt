@@ -1,0 +1,4 @@
+use Rattle.file_cores.proofs.asks.+check_blocks.Given as goal
+
+abbrev pub decreases-check_blocks : goal.decreases-check_blocks
+decreases-check_blocks g l = l.left
