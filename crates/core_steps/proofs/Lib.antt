@@ -1,4 +1,5 @@
 pub mod PartLemmas
 pub mod ReadLemmas
 pub mod RunLemmas
+pub mod SaidLemmas
 pub mod StretchLemmas

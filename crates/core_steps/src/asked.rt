@@ -1,6 +1,6 @@
 // Which step a chain is asked for.
 ghost use Rattle.std.specs.Prelude.{◌≡◌, ◌<◌, None, IfOk, OnOk};
-ghost use Rattle.core_steps.specs.Steps.{IsStep};
+ghost use Rattle.core_steps.specs.Steps.{IsAsked, IsStep};
 ghost use Rattle.core_write.specs.Writes.{WritesWell};
 
 use blk_device::Device;
@@ -21,6 +21,7 @@ pub(crate) struct Next {
 // The next step of a chain.
 fn next_of<D: Device>(desk: &Desk<D>, number: u32, kind: StepKind) -> Result<Next, WriteFault>
     ensures step { IfOk result (IsStep kind) }
+    ensures asked { IfOk result (λ next. IsAsked desk.now number next) }
     ensures reason { WritesWell desk.now result }
 {
     match next_step(desk, number, kind) {
@@ -41,6 +42,7 @@ pub(crate) fn step_asked<D: Device>(
     kind: StepKind,
 ) -> Result<Next, WriteFault>
     ensures step { IfOk result (IsStep kind) }
+    ensures asked { IfOk result (λ next. IsAsked desk.now number next) }
     ensures unshut { OnOk result (desk.now.book.shut ≡ None) }
     ensures reason { WritesWell desk.now result }
 {

@@ -1,9 +1,11 @@
-ghost use Rattle.std.specs.Prelude.{◌≡◌, ◌≤◌, ◌<◌, ◌+◌, ◌^◌, None, OnOk, true};
+ghost use Rattle.std.specs.Prelude.{◌≡◌, ◌≤◌, ◌<◌, ◌+◌, ◌++◌, ◌∷◌, [], None, OnOk, true};
 ghost use Rattle.std.specs.Vec.{vec_capacity, vec_len};
 ghost use Rattle.core_desk.specs.Asks.{IsUsable};
 ghost use Rattle.core_parts.specs.Keeps.{IsSteady};
 ghost use Rattle.core_parts.specs.Safe.{IsKept, IsSafe};
 ghost use Rattle.core_steps.specs.Counts.{IsDone, IsFound, IsPart};
+ghost use Rattle.core_steps.specs.Entries.Counted.{Blocked, Stretched};
+ghost use Rattle.core_steps.specs.Entries.{HasSaid, SaysRef, counted_on, is_more as is_more_of, ref_entry};
 ghost use Rattle.core_steps.specs.Steps.{IsStep};
 ghost use Rattle.core_write.specs.Writes.{IsGivenAll, IsGivenGroup, IsLeftAll, IsLeftGroup, WriteParts, WritesWell};
 ghost use Rattle.defer_chain.specs.Steps.{is_less};
@@ -12,15 +14,13 @@ ghost use Rattle.unit_edits.specs.Opened.{IsOpen};
 
 use crate::asked::{Next, step_asked};
 use crate::stretch::{Sought, Span, span_over};
-use crate::writes::write_edit;
+use crate::writes::{mark_if_left, write_edit};
 use blk_device::Device;
 use byte_fields::Steps;
 use core_calls::WriteFault;
 use core_desk::add_entry;
 use core_parts::{Desk, GroupKept, Parts};
-use core_write::{
-    begin_edit, chain_room, edit_refc, follow_moves, is_sick, mark_kind, mark_left, put_chain,
-};
+use core_write::{begin_edit, chain_room, edit_refc, follow_moves, is_sick, mark_kind, put_chain};
 use defer_chain::{Chain, StepKind};
 use fs_model::{Cause, Entry};
 use fs_state::{Intent, IntentKind};
@@ -51,7 +51,9 @@ const NONE_LEFT: Left = Left {
 };
 
 // Whether counts rise.
-fn is_more(intent: &Intent) -> bool {
+fn is_more(intent: &Intent) -> bool
+    ensures { result ≡ is_more_of intent.now.kind }
+{
     matches!(intent.kind, IntentKind::RefMore)
 }
 
@@ -82,6 +84,7 @@ fn say_counted<D: Device>(desk: &mut Desk<D>, next: &Next, done: Done)
     ensures steady { IsSteady D.Device desk.old desk.new }
     ensures longer { vec_len desk.new.book.journal ≡ vec_len desk.old.book.journal + 1 }
     ensures capacity { vec_capacity desk.new.book.journal ≡ vec_capacity desk.old.book.journal }
+    ensures said { desk.new.book.journal.items ≡ desk.old.book.journal.items ++ ref_entry next.now.number next.now.intent done.count ∷ [] }
 {
     add_entry(
         desk,
@@ -111,16 +114,18 @@ fn say_done<D: Device>(
     ensures usable { IsUsable D.Device desk.new }
     ensures steady { IsSteady D.Device desk.old desk.new }
     ensures kept { IsKept kept.new }
+    ensures said { desk.new.book.journal.items ≡ counted_on desk.old.book.journal.items next.now.number next.now.intent (Stretched done.count left.refc left.rmap) }
 {
     say_counted(desk, next, done);
-    mark_left(desk, kept, next.intent.group, Kind::Refc, left.refc);
-    mark_left(desk, kept, next.intent.group, Kind::Rmap, left.rmap);
+    mark_if_left(desk, kept, next.intent.group, Kind::Refc, left.refc);
+    mark_if_left(desk, kept, next.intent.group, Kind::Rmap, left.rmap);
 }
 
 // The whole rest of the intent, of which nothing is freed.
 fn whole_rest(intent: &Intent) -> Done
     requires { 0 < intent.now.count }
-    ensures { IsDone intent.now result }
+    ensures done { IsDone intent.now result }
+    ensures whole { result.count ≡ intent.now.count }
 {
     Done {
         count: intent.count,
@@ -136,6 +141,7 @@ fn pass_over<D: Device>(desk: &mut Desk<D>, kept: &mut GroupKept, next: &Next)
     ensures usable { IsUsable D.Device desk.new }
     ensures steady { IsSteady D.Device desk.old desk.new }
     ensures kept { IsKept kept.new }
+    ensures said { desk.new.book.journal.items ≡ counted_on desk.old.book.journal.items next.now.number next.now.intent (Stretched next.now.intent.count None None) }
 {
     say_counted(desk, next, whole_rest(&next.intent));
 }
@@ -149,6 +155,7 @@ fn pass_met<D: Device>(desk: &mut Desk<D>, kept: &mut GroupKept, next: &Next, ca
     ensures usable { IsUsable D.Device desk.new }
     ensures steady { IsSteady D.Device desk.old desk.new }
     ensures kept { IsKept kept.new }
+    ensures said { desk.new.book.journal.items ≡ counted_on desk.old.book.journal.items next.now.number next.now.intent (Blocked cause) }
 {
     mark_kind(desk, kept, next.intent.group, Kind::Refc, cause);
     say_counted(desk, next, whole_rest(&next.intent));
@@ -310,6 +317,7 @@ fn step_span<D: Device, L: Ledger>(
     requires part { IsPart span.count next.now.intent.count }
     requires room { vec_len desk.old.book.journal + 3 ≤ vec_capacity desk.old.book.journal }
     ensures left { IsLeftGroup D.Device desk.old desk.new kept.new result }
+    ensures said { OnOk result (SaysRef next.now.number next.now.intent desk.old.book.journal.items desk.new.book.journal.items) }
 {
     match change_span(alloc, desk, kept, &next.intent, span, steps) {
         Ok(left) => {
@@ -334,6 +342,7 @@ fn step_sought<D: Device, L: Ledger>(
     requires found { IsFound next.now.intent.count sought }
     requires room { vec_len desk.old.book.journal + 3 ≤ vec_capacity desk.old.book.journal }
     ensures left { IsLeftGroup D.Device desk.old desk.new kept.new result }
+    ensures said { OnOk result (SaysRef next.now.number next.now.intent desk.old.book.journal.items desk.new.book.journal.items) }
 {
     match sought {
         Sought::Found(span) => step_span(alloc, desk, kept, next, span, steps),
@@ -356,6 +365,7 @@ fn step_sound<D: Device, L: Ledger>(
     requires step { IsStep RefStep next.now }
     requires room { vec_len desk.old.book.journal + 3 ≤ vec_capacity desk.old.book.journal }
     ensures left { IsLeftGroup D.Device desk.old desk.new kept.new result }
+    ensures said { OnOk result (SaysRef next.now.number next.now.intent desk.old.book.journal.items desk.new.book.journal.items) }
 {
     match span_over(desk, &kept.heads, &next.intent, steps) {
         Ok(sought) => step_sought(alloc, desk, kept, next, sought, steps),
@@ -375,6 +385,7 @@ fn step_roomy<D: Device, L: Ledger>(
     requires step { IsStep RefStep next.now }
     requires room { vec_len desk.old.book.journal + 3 ≤ vec_capacity desk.old.book.journal }
     ensures left { IsLeftGroup D.Device desk.old desk.new kept.new result }
+    ensures said { OnOk result (SaysRef next.now.number next.now.intent desk.old.book.journal.items desk.new.book.journal.items) }
 {
     if is_sick(kept, Kind::Refc) {
         pass_over(desk, kept, next);
@@ -394,6 +405,7 @@ fn step_in<D: Device, L: Ledger>(
     requires given { IsGivenGroup D.Device desk.old kept.old next.now.intent.group }
     requires step { IsStep RefStep next.now }
     ensures left { IsLeftGroup D.Device desk.old desk.new kept.new result }
+    ensures said { OnOk result (SaysRef next.now.number next.now.intent desk.old.book.journal.items desk.new.book.journal.items) }
 {
     match chain_room(desk, 3) {
         Ok(()) => step_roomy(alloc, desk, kept, next, steps),
@@ -414,6 +426,7 @@ fn step_among<D: Device, L: Ledger>(
     requires step { IsStep RefStep next.now }
     ensures left { IsLeftAll D.Device desk.old desk.new groups.old.items groups.new.items }
     ensures reason { WritesWell desk.new result }
+    ensures said { OnOk result (SaysRef next.now.number next.now.intent desk.old.book.journal.items desk.new.book.journal.items) }
 {
     let kept = &mut groups[next.intent.group as usize];
     step_in(alloc, desk, kept, next, steps)
@@ -430,6 +443,7 @@ fn step_asked_for<D: Device, L: Ledger>(
     requires unshut { parts.old.desk.book.shut ≡ None }
     requires step { IsStep RefStep next.now }
     ensures left { WriteParts D.Device parts.old parts.new result }
+    ensures said { OnOk result (SaysRef next.now.number next.now.intent parts.old.desk.book.journal.items parts.new.desk.book.journal.items) }
 {
     // Never: a first event puts intents of a group that is there.
     if next.intent.group >= parts.desk.store.geo.agcount {
@@ -454,6 +468,7 @@ pub fn ref_step<D: Device, L: Ledger>(
 ) -> Result<(), WriteFault>
     requires safe { IsSafe D.Device parts.old }
     ensures left { WriteParts D.Device parts.old parts.new result }
+    ensures said { OnOk result (HasSaid SaysRef chain parts.old parts.new) }
 {
     match step_asked(&parts.desk, chain, StepKind::Ref) {
         Ok(next) => step_asked_for(alloc, parts, &next, steps),

@@ -1,8 +1,10 @@
-ghost use Rattle.std.specs.Prelude.{◌≡◌, ◌≤◌, ◌<◌, ◌+◌, None, OnOk, true};
+ghost use Rattle.std.specs.Prelude.{◌≡◌, ◌≤◌, ◌<◌, ◌+◌, ◌++◌, ◌∷◌, [], None, OnOk, true};
 ghost use Rattle.std.specs.Vec.{vec_capacity, vec_len};
 ghost use Rattle.core_desk.specs.Asks.{IsUsable};
 ghost use Rattle.core_parts.specs.Keeps.{IsSteady};
 ghost use Rattle.core_parts.specs.Safe.{IsKept, IsSafe};
+ghost use Rattle.core_steps.specs.Entries.Fate.{Faulty, Given, Owned, Unasked};
+ghost use Rattle.core_steps.specs.Entries.{HasSaid, SaysFree, free_entry, freed_on};
 ghost use Rattle.core_steps.specs.Steps.{IsStep};
 ghost use Rattle.core_write.specs.Writes.{IsGivenAll, IsGivenGroup, IsLeftAll, IsLeftGroup, WriteParts, WritesWell};
 ghost use Rattle.defer_chain.specs.Owed.{owed};
@@ -12,14 +14,14 @@ ghost use Rattle.unit_edits.specs.Opened.{IsOpen};
 
 use crate::asked::{Next, step_asked};
 use crate::reads::{Owner, owner_over};
-use crate::writes::write_edit;
+use crate::writes::{mark_if_left, write_edit};
 use blk_device::Device;
 use byte_fields::Steps;
 use core_calls::WriteFault;
 use core_desk::add_entry;
 use core_edit::{SpaceKinds, SpaceLeft};
 use core_parts::{Desk, GroupKept, Parts};
-use core_write::{begin_edit, chain_room, give_space, is_sick, mark_kind, mark_left, put_chain};
+use core_write::{begin_edit, chain_room, give_space, is_sick, mark_kind, put_chain};
 use defer_chain::{Chain, StepKind};
 use fs_model::{Cause, Entry};
 use fs_state::Intent;
@@ -53,6 +55,7 @@ fn say_freed<D: Device>(desk: &mut Desk<D>, next: &Next, kept: bool)
     ensures steady { IsSteady D.Device desk.old desk.new }
     ensures longer { vec_len desk.new.book.journal ≡ vec_len desk.old.book.journal + 1 }
     ensures capacity { vec_capacity desk.new.book.journal ≡ vec_capacity desk.old.book.journal }
+    ensures said { desk.new.book.journal.items ≡ desk.old.book.journal.items ++ free_entry next.now.number next.now.intent kept ∷ [] }
 {
     add_entry(
         desk,
@@ -75,6 +78,7 @@ fn keep_unasked<D: Device>(desk: &mut Desk<D>, kept: &mut GroupKept, next: &Next
     ensures usable { IsUsable D.Device desk.new }
     ensures steady { IsSteady D.Device desk.old desk.new }
     ensures kept { IsKept kept.new }
+    ensures said { desk.new.book.journal.items ≡ freed_on desk.old.book.journal.items next.now.number next.now.intent Unasked }
 {
     say_freed(desk, next, true);
 }
@@ -87,6 +91,7 @@ fn keep_met<D: Device>(desk: &mut Desk<D>, kept: &mut GroupKept, next: &Next, ca
     ensures usable { IsUsable D.Device desk.new }
     ensures steady { IsSteady D.Device desk.old desk.new }
     ensures kept { IsKept kept.new }
+    ensures said { desk.new.book.journal.items ≡ freed_on desk.old.book.journal.items next.now.number next.now.intent (Faulty cause) }
 {
     mark_kind(desk, kept, next.intent.group, Kind::Rmap, cause);
     say_freed(desk, next, true);
@@ -100,6 +105,7 @@ fn keep_owned<D: Device>(desk: &mut Desk<D>, kept: &mut GroupKept, next: &Next)
     ensures usable { IsUsable D.Device desk.new }
     ensures steady { IsSteady D.Device desk.old desk.new }
     ensures kept { IsKept kept.new }
+    ensures said { desk.new.book.journal.items ≡ freed_on desk.old.book.journal.items next.now.number next.now.intent Owned }
 {
     say_freed(desk, next, true);
     mark_kind(desk, kept, next.intent.group, Kind::Refc, Cause::Owner);
@@ -113,10 +119,11 @@ fn say_given<D: Device>(desk: &mut Desk<D>, kept: &mut GroupKept, next: &Next, l
     ensures usable { IsUsable D.Device desk.new }
     ensures steady { IsSteady D.Device desk.old desk.new }
     ensures kept { IsKept kept.new }
+    ensures said { desk.new.book.journal.items ≡ freed_on desk.old.book.journal.items next.now.number next.now.intent (Given left.bno left.cnt) }
 {
     say_freed(desk, next, false);
-    mark_left(desk, kept, next.intent.group, Kind::Bno, left.bno);
-    mark_left(desk, kept, next.intent.group, Kind::Cnt, left.cnt);
+    mark_if_left(desk, kept, next.intent.group, Kind::Bno, left.bno);
+    mark_if_left(desk, kept, next.intent.group, Kind::Cnt, left.cnt);
 }
 
 // Writes the edit of free space.
@@ -203,6 +210,7 @@ fn free_run<D: Device, L: Ledger>(
     requires step { IsStep FreeStep next.now }
     requires room { vec_len desk.old.book.journal + 3 ≤ vec_capacity desk.old.book.journal }
     ensures left { IsLeftGroup D.Device desk.old desk.new kept.new result }
+    ensures said { OnOk result (SaysFree next.now.number next.now.intent desk.old.book.journal.items desk.new.book.journal.items) }
 {
     match give_sound(alloc, desk, kept, &next.intent, steps) {
         Ok(left) => {
@@ -226,6 +234,7 @@ fn by_owner<D: Device, L: Ledger>(
     requires step { IsStep FreeStep next.now }
     requires room { vec_len desk.old.book.journal + 3 ≤ vec_capacity desk.old.book.journal }
     ensures left { IsLeftGroup D.Device desk.old desk.new kept.new result }
+    ensures said { OnOk result (SaysFree next.now.number next.now.intent desk.old.book.journal.items desk.new.book.journal.items) }
 {
     match owner {
         Owner::Nobody => free_run(alloc, desk, kept, next, steps),
@@ -252,6 +261,7 @@ fn step_guarded<D: Device, L: Ledger>(
     requires step { IsStep FreeStep next.now }
     requires room { vec_len desk.old.book.journal + 3 ≤ vec_capacity desk.old.book.journal }
     ensures left { IsLeftGroup D.Device desk.old desk.new kept.new result }
+    ensures said { OnOk result (SaysFree next.now.number next.now.intent desk.old.book.journal.items desk.new.book.journal.items) }
 {
     let run = Run {
         start: next.intent.block,
@@ -275,6 +285,7 @@ fn step_roomy<D: Device, L: Ledger>(
     requires step { IsStep FreeStep next.now }
     requires room { vec_len desk.old.book.journal + 3 ≤ vec_capacity desk.old.book.journal }
     ensures left { IsLeftGroup D.Device desk.old desk.new kept.new result }
+    ensures said { OnOk result (SaysFree next.now.number next.now.intent desk.old.book.journal.items desk.new.book.journal.items) }
 {
     if is_sick(kept, Kind::Rmap) {
         keep_unasked(desk, kept, next);
@@ -294,6 +305,7 @@ fn step_in<D: Device, L: Ledger>(
     requires given { IsGivenGroup D.Device desk.old kept.old next.now.intent.group }
     requires step { IsStep FreeStep next.now }
     ensures left { IsLeftGroup D.Device desk.old desk.new kept.new result }
+    ensures said { OnOk result (SaysFree next.now.number next.now.intent desk.old.book.journal.items desk.new.book.journal.items) }
 {
     match chain_room(desk, 3) {
         Ok(()) => step_roomy(alloc, desk, kept, next, steps),
@@ -314,6 +326,7 @@ fn step_among<D: Device, L: Ledger>(
     requires step { IsStep FreeStep next.now }
     ensures left { IsLeftAll D.Device desk.old desk.new groups.old.items groups.new.items }
     ensures reason { WritesWell desk.new result }
+    ensures said { OnOk result (SaysFree next.now.number next.now.intent desk.old.book.journal.items desk.new.book.journal.items) }
 {
     let kept = &mut groups[next.intent.group as usize];
     step_in(alloc, desk, kept, next, steps)
@@ -330,6 +343,7 @@ fn step_asked_for<D: Device, L: Ledger>(
     requires unshut { parts.old.desk.book.shut ≡ None }
     requires step { IsStep FreeStep next.now }
     ensures left { WriteParts D.Device parts.old parts.new result }
+    ensures said { OnOk result (SaysFree next.now.number next.now.intent parts.old.desk.book.journal.items parts.new.desk.book.journal.items) }
 {
     // Never: a run that a chain frees is of a group that is there.
     if next.intent.group >= parts.desk.store.geo.agcount {
@@ -352,6 +366,7 @@ pub fn free_step<D: Device, L: Ledger>(
 ) -> Result<(), WriteFault>
     requires safe { IsSafe D.Device parts.old }
     ensures left { WriteParts D.Device parts.old parts.new result }
+    ensures said { OnOk result (HasSaid SaysFree chain parts.old parts.new) }
 {
     match step_asked(&parts.desk, chain, StepKind::Free) {
         Ok(next) => step_asked_for(alloc, parts, &next, steps),

@@ -1,27 +1,29 @@
-ghost use Rattle.std.specs.Prelude.{◌≡◌, ◌≤◌, ◌<◌, ◌+◌, ◌^◌, None, OnOk, true};
+ghost use Rattle.std.specs.Prelude.{◌≡◌, ◌≤◌, ◌<◌, ◌+◌, ◌^◌, ◌++◌, ◌∷◌, [], None, OnOk, true};
 ghost use Rattle.std.specs.Vec.{vec_capacity, vec_len};
 ghost use Rattle.core_desk.specs.Asks.{IsUsable};
 ghost use Rattle.core_parts.specs.Keeps.{IsSteady};
 ghost use Rattle.core_parts.specs.Safe.{IsKept, IsSafe};
 ghost use Rattle.core_scan.specs.Followed.{HasRuns};
+ghost use Rattle.core_steps.specs.Entries.{HasSaid, SaysRmap, mark_of, rmap_entry};
 ghost use Rattle.core_steps.specs.Hears.{StaysPlace};
 ghost use Rattle.core_steps.specs.Steps.{IsStep};
 ghost use Rattle.core_write.specs.Writes.{IsGivenAll, IsGivenGroup, IsLeftAll, IsLeftGroup, WriteAnswers, WriteParts, WritesWell};
 ghost use Rattle.defer_chain.specs.Owed.{owed};
 ghost use Rattle.defer_chain.specs.Steps.{first_is, is_rmap};
 ghost use Rattle.defer_chain.specs.declared.kinds.StepKind.TheVariants.{Rmap as RmapStep};
+ghost use Rattle.sblock.specs.declared.kind.Kind.TheVariants.{Rmap};
 ghost use Rattle.unit_edits.specs.Opened.{IsOpen};
 
 use crate::asked::{Next, step_asked};
 use crate::hears::{hear, rmap_place, take_room};
 use crate::runs::{has_runs, run_with, taken_word};
-use crate::writes::write_edit;
+use crate::writes::{mark_if_left, write_edit};
 use blk_device::Device;
 use byte_fields::Steps;
 use core_calls::WriteFault;
 use core_desk::add_entry;
 use core_parts::{Desk, GroupKept, Parts, UnitState};
-use core_write::{RmapEdit, begin_edit, chain_room, edit_rmap, is_sick, mark_left, put_chain};
+use core_write::{RmapEdit, begin_edit, chain_room, edit_rmap, is_sick, put_chain};
 use defer_chain::{Chain, StepKind};
 use fs_model::{Cause, Entry};
 use fs_state::{Intent, IntentKind};
@@ -134,6 +136,7 @@ fn say_done<D: Device>(desk: &mut Desk<D>, kept: &mut GroupKept, next: &Next, le
     ensures usable { IsUsable D.Device desk.new }
     ensures steady { IsSteady D.Device desk.old desk.new }
     ensures kept { IsKept kept.new }
+    ensures said { desk.new.book.journal.items ≡ desk.old.book.journal.items ++ rmap_entry next.now.number next.now.intent ∷ [] ++ mark_of next.now.intent.group Rmap left }
 {
     let intent = next.intent;
     add_entry(
@@ -146,7 +149,7 @@ fn say_done<D: Device>(desk: &mut Desk<D>, kept: &mut GroupKept, next: &Next, le
             count: intent.count,
         },
     );
-    mark_left(desk, kept, intent.group, Kind::Rmap, left);
+    mark_if_left(desk, kept, intent.group, Kind::Rmap, left);
     put_chain(desk, next.number, Some(finished(&next.chain)));
 }
 
@@ -163,6 +166,7 @@ fn step_roomy<D: Device, L: Ledger>(
     requires runs { HasRuns next.now.intent }
     requires room { vec_len desk.old.book.journal + 2 ≤ vec_capacity desk.old.book.journal }
     ensures left { IsLeftGroup D.Device desk.old desk.new kept.new result }
+    ensures said { OnOk result (SaysRmap next.now.number next.now.intent desk.old.book.journal.items desk.new.book.journal.items) }
 {
     match edit_sound(alloc, desk, kept, &next.intent, steps) {
         Ok(left) => {
@@ -185,6 +189,7 @@ fn step_in<D: Device, L: Ledger>(
     requires step { IsStep RmapStep next.now }
     requires runs { HasRuns next.now.intent }
     ensures left { IsLeftGroup D.Device desk.old desk.new kept.new result }
+    ensures said { OnOk result (SaysRmap next.now.number next.now.intent desk.old.book.journal.items desk.new.book.journal.items) }
 {
     match chain_room(desk, 2) {
         Ok(()) => step_roomy(alloc, desk, kept, next, steps),
@@ -206,6 +211,7 @@ fn step_among<D: Device, L: Ledger>(
     requires runs { HasRuns next.now.intent }
     ensures left { IsLeftAll D.Device desk.old desk.new groups.old.items groups.new.items }
     ensures reason { WritesWell desk.new result }
+    ensures said { OnOk result (SaysRmap next.now.number next.now.intent desk.old.book.journal.items desk.new.book.journal.items) }
 {
     let kept = &mut groups[next.intent.group as usize];
     step_in(alloc, desk, kept, next, steps)
@@ -227,6 +233,7 @@ fn step_heard<D: Device, L: Ledger>(
     ensures left { IsLeftAll D.Device desk.old desk.new groups.old.items groups.new.items }
     ensures reason { WritesWell desk.new result }
     ensures stays { StaysPlace place.old place.new }
+    ensures said { OnOk result (SaysRmap next.now.number next.now.intent desk.old.book.journal.items desk.new.book.journal.items) }
 {
     match take_room(place) {
         Ok(()) => match step_among(alloc, desk, groups, next, steps) {
@@ -251,6 +258,7 @@ fn step_asked_for<D: Device, L: Ledger>(
     requires unshut { parts.old.desk.book.shut ≡ None }
     requires step { IsStep RmapStep next.now }
     ensures left { WriteParts D.Device parts.old parts.new result }
+    ensures said { OnOk result (SaysRmap next.now.number next.now.intent parts.old.desk.book.journal.items parts.new.desk.book.journal.items) }
 {
     // Never: a first event puts intents of a group that is there, with runs that lie in it.
     if next.intent.group >= parts.desk.store.geo.agcount || !has_runs(&next.intent) {
@@ -281,6 +289,7 @@ pub fn rmap_step<D: Device, L: Ledger>(
 ) -> Result<(), WriteFault>
     requires safe { IsSafe D.Device parts.old }
     ensures left { WriteParts D.Device parts.old parts.new result }
+    ensures said { OnOk result (HasSaid SaysRmap chain parts.old parts.new) }
 {
     match step_asked(&parts.desk, chain, StepKind::Rmap) {
         Ok(next) => step_asked_for(alloc, parts, &next, steps),

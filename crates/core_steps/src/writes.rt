@@ -1,7 +1,10 @@
-// The commit of a step's edits.
-ghost use Rattle.std.specs.Prelude.{◌≡◌, ◌<◌, OnOk};
+// The commit of a step's edits, and marks behind its entry.
+ghost use Rattle.std.specs.Prelude.{◌≡◌, ◌≤◌, ◌<◌, ◌+◌, ◌++◌, OnOk};
+ghost use Rattle.std.specs.Vec.{vec_capacity, vec_len};
 ghost use Rattle.core_desk.specs.Asks.{IsUsable};
+ghost use Rattle.core_parts.specs.Keeps.{IsSteady};
 ghost use Rattle.core_parts.specs.Safe.{IsKept};
+ghost use Rattle.core_steps.specs.Entries.{mark_of};
 ghost use Rattle.core_write.specs.Writes.{WriteAnswers};
 ghost use Rattle.unit_edits.specs.Opened.{IsOpen};
 
@@ -9,7 +12,9 @@ use blk_device::Device;
 use byte_fields::Steps;
 use core_calls::WriteFault;
 use core_parts::{Desk, GroupKept};
-use core_write::{commit_edit, freed_room, settle_edit};
+use core_write::{commit_edit, freed_room, mark_kind, settle_edit};
+use fs_model::Cause;
+use sblock::Kind;
 use std::sync::ledger::Ledger;
 
 // Writes what was edited, once limbo has room for what was freed.
@@ -55,5 +60,29 @@ pub(crate) fn write_edit<D: Device, L: Ledger>(
     match freed_room(desk, kept) {
         Ok(()) => write_roomy(desk, kept, g, steps),
         Err(fault) => Err(fault),
+    }
+}
+
+/// Marks a btree of a group that an edit left for a cause, if it did.
+#[tactic(auto, using(core_desk::proofs::AskLemmas::steady_self, crate::proofs::SaidLemmas::none_more))]
+pub(crate) fn mark_if_left<D: Device>(
+    desk: &mut Desk<D>,
+    kept: &mut GroupKept,
+    g: u32,
+    kind: Kind,
+    left: Option<Cause>,
+)
+    requires usable { IsUsable D.Device desk.old }
+    requires room { vec_len desk.old.book.journal < vec_capacity desk.old.book.journal }
+    ensures usable { IsUsable D.Device desk.new }
+    ensures steady { IsSteady D.Device desk.old desk.new }
+    ensures few { vec_len desk.new.book.journal ≤ vec_len desk.old.book.journal + 1 }
+    ensures capacity { vec_capacity desk.new.book.journal ≡ vec_capacity desk.old.book.journal }
+    ensures said { desk.new.book.journal.items ≡ desk.old.book.journal.items ++ mark_of g kind left }
+    ensures kept { IsKept kept.old → IsKept kept.new }
+{
+    match left {
+        Some(cause) => mark_kind(desk, kept, g, kind, cause),
+        None => {}
     }
 }
