@@ -54,7 +54,8 @@ fn mapping_record(fork: Fork, ino: u64, m: &Mapping, start: u32) -> RmapRec
     }
 }
 
-// Puts a record into a shadow that has room.
+/// Puts a record into a shadow that has room for it
+/// (XFS Online Fsck Design, "Case Study: Rebuilding Reverse Mapping Records").
 pub fn add_record(shadow: &mut Shadow, rec: &RmapRec)
     requires rec { HasRoom rec.now }
     requires room { 1 ≤ shadow.old.room }
