@@ -13,10 +13,10 @@ use Rattle.block_reap.specs.Limbo.{IsLimbo}
 use Rattle.byte_fields.specs.Steps.{StepCount}
 use Rattle.core_begin.specs.Early.{IsEarly, IsTaken, WhereScanned}
 use Rattle.core_calls.specs.declared.answers.ScrubFault.{ScrubFault}
-use Rattle.core_desk.proofs.AskLemmas.{asked_steady, asked_usable, steady_on, steady_self}
-use Rattle.core_desk.specs.Asks.{Answers, IsUsable}
+use Rattle.core_parts.proofs.common.AskLemmas.{asked_steady, asked_usable, steady_on, steady_self}
+use Rattle.core_parts.specs.Common.Asks.{Answers, IsUsable}
 use Rattle.core_edit.specs.declared.heads.EditHeads.{EditHeads}
-use Rattle.core_open.specs.Inodes.{are_trees, tree_of}
+use Rattle.core_parts.specs.Opens.Inodes.{are_trees, tree_of}
 use Rattle.core_parts.specs.Keeps.{IsAsked, IsGiven, IsLeft, IsSteady, failed_by}
 use Rattle.core_parts.specs.Reasons.{HasReason}
 use Rattle.core_parts.specs.Safe.{AreKept, AreUnits, IsDesk, IsKept, IsSafe, IsUnit, IsWork}

@@ -1,13 +1,13 @@
 ghost use Rattle.std.specs.Prelude.{◌≡◌};
 ghost use Rattle.core_begin.specs.Early.{IsEarly};
-ghost use Rattle.core_desk.specs.Asks.{IsUsable};
+ghost use Rattle.core_parts.specs.Common.Asks.{IsUsable};
 ghost use Rattle.core_parts.specs.Keeps.{IsSteady};
 ghost use Rattle.core_parts.specs.Reasons.{HasReason};
 ghost use Rattle.core_parts.specs.Safe.{IsDesk};
 
 use blk_device::Device;
 use core_calls::ScrubFault;
-use core_desk::say_verdict;
+use core_parts::common::say_verdict;
 use core_parts::{Desk, UnitState, Work};
 use fs_model::{Reason, Verdict};
 

@@ -1,6 +1,6 @@
 ghost use Rattle.std.specs.Prelude.{◌≡◌, IfErr, IfOk, OnErr};
 ghost use Rattle.core_begin.specs.Early.{IsEarly, phase_after};
-ghost use Rattle.core_desk.specs.Asks.{Answers, IsStopped, IsUsable};
+ghost use Rattle.core_parts.specs.Common.Asks.{Answers, IsStopped, IsUsable};
 ghost use Rattle.core_parts.specs.Keeps.{IsAsked, IsGiven, IsLeft, failed_by};
 ghost use Rattle.core_parts.specs.Phases.{phase_in};
 ghost use Rattle.core_parts.specs.Reasons.{AnswersWell};
@@ -11,7 +11,7 @@ use crate::taking::take_scan;
 use blk_device::Device;
 use byte_fields::Steps;
 use core_calls::{Moved, ScrubFault};
-use core_desk::stop_by;
+use core_parts::common::stop_by;
 use core_parts::{Desk, GroupKept, UnitState, Work, phase_of};
 use core_scan::{Moved as ScanMoved, Scan, Stuck, owners_of};
 use fs_model::{Evidence, Reason};

@@ -1,6 +1,6 @@
 ghost use Rattle.std.specs.Prelude.{◌≡◌, ◌<◌, length};
 
-use core_desk::is_unit_stood;
+use core_parts::common::is_unit_stood;
 use core_parts::{GroupKept, UnitState};
 use fs_model::Unit;
 

@@ -1,7 +1,7 @@
 ghost use Rattle.std.specs.Prelude.{◌≡◌, OnOk};
 ghost use Rattle.core_begin.specs.Early.{IsEarly};
 ghost use Rattle.core_calls.specs.declared.answers.Phase.{Phase};
-ghost use Rattle.core_desk.specs.Asks.{Answers, IsStopped, IsUsable};
+ghost use Rattle.core_parts.specs.Common.Asks.{Answers, IsStopped, IsUsable};
 ghost use Rattle.core_parts.specs.Keeps.{IsAsked, IsGiven, IsLeft, failed_by};
 ghost use Rattle.core_parts.specs.Phases.{phase_in};
 ghost use Rattle.core_parts.specs.Reasons.{AnswersWell};
@@ -12,7 +12,7 @@ use crate::taking::{put_scan, take_scan};
 use blk_device::Device;
 use byte_fields::Steps;
 use core_calls::{Phase, ScrubFault};
-use core_desk::stop_by;
+use core_parts::common::stop_by;
 use core_parts::{Desk, GroupKept, UnitState, phase_of};
 use core_scan::{Scan, ScanStop, read_piece};
 use fs_model::{Evidence, Reason};

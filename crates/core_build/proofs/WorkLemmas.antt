@@ -7,8 +7,8 @@ use Rattle.geom.specs.Places.{layout}
 use Rattle.geom.specs.declared.geometry.Geometry.{Geometry}
 use Rattle.core_calls.specs.declared.answers.ScrubFault.{ScrubFault}
 use Rattle.core_calls.specs.declared.answers.ScrubFault.TheVariants as faults
-use Rattle.core_desk.proofs.AskLemmas.{steady_self}
-use Rattle.core_desk.specs.Asks.{Answers}
+use Rattle.core_parts.proofs.common.AskLemmas.{steady_self}
+use Rattle.core_parts.specs.Common.Asks.{Answers}
 use Rattle.core_parts.specs.Keeps.{IsGiven, IsLeft}
 use Rattle.core_parts.specs.Safe.{IsKept, IsUnit, IsWork}
 use Rattle.core_parts.specs.declared.desk.Desk.{Desk}

@@ -5,7 +5,7 @@ use Rattle.blk_device.specs.declared.device.Device.{Ghosts}
 use Rattle.geom.specs.Layout.{Layout}
 use Rattle.core_calls.specs.declared.answers.ScrubFault.{ScrubFault}
 use Rattle.core_calls.specs.declared.answers.ScrubFault.TheVariants as faults
-use Rattle.core_desk.specs.Asks.{IsUsable}
+use Rattle.core_parts.specs.Common.Asks.{IsUsable}
 use Rattle.core_parts.specs.Keeps.{IsSteady}
 use Rattle.core_parts.specs.declared.desk.Desk.{Desk}
 use Rattle.core_parts.specs.declared.units.Work.{Work}

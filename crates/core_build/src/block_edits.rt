@@ -1,7 +1,7 @@
 // Edits and commits of a unit's group over a desk.
 ghost use Rattle.std.specs.Prelude.{◌≡◌, ◌<◌, OnOk};
 ghost use Rattle.core_build.specs.Pieces.{BookStays, IfMemory};
-ghost use Rattle.core_desk.specs.Asks.{Answers, IsUsable};
+ghost use Rattle.core_parts.specs.Common.Asks.{Answers, IsUsable};
 ghost use Rattle.core_edit.specs.Open.{is_device};
 ghost use Rattle.core_parts.specs.Keeps.{IsAsked, failed_by};
 ghost use Rattle.unit_edits.specs.Opened.{IsOpen};
@@ -9,9 +9,9 @@ ghost use Rattle.unit_edits.specs.Opened.{IsOpen};
 use blk_device::Device;
 use byte_fields::Steps;
 use core_calls::ScrubFault;
-use core_desk::stop_by;
 use core_edit::Stop;
 use core_parts::Desk;
+use core_parts::common::stop_by;
 use std::alloc::Global;
 use std::sync::ledger::Ledger;
 use unit_edits::{EditPlace, IndexesLeft, Reserved, Spare, commit, reserve_listed, reserve_spare};

@@ -3,15 +3,15 @@ ghost use Rattle.std.specs.Prelude.{◌≡◌, ◌<◌, ◌≤◌, ◌+◌};
 ghost use Rattle.std.specs.Vec.{vec_capacity, vec_len};
 ghost use Rattle.block_reap.specs.Limbo.{IsLimbo};
 ghost use Rattle.core_build.specs.Pieces.{IfMemory, MetBy, Notes};
-ghost use Rattle.core_desk.specs.Asks.{Answers, IsUsable};
+ghost use Rattle.core_parts.specs.Common.Asks.{Answers, IsUsable};
 ghost use Rattle.core_parts.specs.Safe.{IsKept};
 ghost use Rattle.core_reserve.specs.declared.rebuild.Rebuild.{Rebuild};
 
 use blk_device::Device;
 use block_reap::{LimboRun, put};
 use core_calls::ScrubFault;
-use core_desk::{add_entry, mark_sick};
 use core_edit::Freed;
+use core_parts::common::{add_entry, mark_sick};
 use core_parts::{Desk, GroupKept};
 use core_reserve::{Rebuild, make_room};
 use fs_model::{Cause, Entry};

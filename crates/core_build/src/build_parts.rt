@@ -6,9 +6,9 @@ ghost use Rattle.core_reserve.specs.Rebuilt.{IsRebuilding, IsSpareBelow, IsStead
 ghost use Rattle.geom.specs.Places.{layout};
 
 use core_calls::ScrubFault;
-use core_desk::space_trust;
 use core_edit::EditHeads;
 use core_judge::Judging;
+use core_parts::common::space_trust;
 use core_parts::{GroupKept, UnitState, Work};
 use core_reserve::{Next, Rebuild, Staging, begin_rebuild, choose_next, ready, take_next};
 use geom::Geometry;

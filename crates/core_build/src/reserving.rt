@@ -1,7 +1,7 @@
 ghost use Rattle.std.specs.Prelude.{◌<◌, ◌≤◌, ◌+◌};
 ghost use Rattle.std.specs.Vec.{vec_capacity, vec_len};
 ghost use Rattle.core_build.specs.Pieces.{IfMemory, KeepsBuild, MetBy};
-ghost use Rattle.core_desk.specs.Asks.{Answers, IsUsable};
+ghost use Rattle.core_parts.specs.Common.Asks.{Answers, IsUsable};
 ghost use Rattle.core_judge.specs.Judging.{IsJudging};
 ghost use Rattle.core_parts.specs.Keeps.{IsGiven, IsLeft};
 ghost use Rattle.core_parts.specs.Reasons.{AnswersWell};
@@ -18,8 +18,8 @@ use crate::piece_phase::other_phase;
 use blk_device::Device;
 use byte_fields::Steps;
 use core_calls::ScrubFault;
-use core_desk::{edit_place, entry_room, say_verdict};
 use core_judge::Judging;
+use core_parts::common::{edit_place, entry_room, say_verdict};
 use core_parts::{Desk, GroupKept, UnitState, Work};
 use core_reserve::{Next, Rebuild};
 use fs_model::{Reason, Verdict};

@@ -1,7 +1,7 @@
 ghost use Rattle.std.specs.Prelude.{◌≡◌, ◌<◌, IfOk, IfSome};
 ghost use Rattle.block_reap.specs.Limbo.{IsLimbo};
 ghost use Rattle.core_build.specs.Pieces.{IfMemory, staged_by, told_by};
-ghost use Rattle.core_desk.specs.Asks.{Answers, IsSame, IsUsable};
+ghost use Rattle.core_parts.specs.Common.Asks.{Answers, IsSame, IsUsable};
 ghost use Rattle.core_parts.specs.Keeps.{IsAsked, IsGiven, IsLeft, failed_by};
 ghost use Rattle.core_parts.specs.Reasons.{AnswersWell};
 ghost use Rattle.core_parts.specs.Safe.{IsKept};
@@ -14,7 +14,7 @@ use crate::piece_phase::other_phase;
 use blk_device::Device;
 use byte_fields::Steps;
 use core_calls::ScrubFault;
-use core_desk::stop_by;
+use core_parts::common::stop_by;
 use core_parts::{Desk, GroupKept, UnitState, Work};
 use core_reserve::{Rebuild, Staged, Staging, stage_piece as stage_next, what_switches};
 use inode_pass::PassStop;

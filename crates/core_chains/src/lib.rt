@@ -1,13 +1,9 @@
-//! How chains of writers begin and end: which inodes are files that may be changed, who holds them, and a
-//! chain by its number.
+//! Chains of writers: how they begin and end, their steps, each one commit, and the free list of a group;
+//! and what all events of writers have in common.
 #![tactic(auto)]
 
-mod begins;
-mod ends;
-mod finds;
-mod holders;
-
-pub use begins::begin;
-pub use ends::{end, let_inodes_go};
-pub use finds::{file_fault, read_inode};
-pub use holders::is_held;
+pub mod chains;
+pub mod holds;
+pub mod refill;
+pub mod steps;
+pub mod write;

@@ -1,8 +1,8 @@
 -- What a piece leaves, from what its calls left.
 use Rattle.std.proofs.Common.{ℕ, sym, subst}
 use Rattle.blk_device.specs.declared.device.Device.{Ghosts}
-use Rattle.core_desk.proofs.AskLemmas.{steady_self}
-use Rattle.core_desk.specs.Asks.{IsUsable}
+use Rattle.core_parts.proofs.common.AskLemmas.{steady_self}
+use Rattle.core_parts.specs.Common.Asks.{IsUsable}
 use Rattle.core_judge.specs.Judging.{IsJudging}
 use Rattle.core_judge.specs.declared.compare.Place.{Place}
 use Rattle.core_judge.specs.declared.judging.Judging.{Judging}

@@ -1,4 +1,5 @@
 pub mod Ends
+pub mod Entries
 pub mod Gathers
 pub mod Leaves
 pub mod Told

@@ -1,8 +1,9 @@
 // The comparison of a unit's btrees with what they must hold.
-ghost use Rattle.std.specs.Prelude.{◌≡◌, ℕ, ◌+◌, length, OnErr};
+ghost use Rattle.std.specs.Prelude.{◌≡◌, ℕ, ◌+◌, length, IfOk, OnErr, OnOk};
 ghost use Rattle.core_check.specs.Ends.{IsSpareBy, end_of, verdicts};
+ghost use Rattle.core_check.specs.Entries.{Follows, IsNext, Stands, TellsNext, TellsPiece, which_of};
 ghost use Rattle.core_check.specs.Leaves.{IsComparedBy, Leaves};
-ghost use Rattle.core_desk.specs.Asks.{IsUsable};
+ghost use Rattle.core_parts.specs.Common.Asks.{IsUsable};
 ghost use Rattle.core_judge.specs.Compared.{AreComparable};
 ghost use Rattle.core_judge.specs.Judging.{IsJudging, StaysJudged};
 ghost use Rattle.core_parts.specs.Keeps.{IsGiven, IsLeft};
@@ -44,6 +45,7 @@ fn compare_in(
     ensures judging { (at : Layout) (g : ℕ) → IsJudging at g judging.old → IsJudging at g judging.new }
     ensures stays { StaysJudged judging.old judging.new }
     ensures kept { OnErr result (judging.new ≡ judging.old) }
+    ensures next { IfOk result (λ piece. IsNext kept heads.now judging.old judging.new piece.items) }
 {
     let heads = listed_heads(alloc, heads)?;
     compare_next(alloc, kept, &heads, judging)
@@ -64,6 +66,7 @@ fn enter_piece<D: Device>(
     ensures leaves { Leaves D.Device desk.old desk.new which.group result }
     ensures limbo { kept.new.limbo ≡ kept.old.limbo }
     ensures phase { IsComparedBy result }
+    ensures follows { Follows which judging faults.now desk.old desk.new result }
 {
     let outcome = outcome_of(which.plan, &judging);
     tell_faults(desk, kept, which, faults);
@@ -100,6 +103,11 @@ fn compare_on<D: Device>(
     ensures leaves { Leaves D.Device desk.old desk.new which.group result }
     ensures limbo { kept.new.limbo ≡ kept.old.limbo }
     ensures phase { IsComparedBy result }
+    ensures follows { OnOk result.answer
+        (Follows which piece.judging piece.faults.items desk.old desk.new result) }
+    ensures stands { OnErr result.answer (Stands
+        (Work.Gathered (record piece.judging { at = piece.at; found = piece.found }))
+        desk.old desk.new result) }
 {
     let outcome = outcome_of(which.plan, &piece.judging);
     match piece_room(desk, piece.faults.as_slice(), outcome) {
@@ -131,6 +139,9 @@ fn compare_more<D: Device>(
     ensures leaves { Leaves D.Device desk.old desk.new which.group result }
     ensures limbo { kept.new.limbo ≡ kept.old.limbo }
     ensures phase { IsComparedBy result }
+    ensures tells { OnOk result.answer
+        (TellsNext which kept.old.heads judging desk.old desk.new result) }
+    ensures stands { OnErr result.answer (Stands (Work.Gathered judging) desk.old desk.new result) }
 {
     let at = judging.at;
     let found = judging.found;
@@ -166,6 +177,9 @@ fn compare_work<D: Device>(
     ensures leaves { Leaves D.Device desk.old desk.new which.group result }
     ensures limbo { kept.new.limbo ≡ kept.old.limbo }
     ensures phase { IsComparedBy result }
+    ensures tells { OnOk result.answer
+        (TellsPiece which kept.old.heads work desk.old desk.new result) }
+    ensures stands { OnErr result.answer (Stands work desk.old desk.new result) }
 {
     match work {
         Work::Gathered(judging) => compare_more(alloc, desk, kept, which, judging),
@@ -193,6 +207,11 @@ pub fn compare_piece<D: Device>(
     ensures left { IsLeft D.Device desk.old desk.new kept.new unit.old unit.new }
     ensures reason { AnswersWell desk.new result }
     ensures phase { IsComparedBy (record { work = unit.new.work; answer = result }) }
+    ensures tells { OnOk result (TellsPiece (which_of unit.old) kept.old.heads unit.old.work
+        desk.old desk.new (record { work = unit.new.work; answer = result })) }
+    ensures items { OnErr result (desk.new.book.journal.items ≡ desk.old.book.journal.items) }
+    ensures stands { OnErr result (unit.new ≡ unit.old) }
+    ensures rest { unit.new ≡ record unit.old { work = unit.new.work } }
 {
     let which = Which {
         group: unit.group,

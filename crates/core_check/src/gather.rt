@@ -1,7 +1,9 @@
 // The gathering of what a unit is judged by.
-ghost use Rattle.std.specs.Prelude.{◌≡◌, ◌<◌, IfOk};
+ghost use Rattle.std.specs.Prelude.{◌≡◌, ◌<◌, IfErr, IfOk, List, OnErr};
+ghost use Rattle.core_check.specs.Entries.{IsGatheredBy, IsLeftByGathering};
 ghost use Rattle.core_check.specs.Leaves.{IsGathered, Leaves};
-ghost use Rattle.core_desk.specs.Asks.{Answers, IsUsable};
+ghost use Rattle.core_parts.specs.Common.Asks.{Answers, IsUsable};
+ghost use Rattle.core_parts.specs.Common.Entries.{HasMore, IsHalt, WantsRoom, entries_of, entries_on};
 ghost use Rattle.core_judge.specs.Orderly.{IsOrderly, IsWholeIf};
 ghost use Rattle.core_parts.specs.Keeps.{IsAsked, IsGiven, IsLeft, failed_by};
 ghost use Rattle.core_parts.specs.Reasons.{AnswersWell};
@@ -9,14 +11,15 @@ ghost use Rattle.core_parts.specs.Safe.{IsWork};
 ghost use Rattle.geom.specs.Places.{layout};
 ghost use Rattle.inode_pass.specs.Stops.{is_failed};
 ghost use Rattle.quiet_check.specs.Judged.{AreUnitsOf};
+ghost use Rattle.rmap_recs.specs.declared.records.RmapRec.{RmapRec as RmapRecOf};
 
 use crate::heads::listed_heads;
 use crate::work::{Left, Which, put_work, take_work};
 use blk_device::Device;
 use byte_fields::Steps;
 use core_calls::ScrubFault;
-use core_desk::{say_verdict, stop_by};
 use core_judge::{Concluded, Gathered, Gathering, begin, conclude, gather_piece as gather_next};
+use core_parts::common::{say_verdict, stop_by};
 use core_parts::{Desk, GroupKept, UnitState, Work, phase_of};
 use fs_model::{Evidence, Reason, Verdict};
 use group_trees::GroupHeads;
@@ -46,6 +49,7 @@ fn gather_on<D: Device, L: Ledger>(
     ensures orderly { IsOrderly (layout desk.old.store.geo) which.group gathered.new }
     ensures whole { IfOk result (IsWholeIf (layout desk.old.store.geo) which.group gathered.new) }
     ensures asked { IsAsked D.Device (failed_by is_failed result) desk.old desk.new }
+    ensures owners { gathered.new.owners ≡ gathered.old.owners }
 {
     let dev = &mut desk.store.dev;
     let cache = &mut desk.store.cache;
@@ -69,6 +73,9 @@ fn gather_more<D: Device, L: Ledger>(
     ensures orderly { IsOrderly (layout desk.new.store.geo) which.group gathered.new }
     ensures whole { IfOk result (IsWholeIf (layout desk.new.store.geo) which.group gathered.new) }
     ensures answers { Answers D.Device desk.old desk.new result }
+    ensures items { desk.new.book.journal.items ≡ desk.old.book.journal.items }
+    ensures halts { IfErr result IsHalt }
+    ensures owners { gathered.new.owners ≡ gathered.old.owners }
 {
     match gather_on(alloc, desk, heads, which, gathered, steps) {
         Ok(gathering) => Ok(gathering),
@@ -84,6 +91,10 @@ fn note_evidence<D: Device>(
 ) -> Result<Reason, ScrubFault>
     requires usable { IsUsable D.Device desk.old }
     ensures answers { Answers D.Device desk.old desk.new result }
+    ensures said { IfOk result (λ reason. HasMore desk.old desk.new
+        (entries_on which.group which.unit (ScrubFault.GaveUp reason))) }
+    ensures unsaid { OnErr result (desk.new.book.journal.items ≡ desk.old.book.journal.items) }
+    ensures wants { IfErr result WantsRoom }
 {
     let reason = Reason::Contradiction(evidence);
     say_verdict(desk, which.group, which.unit, Verdict::GaveUp(reason))?;
@@ -101,6 +112,9 @@ fn give_up<D: Device>(
     requires orderly { IsOrderly (layout desk.old.store.geo) which.group gathered }
     ensures leaves { Leaves D.Device desk.old desk.new which.group result }
     ensures phase { IsGathered result }
+    ensures entries { HasMore desk.old desk.new (entries_of which.group which.unit result.answer) }
+    ensures stands { IfErr result.answer (λ fault.
+        IsGatheredBy gathered.owners.items fault result.work) }
 {
     match note_evidence(desk, which, evidence) {
         Ok(reason) => Left {
@@ -119,6 +133,9 @@ fn give_up_whole<D: Device>(desk: &mut Desk<D>, which: Which, evidence: Evidence
     requires usable { IsUsable D.Device desk.old }
     ensures leaves { Leaves D.Device desk.old desk.new which.group result }
     ensures phase { IsGathered result }
+    ensures entries { HasMore desk.old desk.new (entries_of which.group which.unit result.answer) }
+    ensures stands { (owners : List RmapRecOf) → IfErr result.answer (λ fault.
+        IsGatheredBy owners fault result.work) }
 {
     match note_evidence(desk, which, evidence) {
         Ok(reason) => Left {
@@ -147,6 +164,9 @@ fn conclude_unit<D: Device>(
     requires units { AreUnitsOf (layout desk.old.store.geo) which.group gathered.trees gathered.seen.items }
     ensures leaves { Leaves D.Device desk.old desk.new which.group result }
     ensures phase { IsGathered result }
+    ensures entries { HasMore desk.old desk.new (entries_of which.group which.unit result.answer) }
+    ensures stands { IfErr result.answer (λ fault.
+        IsGatheredBy gathered.owners.items fault result.work) }
 {
     let geo = &desk.store.geo;
     let limbo = kept.limbo.as_slice();
@@ -178,6 +198,9 @@ fn follow<D: Device>(
     requires whole { IsWholeIf (layout desk.old.store.geo) which.group piece.gathered piece.gathering }
     ensures leaves { Leaves D.Device desk.old desk.new which.group result }
     ensures phase { IsGathered result }
+    ensures entries { HasMore desk.old desk.new (entries_of which.group which.unit result.answer) }
+    ensures stands { IfErr result.answer (λ fault.
+        IsGatheredBy piece.gathered.owners.items fault result.work) }
 {
     let Piece {
         gathered,
@@ -214,6 +237,9 @@ fn gather_by<D: Device, L: Ledger>(
     requires orderly { IsOrderly (layout desk.old.store.geo) which.group gathered }
     ensures leaves { Leaves D.Device desk.old desk.new which.group result }
     ensures phase { IsGathered result }
+    ensures entries { HasMore desk.old desk.new (entries_of which.group which.unit result.answer) }
+    ensures stands { IfErr result.answer (λ fault.
+        IsGatheredBy gathered.owners.items fault result.work) }
 {
     let mut gathered = gathered;
     match gather_more(alloc, desk, heads, which, &mut gathered, steps) {
@@ -245,6 +271,9 @@ fn gather_from<D: Device, L: Ledger>(
     requires orderly { IsOrderly (layout desk.old.store.geo) which.group gathered }
     ensures leaves { Leaves D.Device desk.old desk.new which.group result }
     ensures phase { IsGathered result }
+    ensures entries { HasMore desk.old desk.new (entries_of which.group which.unit result.answer) }
+    ensures stands { IfErr result.answer (λ fault.
+        IsGatheredBy gathered.owners.items fault result.work) }
 {
     match listed_heads(alloc, &kept.heads) {
         Ok(heads) => gather_by(alloc, desk, kept, which, &heads, gathered, steps),
@@ -268,6 +297,9 @@ fn gather_first<D: Device, L: Ledger>(
     requires group { which.group < desk.old.store.geo.agcount }
     ensures leaves { Leaves D.Device desk.old desk.new which.group result }
     ensures phase { IsGathered result }
+    ensures entries { HasMore desk.old desk.new (entries_of which.group which.unit result.answer) }
+    ensures stands { IfErr result.answer (λ fault.
+        IsGatheredBy owners.items fault result.work) }
 {
     match begin(alloc, &kept.bad, owners) {
         Ok(gathered) => gather_from(alloc, desk, kept, which, gathered, steps),
@@ -292,6 +324,9 @@ fn gather_work<D: Device, L: Ledger>(
     requires work { IsWork (layout desk.old.store.geo) which.group work }
     ensures leaves { Leaves D.Device desk.old desk.new which.group result }
     ensures phase { IsGathered result }
+    ensures entries { HasMore desk.old desk.new (entries_of which.group which.unit result.answer) }
+    ensures stands { IfErr result.answer (λ fault.
+        IsLeftByGathering work fault result.work) }
 {
     match work {
         Work::Closed(owners) => gather_first(alloc, desk, kept, which, owners, steps),
@@ -322,6 +357,10 @@ pub fn gather_piece<D: Device, L: Ledger>(
     ensures reason { AnswersWell desk.new result }
     ensures kept { kept.new ≡ kept.old }
     ensures phase { IsGathered (record { work = unit.new.work; answer = result }) }
+    ensures entries { HasMore desk.old desk.new (entries_of unit.old.group unit.old.unit result) }
+    ensures stands { IfErr result (λ fault.
+        IsLeftByGathering unit.old.work fault unit.new.work) }
+    ensures rest { unit.new ≡ record unit.old { work = unit.new.work } }
 {
     let which = Which {
         group: unit.group,

@@ -1,9 +1,11 @@
 // The faults that a piece found, and what its end makes of the unit.
-ghost use Rattle.std.specs.Prelude.{◌≡◌, ◌+◌, length, IfSome, OnOk};
+ghost use Rattle.std.specs.Prelude.{◌≡◌, ◌+◌, ◌∷◌, [], Ok, length, IfSome, OnOk};
 ghost use Rattle.core_check.specs.Ends.{IsSpareBy, end_of, verdicts};
+ghost use Rattle.core_check.specs.Entries.{is_end, verdict_by, work_by};
 ghost use Rattle.core_check.specs.Leaves.{IsComparedBy, Leaves};
 ghost use Rattle.core_check.specs.Told.{Tells};
-ghost use Rattle.core_desk.specs.Asks.{Answers, IsUsable};
+ghost use Rattle.core_parts.specs.Common.Asks.{Answers, IsUsable};
+ghost use Rattle.core_parts.specs.Common.Entries.{HasMore, verdict_entry};
 ghost use Rattle.core_judge.specs.Judging.{IsJudging};
 ghost use Rattle.core_parts.specs.Keeps.{IsSteady};
 ghost use Rattle.geom.specs.Places.{layout};
@@ -12,8 +14,8 @@ use crate::kinds::kind_of_fault;
 use crate::work::{Left, Which};
 use blk_device::Device;
 use core_calls::ScrubFault;
-use core_desk::{add_entry, entry_room, judged_good, mark_sick};
 use core_judge::{Judging, Place};
+use core_parts::common::{add_entry, entry_room, judged_good, mark_sick};
 use core_parts::{Desk, GroupKept, Work};
 use fs_derive::Plan;
 use fs_model::{Entry, Fault, Verdict};
@@ -73,6 +75,7 @@ pub(crate) fn piece_room<D: Device>(
     requires usable { IsUsable D.Device desk.old }
     ensures answers { Answers D.Device desk.old desk.new result }
     ensures room { OnOk result (IsSpareBy (length faults.now + verdicts outcome) desk.new.book.journal) }
+    ensures items { desk.new.book.journal.items ≡ desk.old.book.journal.items }
 {
     // Never: no list has so many faults.
     let Some(many) = entries_of(faults.len(), outcome) else {
@@ -114,6 +117,7 @@ fn add_verdict<D: Device>(desk: &mut Desk<D>, which: Which, verdict: Verdict)
     requires room { IsSpareBy 1 desk.old.book.journal }
     ensures usable { IsUsable D.Device desk.new }
     ensures steady { IsSteady D.Device desk.old desk.new }
+    ensures said { HasMore desk.old desk.new (verdict_entry which.group which.unit verdict ∷ []) }
 {
     add_entry(
         desk,
@@ -140,6 +144,9 @@ pub(crate) fn decide<D: Device>(
     ensures leaves { Leaves D.Device desk.old desk.new which.group result }
     ensures limbo { kept.new.limbo ≡ kept.old.limbo }
     ensures phase { IsComparedBy result }
+    ensures entries { HasMore desk.old desk.new (verdict_by which.group which.unit outcome) }
+    ensures work { result.work ≡ work_by judging outcome }
+    ensures answer { result.answer ≡ Ok (is_end outcome) }
 {
     match outcome {
         Outcome::More => Left {

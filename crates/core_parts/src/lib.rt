@@ -3,8 +3,10 @@
 #![tactic(auto)]
 
 mod book;
+pub mod common;
 mod desk;
 mod groups;
+pub mod opens;
 mod parts;
 mod units;
 

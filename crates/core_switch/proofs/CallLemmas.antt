@@ -13,8 +13,8 @@ use Rattle.core_reserve.specs.Released.{block_runs, owner_in}
 use Rattle.core_reserve.specs.declared.rebuild.Rebuild.{Rebuild}
 use Rattle.core_switch.specs.Reserves.{has_reserve}
 use Rattle.core_calls.specs.declared.answers.ScrubFault.{ScrubFault}
-use Rattle.core_desk.proofs.AskLemmas.{asked_steady, asked_usable, steady_on}
-use Rattle.core_desk.specs.Asks.{Answers, IsUsable}
+use Rattle.core_parts.proofs.common.AskLemmas.{asked_steady, asked_usable, steady_on}
+use Rattle.core_parts.specs.Common.Asks.{Answers, IsUsable}
 use Rattle.core_edit.specs.Open.{is_device}
 use Rattle.core_edit.specs.declared.stop.Stop.{Stop}
 use Rattle.core_edit.specs.declared.stop.Stop.TheVariants as stops

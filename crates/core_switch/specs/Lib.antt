@@ -1,4 +1,5 @@
 pub mod Freed
 pub mod Marks
+pub mod Says
 pub mod Switched
 pub mod Reserves

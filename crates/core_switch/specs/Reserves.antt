@@ -1,5 +1,5 @@
 -- What a unit has reserved and not switched to.
-use Rattle.std.specs.Prelude.{ℕ, Bool, false}
+use Rattle.std.specs.Prelude.{ℕ, Bool, false, List, []}
 use Rattle.block_reap.specs.Limbo.{has}
 use Rattle.core_parts.specs.declared.units.Work.{Work}
 use Rattle.core_parts.specs.declared.units.Work.TheVariants as works
@@ -16,3 +16,11 @@ is_reserved (works.Reserved r s) b o = has_reserve r b o
 is_reserved (works.Staged r s) b o = has_reserve r b o
 is_reserved (works.Spent r) b o = has_reserve r b o
 is_reserved work b o = false
+
+-- the blocks of the reserve
+abbrev pub reserve_in : Work → List ℕ
+reserve_in (works.Building r) = r.building.reserve.items
+reserve_in (works.Reserved r s) = r.building.reserve.items
+reserve_in (works.Staged r s) = r.building.reserve.items
+reserve_in (works.Spent r) = r.building.reserve.items
+reserve_in work = []

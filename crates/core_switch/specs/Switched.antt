@@ -1,7 +1,7 @@
 -- What a switch leaves in memory, and says.
 use Rattle.std.specs.Prelude.{◌≡◌, ℕ, true, List, [], ◌∷◌, ◌++◌}
 use Rattle.block_reap.specs.declared.runs.LimboRun.{LimboRun}
-use Rattle.core_desk.specs.Kinds.{with_pass, with_unit}
+use Rattle.core_parts.specs.Common.Kinds.{with_pass, with_unit}
 use Rattle.core_parts.specs.declared.book.Book.{Book}
 use Rattle.core_parts.specs.declared.groups.GroupKept.{GroupKept}
 use Rattle.core_parts.specs.declared.units.UnitState.{UnitState}

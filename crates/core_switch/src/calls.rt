@@ -1,7 +1,7 @@
 // The calls on the device that these events make: each alone, and with its fault noted.
 ghost use Rattle.std.specs.Prelude.{◌≡◌, ◌<◌, OnOk};
 ghost use Rattle.blk_device.specs.Causes.{any_error};
-ghost use Rattle.core_desk.specs.Asks.{Answers, IsUsable};
+ghost use Rattle.core_parts.specs.Common.Asks.{Answers, IsUsable};
 ghost use Rattle.core_edit.specs.Open.{is_device};
 ghost use Rattle.core_parts.specs.Keeps.{IsAsked, failed_by};
 ghost use Rattle.unit_edits.specs.Opened.{IsOpen};
@@ -10,9 +10,9 @@ use blk_device::{Device, DeviceFailed, Region};
 use block_reap::LimboRun;
 use byte_fields::Steps;
 use core_calls::ScrubFault;
-use core_desk::stop_by;
 use core_edit::Stop;
 use core_parts::Desk;
+use core_parts::common::stop_by;
 use std::alloc::Global;
 use std::sync::ledger::Ledger;
 use unit_edits::{EditPlace, Reap, commit, open_edit, reap_run};
@@ -92,6 +92,7 @@ pub(crate) fn open_at<D: Device, L: Ledger>(
     ensures answers { Answers D.Device desk.old desk.new result }
     ensures book { OnOk result (desk.new.book ≡ desk.old.book) }
     ensures opened { OnOk result (IsOpen D.Device place.now.group desk.new.store) }
+    ensures items { desk.new.book.journal.items ≡ desk.old.book.journal.items }
 {
     match call_open(desk, place, steps) {
         Ok(()) => Ok(()),
@@ -111,6 +112,7 @@ pub(crate) fn commit_at<D: Device, L: Ledger>(
     requires opened { IsOpen D.Device g desk.old.store }
     ensures answers { Answers D.Device desk.old desk.new result }
     ensures book { OnOk result (desk.new.book ≡ desk.old.book) }
+    ensures items { desk.new.book.journal.items ≡ desk.old.book.journal.items }
 {
     match call_commit(desk, g, steps) {
         Ok(()) => Ok(()),
@@ -132,6 +134,7 @@ pub(crate) fn reap_at<D: Device, L: Ledger>(
     ensures answers { Answers D.Device desk.old desk.new result }
     ensures book { OnOk result (desk.new.book ≡ desk.old.book) }
     ensures opened { OnOk result (IsOpen D.Device place.now.group desk.new.store) }
+    ensures items { desk.new.book.journal.items ≡ desk.old.book.journal.items }
 {
     match call_reap(alloc, desk, place, run, steps) {
         Ok(reap) => Ok(reap),
@@ -145,6 +148,7 @@ pub(crate) fn sync_at<D: Device>(desk: &mut Desk<D>) -> Result<(), ScrubFault>
     requires usable { IsUsable D.Device desk.old }
     ensures answers { Answers D.Device desk.old desk.new result }
     ensures drain { OnOk result (desk.new.drain ≡ desk.old.drain) }
+    ensures items { desk.new.book.journal.items ≡ desk.old.book.journal.items }
 {
     match call_sync(desk) {
         Ok(()) => Ok(()),

@@ -1,13 +1,15 @@
 ghost use Rattle.std.specs.Prelude.{◌≡◌, ◌+◌, ◌≤◌, ◌<◌, Err, Some};
 ghost use Rattle.std.specs.Vec.{vec_capacity, vec_len};
 ghost use Rattle.block_reap.specs.Limbo.{next_of};
+ghost use Rattle.block_reap.specs.declared.runs.LimboRun.{LimboRun};
 ghost use Rattle.core_calls.specs.declared.answers.Phase.TheVariants as phases;
 ghost use Rattle.core_calls.specs.declared.answers.ScrubFault.TheVariants as faults;
-ghost use Rattle.core_desk.specs.Asks.{Answers, IsUsable};
+ghost use Rattle.core_parts.specs.Common.Asks.{Answers, IsUsable};
 ghost use Rattle.core_parts.specs.Keeps.{IsGiven, IsLeft};
 ghost use Rattle.core_parts.specs.Phases.{phase_in};
 ghost use Rattle.core_parts.specs.Reasons.{AnswersWell};
 ghost use Rattle.core_parts.specs.Safe.{IsKept};
+ghost use Rattle.core_switch.specs.Says.{SaysReaped, SaysReaping, SaysRun};
 ghost use Rattle.unit_edits.specs.Opened.{IsOpen};
 
 use crate::calls::{commit_at, reap_at};
@@ -17,7 +19,7 @@ use blk_device::Device;
 use block_reap::{LimboRun, next};
 use byte_fields::Steps;
 use core_calls::{Phase, ScrubFault};
-use core_desk::{edit_place, entry_room, is_good};
+use core_parts::common::{edit_place, entry_room, is_good};
 use core_parts::{Desk, GroupKept, UnitState, phase_of};
 use fs_model::Cause;
 use sblock::Kind;
@@ -42,6 +44,7 @@ fn commit_reap<D: Device, L: Ledger>(
     requires next { next_of kept.old.limbo.items ≡ Some run.now }
     ensures answers { Answers D.Device desk.old desk.new result }
     ensures kept { IsKept kept.new }
+    ensures says { SaysReaped group run.now kept.old kept.new desk.old desk.new result }
 {
     commit_at(desk, group, steps)?;
     settle_reap(desk, kept, group, run, left);
@@ -65,6 +68,7 @@ fn reap_done<D: Device, L: Ledger>(
     requires next { next_of kept.old.limbo.items ≡ Some run.now }
     ensures answers { Answers D.Device desk.old desk.new result }
     ensures kept { IsKept kept.new }
+    ensures says { SaysReaped group run.now kept.old kept.new desk.old desk.new result }
 {
     match room_for_freed(&desk.store.edit.freed, &mut kept.limbo) {
         Ok(()) => commit_reap(desk, kept, group, run, left, steps),
@@ -84,6 +88,7 @@ fn reap_met<D: Device>(
     requires kept { IsKept kept.old }
     ensures answers { Answers D.Device desk.old desk.new result }
     ensures kept { IsKept kept.new }
+    ensures says { (run : LimboRun) → SaysRun group run kept.old kept.new desk.old desk.new result }
 {
     mark(desk, kept, group, Kind::Rmap, cause);
     Ok(true)
@@ -105,6 +110,7 @@ fn reap_with_room<D: Device, L: Ledger>(
     requires next { next_of kept.old.limbo.items ≡ Some run.now }
     ensures answers { Answers D.Device desk.old desk.new result }
     ensures kept { IsKept kept.new }
+    ensures says { SaysRun unit.now.group run.now kept.old kept.new desk.old desk.new result }
 {
     let place = edit_place(kept, unit.group, unit.unit);
     match reap_at(alloc, desk, &place, run, steps)? {
@@ -128,6 +134,7 @@ fn reap_next<D: Device, L: Ledger>(
     requires next { next_of kept.old.limbo.items ≡ Some run.now }
     ensures answers { Answers D.Device desk.old desk.new result }
     ensures kept { IsKept kept.new }
+    ensures says { SaysRun unit.now.group run.now kept.old kept.new desk.old desk.new result }
 {
     entry_room(desk, 4)?;
     reap_with_room(alloc, desk, kept, unit, run, steps)
@@ -146,6 +153,7 @@ fn reap_judged<D: Device, L: Ledger>(
     requires kept { IsKept kept.old }
     ensures answers { Answers D.Device desk.old desk.new result }
     ensures kept { IsKept kept.new }
+    ensures says { SaysReaping unit.now.group kept.old kept.new desk.old desk.new result }
 {
     if !is_good(kept, Kind::Rmap) {
         return Ok(true);
@@ -172,6 +180,7 @@ pub fn reap_piece<D: Device, L: Ledger>(
     ensures reason { AnswersWell desk.new result }
     ensures unit { unit.new ≡ unit.old }
     ensures other { (phase_in unit.old.work ≡ phases.Judged → ⊥) → result ≡ Err (faults.OtherPhase (phase_in unit.old.work)) }
+    ensures says { SaysReaping unit.old.group kept.old kept.new desk.old desk.new result }
 {
     match phase_of(&unit.work) {
         Phase::Judged => reap_judged(alloc, desk, kept, unit, steps),

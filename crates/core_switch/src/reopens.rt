@@ -1,12 +1,15 @@
-ghost use Rattle.std.specs.Prelude.{◌≡◌, ◌<◌, ◌||◌, ℕ, IfNone, IfSome, OnOk, false, slice_set, true};
+ghost use Rattle.std.specs.Prelude.{◌≡◌, ◌<◌, ◌||◌, ◌∷◌, [], ℕ, IfNone, IfSome, OnErr, OnOk, false, slice_set, true};
 ghost use Rattle.std.specs.Vec.{vec_capacity, vec_len};
 ghost use Rattle.block_reap.specs.Limbo.{has};
-ghost use Rattle.core_switch.specs.Reserves.{has_reserve, is_reserved};
-ghost use Rattle.core_desk.specs.Asks.{Answers, IsSame, IsUsable};
+ghost use Rattle.core_switch.specs.Reserves.{has_reserve, is_reserved, reserve_in};
+ghost use Rattle.core_switch.specs.Says.{SaysBy, released_by, released_of};
+ghost use Rattle.core_parts.specs.Common.Asks.{Answers, IsSame, IsUsable};
+ghost use Rattle.core_parts.specs.Common.Entries.{HasMore};
 ghost use Rattle.core_parts.specs.Keeps.{IsGiven, IsSteady};
 ghost use Rattle.core_parts.specs.Reasons.{AnswersWell};
 ghost use Rattle.core_parts.specs.Safe.{IsDesk, IsKept, IsUnit, IsWork};
 ghost use Rattle.core_reserve.specs.Rebuilt.{IsSteady as IsSteadyRebuild};
+ghost use Rattle.fs_model.specs.declared.entry.Entry.TheVariants as entries;
 ghost use Rattle.geom.specs.Layout.{Layout};
 ghost use Rattle.geom.specs.Places.{layout};
 ghost use Rattle.intent_drain.specs.Drains.{gates_of};
@@ -15,7 +18,7 @@ ghost use Rattle.intent_drain.specs.declared.gates.Gate.TheVariants.{Open};
 use crate::calls::sync_at;
 use blk_device::Device;
 use core_calls::ScrubFault;
-use core_desk::add_entry;
+use core_parts::common::add_entry;
 use core_parts::{Desk, GroupKept, UnitState, Work};
 use core_reserve::{Rebuild, Staging, release};
 use fs_model::{Entry, Unit};
@@ -42,6 +45,7 @@ fn sync_staged<D: Device>(desk: &mut Desk<D>, work: &Work) -> Result<(), ScrubFa
     requires usable { IsUsable D.Device desk.old }
     ensures answers { Answers D.Device desk.old desk.new result }
     ensures drain { OnOk result (desk.new.drain ≡ desk.old.drain) }
+    ensures items { desk.new.book.journal.items ≡ desk.old.book.journal.items }
 {
     if is_unsynced(work) {
         return sync_at(desk);
@@ -58,12 +62,14 @@ fn has_room<D: Device>(desk: &mut Desk<D>) -> bool
 }
 
 // Adds the entry of a reserve that went to limbo, and answers whether there was room.
-#[tactic(auto, using(core_desk::proofs::AskLemmas::same_usable, core_desk::proofs::AskLemmas::same_steady, core_desk::proofs::AskLemmas::adds_usable, core_desk::proofs::AskLemmas::adds_steady, core_desk::proofs::AskLemmas::steady_on))]
+#[tactic(auto, using(core_parts::proofs::common::AskLemmas::same_usable, core_parts::proofs::common::AskLemmas::same_steady, core_parts::proofs::common::AskLemmas::adds_usable, core_parts::proofs::common::AskLemmas::adds_steady, core_parts::proofs::common::AskLemmas::steady_on))]
 fn say_released<D: Device>(desk: &mut Desk<D>, group: u32, unit: Unit) -> bool
     requires usable { IsUsable D.Device desk.old }
     ensures usable { IsUsable D.Device desk.new }
     ensures steady { IsSteady D.Device desk.old desk.new }
     ensures drain { desk.new.drain ≡ desk.old.drain }
+    ensures said { result ≡ true → HasMore desk.old desk.new (entries.Released group unit ∷ []) }
+    ensures unsaid { result ≡ false → desk.new.book.journal.items ≡ desk.old.book.journal.items }
 {
     if !has_room(desk) {
         return false;
@@ -73,7 +79,7 @@ fn say_released<D: Device>(desk: &mut Desk<D>, group: u32, unit: Unit) -> bool
 }
 
 // The reserve goes to limbo, where there is one; whether there was memory.
-#[tactic(auto, using(core_desk::proofs::AskLemmas::steady_self, crate::proofs::CallLemmas::none_reserved))]
+#[tactic(auto, using(core_parts::proofs::common::AskLemmas::steady_self, crate::proofs::CallLemmas::none_reserved))]
 fn release_one<D: Device>(
     desk: &mut Desk<D>,
     kept: &mut GroupKept,
@@ -89,6 +95,8 @@ fn release_one<D: Device>(
     ensures kept { IsKept kept.new }
     ensures drain { desk.new.drain ≡ desk.old.drain }
     ensures put { result ≡ true → (b o : ℕ) → has kept.new.limbo.items b o ≡ (has kept.old.limbo.items b o || has_reserve rebuild.now b o) }
+    ensures said { result ≡ true → HasMore desk.old desk.new (released_of group unit rebuild.now.building.reserve.items) }
+    ensures unsaid { result ≡ false → desk.new.book.journal.items ≡ desk.old.book.journal.items }
 {
     if rebuild.building.reserve.is_empty() {
         return true;
@@ -104,6 +112,8 @@ fn reserve_of(work: &Work) -> Option<&Rebuild>
     ensures steady { (at : Layout) (g : ℕ) → IsWork at g work.now → IfSome result (λ rebuild. IsSteadyRebuild rebuild.now) }
     ensures some { IfSome result (λ rebuild. (b o : ℕ) → is_reserved work.now b o ≡ has_reserve rebuild.now b o) }
     ensures none { IfNone result ((b o : ℕ) → is_reserved work.now b o ≡ false) }
+    ensures blocks { IfSome result (λ rebuild. reserve_in work.now ≡ rebuild.now.building.reserve.items) }
+    ensures empty { IfNone result (reserve_in work.now ≡ []) }
 {
     match work {
         Work::Building(rebuild) => Some(rebuild),
@@ -115,7 +125,7 @@ fn reserve_of(work: &Work) -> Option<&Rebuild>
 }
 
 // The unit's reserve goes to limbo, where it has one; whether there was memory.
-#[tactic(auto, using(core_desk::proofs::AskLemmas::steady_self, crate::proofs::CallLemmas::or_false))]
+#[tactic(auto, using(core_parts::proofs::common::AskLemmas::steady_self, crate::proofs::CallLemmas::or_false))]
 fn release_unit<D: Device>(desk: &mut Desk<D>, kept: &mut GroupKept, unit: &UnitState) -> bool
     requires usable { IsUsable D.Device desk.old }
     requires kept { IsKept kept.old }
@@ -125,6 +135,8 @@ fn release_unit<D: Device>(desk: &mut Desk<D>, kept: &mut GroupKept, unit: &Unit
     ensures kept { IsKept kept.new }
     ensures drain { desk.new.drain ≡ desk.old.drain }
     ensures put { result ≡ true → (b o : ℕ) → has kept.new.limbo.items b o ≡ (has kept.old.limbo.items b o || is_reserved unit.now.work b o) }
+    ensures said { result ≡ true → HasMore desk.old desk.new (released_by unit.now) }
+    ensures unsaid { result ≡ false → desk.new.book.journal.items ≡ desk.old.book.journal.items }
 {
     match reserve_of(&unit.work) {
         Some(rebuild) => release_one(desk, kept, rebuild, unit.group, unit.unit),
@@ -140,6 +152,8 @@ fn open_gate<D: Device>(desk: &mut Desk<D>, group: u32, had_room: bool) -> Resul
     ensures answers { Answers D.Device desk.old desk.new result }
     ensures gates { gates_of desk.new.drain ≡ slice_set (gates_of desk.old.drain) group Open }
     ensures room { OnOk result (had_room ≡ true) }
+    ensures lack { OnErr result (had_room ≡ false) }
+    ensures items { desk.new.book.journal.items ≡ desk.old.book.journal.items }
 {
     desk.drain.open(group);
     if had_room {
@@ -165,6 +179,7 @@ pub fn reopen<D: Device>(
     ensures reason { AnswersWell desk.new result }
     ensures gates { OnOk result (gates_of desk.new.drain ≡ slice_set (gates_of desk.old.drain) unit.group Open) }
     ensures put { OnOk result ((b o : ℕ) → has kept.new.limbo.items b o ≡ (has kept.old.limbo.items b o || is_reserved unit.work b o)) }
+    ensures says { SaysBy (released_by unit) desk.old desk.new result }
 {
     sync_staged(desk, &unit.work)?;
     let had_room = release_unit(desk, kept, &unit);

@@ -1,18 +1,25 @@
 // What is kept of a group after a commit, and the entries of it.
-ghost use Rattle.std.specs.Prelude.{◌≡◌, ◌+◌, ◌≤◌, ◌<◌, Some};
+ghost use Rattle.std.specs.Prelude.{◌≡◌, ◌+◌, ◌≤◌, ◌<◌, ◌∷◌, [], Some};
 ghost use Rattle.std.specs.Vec.{vec_capacity, vec_len};
 ghost use Rattle.block_reap.specs.Limbo.{IsLimbo, next_of};
-ghost use Rattle.core_desk.specs.Asks.{Adds, IsUsable};
+ghost use Rattle.core_parts.specs.Common.Asks.{Adds, IsUsable};
+ghost use Rattle.core_parts.specs.Common.Entries.{HasMore};
+ghost use Rattle.core_parts.specs.Common.Kinds.{with_trust};
+ghost use Rattle.core_parts.specs.Common.Marks.{mark_of, marks_of, sick_by, sick_if};
 ghost use Rattle.core_parts.specs.Keeps.{IsSteady};
 ghost use Rattle.core_parts.specs.Safe.{IsKept};
 ghost use Rattle.core_switch.specs.Marks.{IsLonger};
+ghost use Rattle.core_switch.specs.Says.{ReapsRun};
 ghost use Rattle.core_switch.specs.Switched.{IsRebuilt, SaysSwitched};
+ghost use Rattle.fs_model.specs.declared.entry.Entry.TheVariants as entries;
+ghost use Rattle.fs_model.specs.declared.unit.Trust.{Trust};
+ghost use Rattle.fs_model.specs.declared.verdict.Verdict.TheVariants as verdicts;
 
 use crate::freed::put_freed;
 use blk_device::Device;
 use block_reap::{LimboRun, take_off};
-use core_desk::{add_entry, judged_good, mark_sick};
 use core_edit::Freed;
+use core_parts::common::{add_entry, judged_good, mark_sick};
 use core_parts::{Desk, GroupKept};
 use core_reserve::Staged;
 use core_trees::BadTrees;
@@ -48,9 +55,21 @@ fn keep_switched<D: Device>(desk: &Desk<D>, kept: &mut GroupKept, unit: Unit, li
     judged_good(kept, unit);
 }
 
+// The verdict of a unit that was switched.
+fn rebuilt(group: u32, unit: Unit) -> Entry
+    ensures { result ≡ entries.Verdict group unit verdicts.Rebuilt }
+{
+    let verdict = Verdict::Rebuilt;
+    Entry::Verdict {
+        group,
+        unit,
+        verdict,
+    }
+}
+
 /// The group is kept as the switch left it: the heads that were written, the unit's btrees good, and what
 /// the switch puts into limbo. The entries say so.
-#[tactic(auto, using(core_desk::proofs::AskLemmas::adds_usable, core_desk::proofs::AskLemmas::adds_steady, core_desk::proofs::AskLemmas::steady_on))]
+#[tactic(auto, using(core_parts::proofs::common::AskLemmas::adds_usable, core_parts::proofs::common::AskLemmas::adds_steady, core_parts::proofs::common::AskLemmas::steady_on))]
 pub(crate) fn settle_switch<D: Device>(
     desk: &mut Desk<D>,
     kept: &mut GroupKept,
@@ -83,14 +102,7 @@ pub(crate) fn settle_switch<D: Device>(
             second_root,
         },
     );
-    add_entry(
-        desk,
-        Entry::Verdict {
-            group,
-            unit,
-            verdict: Verdict::Rebuilt,
-        },
-    );
+    add_entry(desk, rebuilt(group, unit));
 }
 
 // Limbo without the run that was reaped, and with what the edits freed.
@@ -104,12 +116,14 @@ fn reaped_limbo(limbo: &mut Vec<LimboRun>, freed: &Freed, run: &LimboRun)
 }
 
 // The entry of a mark.
-fn marked(group: u32, kind: Kind, cause: Cause) -> Entry {
+fn marked(group: u32, kind: Kind, cause: Cause) -> Entry
+    ensures { result ≡ entries.Marked group kind cause }
+{
     Entry::Marked { group, kind, cause }
 }
 
 /// Marks a btree, in room that is there.
-#[tactic(auto, using(core_desk::proofs::AskLemmas::adds_usable, core_desk::proofs::AskLemmas::adds_steady))]
+#[tactic(auto, using(core_parts::proofs::common::AskLemmas::adds_usable, core_parts::proofs::common::AskLemmas::adds_steady))]
 pub(crate) fn mark<D: Device>(
     desk: &mut Desk<D>,
     kept: &mut GroupKept,
@@ -123,13 +137,15 @@ pub(crate) fn mark<D: Device>(
     ensures steady { IsSteady D.Device desk.old desk.new }
     ensures longer { IsLonger desk.old.book.journal desk.new.book.journal }
     ensures limbo { kept.new.limbo ≡ kept.old.limbo }
+    ensures more { HasMore desk.old desk.new (entries.Marked group kind cause ∷ []) }
+    ensures trust { kept.new.trust ≡ with_trust kept.old.trust kind Trust.Sick }
 {
     mark_sick(kept, kind);
     add_entry(desk, marked(group, kind, cause));
 }
 
 // Marks a btree that was left, if it was.
-#[tactic(auto, using(core_desk::proofs::AskLemmas::steady_self))]
+#[tactic(auto, using(core_parts::proofs::common::AskLemmas::steady_self))]
 fn mark_left<D: Device>(
     desk: &mut Desk<D>,
     kept: &mut GroupKept,
@@ -143,6 +159,8 @@ fn mark_left<D: Device>(
     ensures steady { IsSteady D.Device desk.old desk.new }
     ensures longer { IsLonger desk.old.book.journal desk.new.book.journal }
     ensures limbo { kept.new.limbo ≡ kept.old.limbo }
+    ensures more { HasMore desk.old desk.new (mark_of group kind left) }
+    ensures trust { kept.new.trust ≡ sick_if kind left kept.old.trust }
 {
     match left {
         Some(cause) => mark(desk, kept, group, kind, cause),
@@ -151,13 +169,15 @@ fn mark_left<D: Device>(
 }
 
 // Marks each index that was left.
-#[tactic(auto, using(core_desk::proofs::AskLemmas::steady_on))]
+#[tactic(auto, using(core_parts::proofs::common::AskLemmas::steady_on))]
 fn mark_all<D: Device>(desk: &mut Desk<D>, kept: &mut GroupKept, group: u32, left: IndexesLeft)
     requires usable { IsUsable D.Device desk.old }
     requires room { vec_len desk.old.book.journal + 3 ≤ vec_capacity desk.old.book.journal }
     ensures usable { IsUsable D.Device desk.new }
     ensures steady { IsSteady D.Device desk.old desk.new }
     ensures limbo { kept.new.limbo ≡ kept.old.limbo }
+    ensures more { HasMore desk.old desk.new (marks_of group left) }
+    ensures trust { kept.new.trust ≡ sick_by left kept.old.trust }
 {
     mark_left(desk, kept, group, Kind::Bno, left.bno);
     mark_left(desk, kept, group, Kind::Cnt, left.cnt);
@@ -166,7 +186,7 @@ fn mark_all<D: Device>(desk: &mut Desk<D>, kept: &mut GroupKept, group: u32, lef
 
 /// The group is kept as a reaped run left it, and the entries say so: that of the run, also where another
 /// owner kept it from being freed, and a mark for each index that was left.
-#[tactic(auto, using(core_desk::proofs::AskLemmas::adds_usable, core_desk::proofs::AskLemmas::adds_steady, core_desk::proofs::AskLemmas::steady_on))]
+#[tactic(auto, using(core_parts::proofs::common::AskLemmas::adds_usable, core_parts::proofs::common::AskLemmas::adds_steady, core_parts::proofs::common::AskLemmas::steady_on))]
 pub(crate) fn settle_reap<D: Device>(
     desk: &mut Desk<D>,
     kept: &mut GroupKept,
@@ -181,6 +201,7 @@ pub(crate) fn settle_reap<D: Device>(
     ensures usable { IsUsable D.Device desk.new }
     ensures steady { IsSteady D.Device desk.old desk.new }
     ensures kept { IsKept kept.new }
+    ensures reaped { ReapsRun group run.now kept.old kept.new desk.old desk.new }
 {
     kept.heads = desk.store.edit.heads;
     reaped_limbo(&mut kept.limbo, &desk.store.edit.freed, run);

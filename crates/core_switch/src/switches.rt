@@ -1,7 +1,7 @@
 ghost use Rattle.std.specs.Prelude.{◌≡◌, ◌+◌, ◌≤◌, ◌<◌, Err, IfSome, Ok, OnErr, OnOk};
 ghost use Rattle.std.specs.Vec.{vec_capacity, vec_len};
 ghost use Rattle.block_reap.specs.Limbo.{IsLimbo};
-ghost use Rattle.core_desk.specs.Asks.{Answers, IsUsable};
+ghost use Rattle.core_parts.specs.Common.Asks.{Answers, IsUsable};
 ghost use Rattle.core_parts.specs.Keeps.{IsGiven, IsLeft};
 ghost use Rattle.core_parts.specs.Phases.{phase_in};
 ghost use Rattle.core_parts.specs.Reasons.{AnswersWell};
@@ -18,8 +18,8 @@ use crate::settle::settle_switch;
 use blk_device::Device;
 use byte_fields::Steps;
 use core_calls::ScrubFault;
-use core_desk::{edit_place, entry_room};
 use core_edit::EditHeads;
+use core_parts::common::{edit_place, entry_room};
 use core_parts::{Desk, GroupKept, UnitState, Work, phase_of};
 use core_reserve::{Rebuild, Staged, switched_heads};
 use root_switch::{Heads, Switch};
@@ -81,6 +81,7 @@ fn write_heads<D: Device, L: Ledger>(
     requires group { place.now.group < desk.old.store.geo.agcount }
     ensures answers { Answers D.Device desk.old desk.new result }
     ensures book { OnOk result (desk.new.book ≡ desk.old.book) }
+    ensures items { desk.new.book.journal.items ≡ desk.old.book.journal.items }
 {
     open_at(desk, place, steps)?;
     commit_at(desk, place.group, steps)
@@ -96,7 +97,7 @@ fn write_switch<D: Device, L: Ledger>(
     requires group { place.now.group < desk.old.store.geo.agcount }
     ensures answers { Answers D.Device desk.old desk.new result }
     ensures room { OnOk result (vec_len desk.new.book.journal + 2 ≤ vec_capacity desk.new.book.journal) }
-    ensures items { OnOk result (desk.new.book.journal.items ≡ desk.old.book.journal.items) }
+    ensures items { desk.new.book.journal.items ≡ desk.old.book.journal.items }
 {
     entry_room(desk, 2)?;
     write_heads(desk, place, steps)
@@ -141,6 +142,7 @@ fn switch_staged<D: Device, L: Ledger>(
     ensures said { OnOk result (SaysSwitched unit.old.group unit.old.unit staged desk.old.book.journal.items desk.new.book.journal.items) }
     ensures stays { OnErr result (unit.new ≡ record unit.old { work = works.Staged rebuild staged }) }
     ensures kept_stays { OnErr result (kept.new ≡ kept.old) }
+    ensures unsaid { OnErr result (desk.new.book.journal.items ≡ desk.old.book.journal.items) }
 {
     let place = switch_place(kept, unit, &staged.switch);
     match write_switch(desk, &place, steps) {
@@ -169,6 +171,7 @@ pub fn switch<D: Device, L: Ledger>(
     ensures stays { OnErr result (unit.new ≡ unit.old) }
     ensures other { (phase_in unit.old.work ≡ phases.Staged → ⊥) → result ≡ Err (faults.OtherPhase (phase_in unit.old.work)) }
     ensures kept_stays { OnErr result (kept.new ≡ kept.old) }
+    ensures unsaid { OnErr result (desk.new.book.journal.items ≡ desk.old.book.journal.items) }
 {
     match mem::replace(&mut unit.work, Work::Judged) {
         Work::Staged(rebuild, staged) => { switch_staged(desk, kept, unit, rebuild, staged, steps) }

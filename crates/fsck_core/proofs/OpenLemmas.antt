@@ -6,8 +6,8 @@ use Rattle.std.specs.List.{slice_get}
 use Rattle.blk_device.specs.declared.device.Device.{Ghosts}
 use Rattle.block_reap.specs.Limbo.{IsLimbo}
 use Rattle.block_reap.specs.declared.runs.LimboRun.{LimboRun}
-use Rattle.core_open.specs.Groups.{IsBegun as IsGroupBegun}
-use Rattle.core_open.specs.Heads.{Each}
+use Rattle.core_parts.specs.Opens.Groups.{IsBegun as IsGroupBegun}
+use Rattle.core_parts.specs.Opens.Heads.{Each}
 use Rattle.core_parts.specs.Safe.{AreKept, IsKept, IsSafe}
 use Rattle.core_parts.specs.declared.groups.GroupKept.{GroupKept}
 use Rattle.core_parts.specs.declared.units.UnitState.{UnitState}

@@ -5,16 +5,15 @@ use Rattle.std.specs.Prelude.{List, Option, Some, None, length, slice_set}
 use Rattle.std.specs.List.{slice_get}
 use Rattle.blk_device.specs.declared.device.Device.{Ghosts}
 use Rattle.core_calls.specs.declared.answers.Answer.{Answer}
-use Rattle.core_desk.proofs.AskLemmas.{steady_self}
+use Rattle.core_parts.proofs.common.AskLemmas.{steady_self}
 use Rattle.core_parts.specs.Keeps.{IsSteady}
-use Rattle.core_parts.specs.Reasons.{TellsWell}
 use Rattle.core_parts.specs.Safe.{AreUnits, IsDesk, IsKept, IsSafe, IsUnit}
 use Rattle.core_parts.specs.declared.desk.Desk.{Desk}
 use Rattle.core_parts.specs.declared.groups.GroupKept.{GroupKept}
 use Rattle.core_parts.specs.declared.parts.Parts.{Parts}
 use Rattle.core_parts.specs.declared.units.UnitState.{UnitState}
 use Rattle.fsck_core.proofs.Places.{none_some, set_kept, set_none, set_some}
-use Rattle.fsck_core.specs.Acts.{Acts, IsGivenAll, IsLeftAll, IsWorked, StaysShut}
+use Rattle.fsck_core.specs.Acts.{Acts, IsGivenAll, IsLeftAll, IsWorked, StaysShut, TellsAll}
 use Rattle.geom.specs.Places.{layout}
 use Rattle.geom.specs.declared.geometry.Geometry.{Geometry}
 
@@ -43,7 +42,7 @@ module _ {D : Type 0} (d : Ghosts D) where
   pub taken_unit : (p : Parts D) (g : ℕ) (u : UnitState) → IsSafe d p → slice_get p.units.items g ≡ Some (Some u) → IsUnit (layout p.desk.store.geo) u
   taken_unit p g u s is = (s.works g u is).1
 
-  pub self_acts : (p q : Parts D) (a : Answer) → IsSafe d q → q.desk ≡ p.desk → TellsWell q.desk a → Acts d p q a
+  pub self_acts : (p q : Parts D) (a : Answer) → IsSafe d q → q.desk ≡ p.desk → TellsAll q.desk a → Acts d p q a
   self_acts p q a s same told = record {
     safe = s;
     steady = subst (λ (k : Desk D). IsSteady d p.desk k) (sym same) (steady_self d p.desk);
@@ -81,7 +80,7 @@ module _ {D : Type 0} (d : Ghosts D) where
     limbos = s.limbos;
   }
 
-  pub worked_acts : (p : Parts D) (k : Desk D) (ks : Vec GroupKept) (us : Vec (Option UnitState)) (u v : UnitState) (a : Answer) → IsSafe d p → p.desk.book.shut ≡ None → IsWorked d p.desk k p.groups.items ks.items u v → TellsWell k a → us.items ≡ slice_set p.units.items v.group (Some v) → Acts d p (record { desk = k; groups = ks; units = us }) a
+  pub worked_acts : (p : Parts D) (k : Desk D) (ks : Vec GroupKept) (us : Vec (Option UnitState)) (u v : UnitState) (a : Answer) → IsSafe d p → p.desk.book.shut ≡ None → IsWorked d p.desk k p.groups.items ks.items u v → TellsAll k a → us.items ≡ slice_set p.units.items v.group (Some v) → Acts d p (record { desk = k; groups = ks; units = us }) a
   worked_acts p k ks us u v a s unshut worked told put = record {
     safe = put_safe (record p { desk = k; groups = ks }) us v (left_safe p k ks s worked.all) worked.unit put;
     steady = worked.all.steady;
@@ -89,7 +88,7 @@ module _ {D : Type 0} (d : Ghosts D) where
     shut = shut_on p.desk k unshut;
   }
 
-  pub left_acts : (p : Parts D) (k : Desk D) (ks : Vec GroupKept) (a : Answer) → IsSafe d p → p.desk.book.shut ≡ None → IsLeftAll d p.desk k p.groups.items ks.items → TellsWell k a → Acts d p (record p { desk = k; groups = ks }) a
+  pub left_acts : (p : Parts D) (k : Desk D) (ks : Vec GroupKept) (a : Answer) → IsSafe d p → p.desk.book.shut ≡ None → IsLeftAll d p.desk k p.groups.items ks.items → TellsAll k a → Acts d p (record p { desk = k; groups = ks }) a
   left_acts p k ks a s unshut left told = record {
     safe = left_safe p k ks s left;
     steady = left.steady;

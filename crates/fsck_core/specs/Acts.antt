@@ -1,25 +1,33 @@
 -- What an event keeps of the parts, and what its steps do.
-use Rattle.std.specs.Prelude.{◌≡◌, ℕ, List, Some, None, length}
+use Rattle.std.specs.Prelude.{◌≡◌, ⊤, ℕ, List, Some, None, length}
 use Rattle.blk_device.specs.declared.device.Device.{Ghosts}
 use Rattle.core_calls.specs.declared.answers.Answer.{Answer}
+use Rattle.core_calls.specs.declared.answers.Answer.TheVariants.{Scrub, Write}
 use Rattle.core_parts.specs.Keeps.{IsSteady}
-use Rattle.core_parts.specs.Reasons.{TellsWell}
+use Rattle.core_parts.specs.Reasons.{HasReason}
 use Rattle.core_parts.specs.Safe.{AreKept, IsDesk, IsSafe, IsUnit}
 use Rattle.core_parts.specs.declared.desk.Desk.{Desk}
 use Rattle.core_parts.specs.declared.groups.GroupKept.{GroupKept}
 use Rattle.core_parts.specs.declared.parts.Parts.{Parts}
 use Rattle.core_parts.specs.declared.units.UnitState.{UnitState}
+use Rattle.core_chains.specs.Write.Writes.{HasWriteReason}
 use Rattle.geom.specs.Places.{layout}
 
 -- a fault that was noted stays so
 abbrev pub StaysShut : {D : Type 0} → Desk D → Desk D → Type 0
 StaysShut old new = (n : ℕ) → old.book.shut ≡ Some n → new.book.shut ≡ Some n
 
+-- a refusal has its reason, as a writer or the scrubber is told
+abbrev pub TellsAll : {D : Type 0} → Desk D → Answer → Type 0
+TellsAll desk (Scrub fault) = HasReason desk fault
+TellsAll desk (Write fault) = HasWriteReason desk fault
+TellsAll desk answer = ⊤
+
 -- what every event keeps, whatever it answers
 pub record Acts {D : Type 0} (d : Ghosts D) (old new : Parts D) (answer : Answer) : Type 0 where
   pub safe : IsSafe d new
   pub steady : IsSteady d old.desk new.desk
-  pub told : TellsWell new.desk answer
+  pub told : TellsAll new.desk answer
   pub shut : StaysShut old.desk new.desk
 
 -- the open unit of a group was taken out of its place, and an event may work on it

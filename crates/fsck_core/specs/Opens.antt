@@ -3,7 +3,7 @@ use Rattle.std.specs.Prelude.{◌≡◌, ℕ, [], List, ◌∷◌, Option, Some,
 use Rattle.blk_device.specs.Causes.{MovesOnly}
 use Rattle.blk_device.specs.declared.device.Device.{Ghosts}
 use Rattle.core_calls.specs.declared.answers.OpenRefused.{OpenRefused}
-use Rattle.core_open.specs.Heads.{is_failed}
+use Rattle.core_parts.specs.Opens.Heads.{is_failed}
 use Rattle.core_parts.specs.Safe.{AreKept}
 use Rattle.core_parts.specs.declared.parts.Parts.{Parts}
 use Rattle.core_parts.specs.declared.units.UnitState.{UnitState}

@@ -1,7 +1,7 @@
 -- Whether a btree is sick.
 use Rattle.std.specs.Prelude.{◌||◌, Bool, List}
 use Rattle.std.specs.List.{list_any}
-use Rattle.core_desk.specs.Kinds.{is_sick}
+use Rattle.core_parts.specs.Common.Kinds.{is_sick}
 use Rattle.core_parts.specs.declared.groups.GroupKept.{GroupKept}
 use Rattle.core_parts.specs.declared.groups.Trusts.{Trusts}
 

@@ -2,22 +2,22 @@ ghost use Rattle.std.specs.Prelude.{◌≡◌};
 ghost use Rattle.core_parts.specs.Keeps.{IsSteady};
 ghost use Rattle.core_parts.specs.Reasons.{TellsWell};
 ghost use Rattle.core_parts.specs.Safe.{IsSafe};
-ghost use Rattle.fsck_core.specs.Acts.{Acts, StaysShut};
+ghost use Rattle.fsck_core.specs.Acts.{Acts, StaysShut, TellsAll};
 ghost use Rattle.fsck_core.specs.Asks.{MayAsk, group_asked, phase_of_group};
 
 use crate::asks::{group_of, phase_behind};
 use crate::events::Event;
 use crate::groups::{reopen_in, run_in, start_in};
+use crate::writers::write_in;
 use blk_device::Device;
 use byte_fields::Steps;
-use core_calls::{Answer, Ask, Phase, WriteFault};
+use core_calls::{Answer, Ask, Phase};
 use core_parts::Parts;
 use std::alloc::Global;
 use std::sync::ledger::Ledger;
 
-// Does one event, and answers it. No writer runs yet: their events change nothing and are answered with
-// Memory.
-fn answer_of<D: Device, L: Ledger>(
+/// Does one event, and answers it.
+pub(crate) fn answer_of<D: Device, L: Ledger>(
     alloc: Global,
     parts: &mut Parts<D>,
     ask: Ask,
@@ -44,13 +44,14 @@ fn answer_of<D: Device, L: Ledger>(
         Ask::Switch { group } => run_in(alloc, Event::Switch, parts, group, steps),
         Ask::ReapPiece { group } => run_in(alloc, Event::Reap, parts, group, steps),
         Ask::Reopen { group } => reopen_in(parts, group),
-        _ => Answer::Write(WriteFault::Memory),
+        _ => write_in(alloc, parts, ask, steps),
     }
 }
 
-/// Does one event of the core, and answers it, with the phase of the event's group behind it. Events of
-/// writers aren't built yet: they change nothing, and are answered with Memory
+/// Does one event of the core, and answers it, with the phase of the event's group behind it. A `note` is
+/// an event of a `Core` alone, and is answered with Memory here
 /// (XFS Online Fsck Design, "Metadata Scrubbing" and "Metadata Repair").
+#[tactic(auto, using(crate::proofs::ToldLemmas::tells_well))]
 pub fn act<D: Device, L: Ledger>(
     alloc: Global,
     parts: &mut Parts<D>,
@@ -62,6 +63,7 @@ pub fn act<D: Device, L: Ledger>(
     ensures safe { IsSafe D.Device parts.new }
     ensures steady { IsSteady D.Device parts.old.desk parts.new.desk }
     ensures told { TellsWell parts.new.desk result.0 }
+    ensures all { TellsAll parts.new.desk result.0 }
     ensures shut { StaysShut parts.old.desk parts.new.desk }
     ensures phase { result.1 ≡ phase_of_group parts.new.units.items (group_asked ask) }
 {

@@ -1,5 +1,5 @@
 ghost use Rattle.std.specs.Prelude.{◌≡◌};
-ghost use Rattle.core_desk.specs.Kinds.{is_sick as is_sick_of};
+ghost use Rattle.core_parts.specs.Common.Kinds.{is_sick as is_sick_of};
 ghost use Rattle.fsck_core.specs.Sick.{are_some_sick, is_one_sick as is_one_sick_of};
 
 use blk_device::Device;

@@ -1,7 +1,6 @@
 ghost use Rattle.std.specs.Prelude.{◌≡◌};
 ghost use Rattle.core_parts.specs.Keeps.{IsGiven, IsLeft};
-ghost use Rattle.core_parts.specs.Reasons.{TellsWell};
-ghost use Rattle.fsck_core.specs.Acts.{IsGivenAll, IsWorked};
+ghost use Rattle.fsck_core.specs.Acts.{IsGivenAll, IsWorked, TellsAll};
 ghost use Rattle.fsck_core.specs.Told.{told_done, told_moved, told_piece};
 
 use blk_device::Device;
@@ -70,7 +69,7 @@ fn run<D: Device, L: Ledger>(
 ) -> Answer
     requires given { IsGiven D.Device desk.old kept.old unit.old }
     ensures left { IsLeft D.Device desk.old desk.new kept.new unit.old unit.new }
-    ensures told { TellsWell desk.new result }
+    ensures told { TellsAll desk.new result }
 {
     match event {
         Event::Advance => tell_moved(advance(alloc, desk, kept, unit, steps)),
@@ -96,7 +95,7 @@ pub(crate) fn run_among<D: Device, L: Ledger>(
 ) -> Answer
     requires given { IsGivenAll D.Device desk.old groups.old.items unit.old }
     ensures left { IsWorked D.Device desk.old desk.new groups.old.items groups.new.items unit.old unit.new }
-    ensures told { TellsWell desk.new result }
+    ensures told { TellsAll desk.new result }
 {
     let kept = &mut groups[unit.group as usize];
     run(alloc, event, desk, kept, unit, steps)

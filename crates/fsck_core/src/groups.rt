@@ -10,7 +10,7 @@ use blk_device::Device;
 use byte_fields::Steps;
 use core_begin::start;
 use core_calls::{Answer, Phase, ScrubFault};
-use core_desk::unless_shut;
+use core_parts::common::unless_shut;
 use core_parts::{Desk, GroupKept, Parts, UnitState, put_unit, take_unit};
 use core_switch::reopen;
 use fs_derive::Plan;

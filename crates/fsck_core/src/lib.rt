@@ -6,12 +6,17 @@ mod asks;
 mod calls;
 mod ends;
 mod events;
+mod glances;
 mod groups;
+mod noted;
 mod opened;
 mod opening;
 mod scans;
+mod writers;
 
 pub use calls::act;
 pub use ends::{any_sick, into_device};
+pub use glances::{glance, list_len};
+pub use noted::{Core, run_event, with_notes};
 pub use opening::open;
 pub use scans::end_scan;

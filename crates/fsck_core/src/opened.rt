@@ -1,6 +1,6 @@
 ghost use Rattle.std.specs.Prelude.{◌≡◌, ◌++◌, ◌∷◌, [], IfErr, IfOk, OnOk, None, length};
 ghost use Rattle.blk_device.specs.Causes.{HasCause};
-ghost use Rattle.core_open.specs.Heads.{is_failed};
+ghost use Rattle.core_parts.specs.Opens.Heads.{is_failed};
 ghost use Rattle.core_parts.specs.Safe.{AreKept};
 ghost use Rattle.core_store.specs.Ready.{IsReady};
 ghost use Rattle.fsck_core.specs.Opens.{AreBeside, NoneOpen};
@@ -10,7 +10,7 @@ ghost use Rattle.intent_drain.specs.Drains.{gates_of};
 use blk_device::Device;
 use byte_fields::Steps;
 use core_calls::OpenRefused;
-use core_open::{ino_trees, open_groups};
+use core_parts::opens::{ino_trees, open_groups};
 use core_parts::{GroupKept, UnitState};
 use core_store::Store;
 use intent_drain::Drain;

@@ -3,7 +3,7 @@ ghost use Rattle.std.specs.Prelude.{◌≡◌, ◌<◌, None, Some};
 ghost use Rattle.core_parts.specs.Keeps.{IsGiven, IsLeft, IsSteady};
 ghost use Rattle.core_parts.specs.Reasons.{TellsWell};
 ghost use Rattle.core_parts.specs.Safe.{IsSafe, IsUnit};
-ghost use Rattle.fsck_core.specs.Acts.{Acts, IsGivenAll, IsWorked, StaysShut};
+ghost use Rattle.fsck_core.specs.Acts.{Acts, IsGivenAll, IsWorked, StaysShut, TellsAll};
 ghost use Rattle.fsck_core.specs.Asks.{phase_of_group};
 ghost use Rattle.geom.specs.Places.{layout};
 
@@ -24,7 +24,7 @@ fn end_one<D: Device>(
 ) -> Answer
     requires given { IsGiven D.Device desk.old kept.old unit.old }
     ensures left { IsLeft D.Device desk.old desk.new kept.new unit.old unit.new }
-    ensures told { TellsWell desk.new result }
+    ensures told { TellsAll desk.new result }
 {
     match end_scan_of(desk, kept, unit, owners) {
         Ok(()) => Answer::End,
@@ -41,7 +41,7 @@ fn end_among<D: Device>(
 ) -> Answer
     requires given { IsGivenAll D.Device desk.old groups.old.items unit.old }
     ensures left { IsWorked D.Device desk.old desk.new groups.old.items groups.new.items unit.old unit.new }
-    ensures told { TellsWell desk.new result }
+    ensures told { TellsAll desk.new result }
 {
     let kept = &mut groups[unit.group as usize];
     end_one(desk, kept, unit, owners)
@@ -76,12 +76,14 @@ fn end_in<D: Device>(parts: &mut Parts<D>, g: u32, owners: Vec<RmapRec>) -> Answ
 /// of all inodes has found, and answers as the move does that ends a scan; with the phase of the group
 /// behind it. It is for a core beside which nobody changes a file
 /// (XFS Online Fsck Design, "Live Inode Scans").
+#[tactic(auto, using(crate::proofs::ToldLemmas::tells_well))]
 pub fn end_scan<D: Device>(parts: &mut Parts<D>, g: u32, owners: Vec<RmapRec>) -> (Answer, Phase)
     requires safe { IsSafe D.Device parts.old }
     requires group { g < parts.old.desk.store.geo.agcount }
     ensures safe { IsSafe D.Device parts.new }
     ensures steady { IsSteady D.Device parts.old.desk parts.new.desk }
     ensures told { TellsWell parts.new.desk result.0 }
+    ensures all { TellsAll parts.new.desk result.0 }
     ensures shut { StaysShut parts.old.desk parts.new.desk }
     ensures phase { result.1 ≡ phase_of_group parts.new.units.items (Some g) }
 {

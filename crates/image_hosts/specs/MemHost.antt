@@ -1,6 +1,7 @@
 -- What a host in memory stands for.
 use Rattle.std.specs.Prelude.{◌≡◌, ℕ, List, map, Option, None, IsSome}
 use Rattle.std.specs.BTreeMap.{get_by_text}
+use Rattle.std.specs.Global.{Vec}
 use Rattle.std.specs.Option.{option_map}
 use Rattle.redo_area.specs.Counts.{raised}
 use Rattle.image_hosts.specs.Asked.{request_of}
@@ -35,6 +36,10 @@ pub record Awaits (host : MemHost) (name : List ℕ) : Type 0 where
 -- it doesn't tell its loans
 abbrev pub loans_of : MemHost → Option (List (Loan MemDevice))
 loans_of host = None
+
+-- the bytes of the script of that name
+abbrev pub script_by : MemHost → List ℕ → Option (List ℕ)
+script_by host name = option_map (λ (v : Vec ℕ). v.items) (get_by_text host.scripts name)
 
 -- the report changes nothing else that a clause speaks of
 abbrev pub KeepsFiles : MemHost → MemHost → Type 0

@@ -20,7 +20,7 @@ static JOBS: [&str; 7] = [
 
 // What the evidence means for which a unit is given up, and what to do.
 static EVIDENCE: [&str; 9] = [
-    "A unit was given up: what it is judged by contradicts itself. Its line says how:",
+    "A unit was given up: what it is judged by contradicts itself, or it had no room or no turn. Its line says why:",
     "  overlap BLOCK FIRST SECOND: two owners claim the block, and one of them is wrong.",
     "  badfork INODE ..: what the inode says of its own blocks can't be right.",
     "  badchunk BLOCK ..: an inode in the block is damaged, where both btrees list it.",
@@ -97,8 +97,8 @@ static REFUSALS: [(&str, &str); 18] = [
         "The file is shorter than the file system in it: was it cut off?",
     ),
     (
-        "unbuilt job\n",
-        "This job comes later: today xscrub checks images, repairs them, and makes new ones.",
+        "script failed\n",
+        "The script couldn't be read: a script is a file of at most 4 MiB.",
     ),
     (
         "redo short\n",
@@ -132,6 +132,11 @@ fn meaning_of(line: &str) -> Option<&'static str> {
     if line.starts_with("image feature ") {
         return Some(
             "The file system has a feature that isn't supported: xfs_info shows its features.",
+        );
+    }
+    if line.starts_with("script line ") {
+        return Some(
+            "That line of the script is wrong, or lacks its line feed: docs/FORMATS.md has the words of a line.",
         );
     }
     if line.starts_with("group ") {

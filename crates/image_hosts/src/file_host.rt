@@ -6,7 +6,10 @@ use crate::advice::{NamedFile, explain, explain_change, tell_failure};
 use crate::asked::{DeviceAsked, count_failed, count_fault, keep_request};
 use crate::host::{Host, OpenFault, Purpose, Watched};
 use crate::progress::Progress;
-use blk_device::{Device, FileDevice, ReadAhead, ReaderQueue, Region, Sink, SinkFailed};
+use crate::script_host::ScriptHost;
+use blk_device::{
+    Device, FileDevice, FileSource, ReadAhead, ReaderQueue, Region, Sink, SinkFailed, Source,
+};
 use redo_area::REDO_BLOCKS;
 use std::alloc::Global;
 use std::fs::{Metadata, OpenFile, OpenOptions};
@@ -32,6 +35,7 @@ pub struct FileHost<'a, R: Files + Print + Eprint + Clock> {
     sink_faults: u64,
     host_faults: u64,
     dev_faults: u64,
+    script_faults: u64,
 }
 
 impl<'a, R: Files + Print + Eprint + Clock> FileHost<'a, R> {
@@ -51,6 +55,7 @@ impl<'a, R: Files + Print + Eprint + Clock> FileHost<'a, R> {
             sink_faults: 0,
             host_faults: 0,
             dev_faults: 0,
+            script_faults: 0,
         }
     }
 
@@ -375,5 +380,45 @@ where
 
     fn put_back(&mut self, _image: &str, dev: FileDevice<NamedFile<'a, R>>) {
         count_failed(&mut self.dev_faults, dev.fault_count());
+    }
+}
+
+// Opens a script, which tells its failures under its name.
+fn open_script<'a, R: Files + Eprint>(
+    alloc: Global,
+    rt: &'a R,
+    name: &str,
+) -> io::Result<FileSource<NamedFile<'a, R>>>
+    ensures { IfOk result (λ src. ⟦<FileSource<NamedFile<'a, R>> as Source>⟧.source_faults src ≡ 0) }
+{
+    let opened = open_to_read(rt, name);
+    let file = named(alloc, rt, name, opened)?;
+    Ok(FileSource::new(file))
+}
+
+impl<'a, R: Files + Print + Eprint + Clock + Sync> ScriptHost for FileHost<'a, R>
+where
+    R::File: Send,
+{
+    type Src = FileSource<NamedFile<'a, R>>;
+
+    ghost scripts = { λ h n. None };
+
+    ghost script_faults = { λ h. h.script_faults };
+
+    fn script(&mut self, name: &str) -> Result<FileSource<NamedFile<'a, R>>, OpenFault> {
+        let alloc = *self.asked.allocator();
+        match open_script(alloc, self.rt, name) {
+            Ok(src) => Ok(src),
+            Err(fault) if fault.kind() == ErrorKind::OutOfMemory => Err(OpenFault::Memory),
+            Err(_) => {
+                count_fault(&mut self.host_faults);
+                Err(OpenFault::Failed)
+            }
+        }
+    }
+
+    fn script_back(&mut self, src: FileSource<NamedFile<'a, R>>) {
+        count_failed(&mut self.script_faults, src.fault_count());
     }
 }

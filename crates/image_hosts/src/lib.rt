@@ -9,6 +9,7 @@ mod file_host;
 mod host;
 mod mem_host;
 mod progress;
+mod script_host;
 
 pub use crate::advice::{NamedFile, explain, tell_failure, tell_status};
 pub use crate::asked::DeviceAsked;
@@ -16,3 +17,4 @@ pub use crate::file_host::FileHost;
 pub use crate::host::{Host, OpenFault, Purpose, Watched};
 pub use crate::mem_host::{MemHost, MemImage, MemRedo};
 pub use crate::progress::Progress;
+pub use crate::script_host::ScriptHost;

@@ -11,7 +11,8 @@ ghost use Rattle.image_hosts.specs.Stored.{FollowsRedo, HoldsRedo, IsNew, Lent, 
 
 use crate::asked::{DeviceAsked, count_failed, count_fault, keep_request};
 use crate::host::{Host, OpenFault, Purpose, Watched};
-use blk_device::{Device, DeviceFailed, MemDevice, Region, Sink, SinkFailed};
+use crate::script_host::ScriptHost;
+use blk_device::{Device, DeviceFailed, MemDevice, MemSource, Region, Sink, SinkFailed, Source};
 use byte_fields::Block;
 use check_watch::NoWatch;
 use redo_area::REDO_BLOCKS;
@@ -41,11 +42,13 @@ pub struct MemRedo {
 /// made: a new image takes the place of one that is there. A redo file that isn't there is 162 blocks of
 /// zeros. Where there is one, a device's calls are counted from the first behind its opening on. The redo
 /// region of a device that was changed is read when it comes back; where a read of it fails or memory is
-/// short, that redo file is lost, and no device is handed out with it any more. `due` is its name.
+/// short, that redo file is lost, and no device is handed out with it any more. `due` is its name. A script
+/// that isn't there is a fault of the host.
 #[derive(Drop)]
 pub struct MemHost {
     pub images: BTreeMap<String, MemImage>,
     pub redos: BTreeMap<String, MemRedo>,
+    pub scripts: BTreeMap<String, Vec<u8>>,
     pub due: Option<String>,
     pub failing_puts: Vec<u64>,
     pub asked: Vec<DeviceAsked>,
@@ -54,10 +57,11 @@ pub struct MemHost {
     pub sink_faults: u64,
     pub host_faults: u64,
     pub dev_faults: u64,
+    pub script_faults: u64,
 }
 
 impl MemHost {
-    /// A host with these images and no redo file.
+    /// A host with these images, no redo file and no script.
     pub fn new(alloc: Global, images: BTreeMap<String, MemImage>, failing_puts: Vec<u64>) -> Self
         ensures images { result.images ≡ images }
         ensures redos { (n : List ℕ) → redo_file_named result.redos n ≡ Some no_redo }
@@ -72,6 +76,7 @@ impl MemHost {
         MemHost {
             images,
             redos: BTreeMap::new(alloc),
+            scripts: BTreeMap::new(alloc),
             due: None,
             failing_puts,
             asked: Vec::new(alloc),
@@ -80,6 +85,7 @@ impl MemHost {
             sink_faults: 0,
             host_faults: 0,
             dev_faults: 0,
+            script_faults: 0,
         }
     }
 }
@@ -556,5 +562,37 @@ impl Host for MemHost {
         let size = dev.size(Region::Image);
         let blocks = dev.into_image();
         replace_image(&mut self.images, image, size, blocks);
+    }
+}
+
+// A source over a copy of a script.
+fn open_source(alloc: Global, bytes: &Vec<u8>) -> Result<MemSource, AllocError>
+    ensures told { IfOk result (λ src. ⟦<MemSource as Source>⟧.bytes_left src ≡ Some bytes.now.items) }
+    ensures fresh { IfOk result (λ src. ⟦<MemSource as Source>⟧.source_faults src ≡ 0) }
+{
+    let copy = bytes.clone()?;
+    Ok(MemSource::new(copy, Vec::new(alloc)))
+}
+
+impl ScriptHost for MemHost {
+    type Src = MemSource;
+
+    ghost use Rattle.image_hosts.specs.MemHost.{script_by};
+
+    ghost scripts = { script_by };
+
+    ghost script_faults = { λ h. h.script_faults };
+
+    fn script(&mut self, name: &str) -> Result<MemSource, OpenFault> {
+        let alloc = *self.asked.allocator();
+        let Some(bytes) = self.scripts.get(name) else {
+            count_fault(&mut self.host_faults);
+            return Err(OpenFault::Failed);
+        };
+        Ok(open_source(alloc, bytes)?)
+    }
+
+    fn script_back(&mut self, src: MemSource) {
+        count_failed(&mut self.script_faults, src.fault_count());
     }
 }

@@ -8,7 +8,7 @@ use Rattle.blk_device.specs.declared.device.Region.{Region}
 use Rattle.core_calls.specs.declared.answers.OpenRefused.{OpenRefused}
 use Rattle.core_calls.specs.declared.answers.ScrubFault.{ScrubFault}
 use Rattle.core_calls.specs.declared.answers.ScrubFault.TheVariants as faults
-use Rattle.core_open.specs.Heads.{is_failed as is_failed_open}
+use Rattle.core_parts.specs.Opens.Heads.{is_failed as is_failed_open}
 use Rattle.core_parts.specs.Keeps.{IsSteady}
 use Rattle.core_parts.specs.Safe.{IsDesk, IsSafe}
 use Rattle.core_parts.specs.declared.desk.Desk.{Desk}

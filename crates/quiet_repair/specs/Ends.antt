@@ -4,7 +4,7 @@ use Rattle.blk_device.specs.Causes.{MovesOnly, Rose}
 use Rattle.core_calls.specs.declared.answers.OpenRefused.{OpenRefused}
 use Rattle.core_calls.specs.declared.answers.ScrubFault.{ScrubFault}
 use Rattle.core_calls.specs.declared.answers.ScrubFault.TheVariants as faults
-use Rattle.core_open.specs.Heads.{is_failed as is_failed_open}
+use Rattle.core_parts.specs.Opens.Heads.{is_failed as is_failed_open}
 use Rattle.fs_model.specs.declared.entry.Entry.{Entry}
 use Rattle.quiet_repair.specs.declared.repair.Repair.{Repair}
 use Rattle.quiet_repair.specs.declared.repair.Repair.TheVariants.{Refused, Ended}

@@ -1,6 +1,6 @@
 // The owners of all forks by one pass over them, in the place of a scan for each group.
 ghost use Rattle.std.specs.Prelude.{◌≡◌, ◌<◌, None};
-ghost use Rattle.core_desk.specs.Asks.{IsUsable};
+ghost use Rattle.core_parts.specs.Common.Asks.{IsUsable};
 ghost use Rattle.core_parts.specs.Keeps.{IsAsked, failed_by};
 ghost use Rattle.core_parts.specs.Safe.{IsSafe};
 ghost use Rattle.fsck_core.specs.Acts.{Acts};
@@ -11,7 +11,7 @@ use blk_device::Device;
 use byte_fields::Steps;
 use check_watch::NoWatch;
 use core_calls::{Answer, Ask, Phase};
-use core_desk::{stop_by, unless_shut};
+use core_parts::common::{stop_by, unless_shut};
 use core_parts::{Desk, Parts};
 use fsck_core::{act, end_scan};
 use image_check::{fork_owners, take_set};

@@ -8,5 +8,6 @@ mod sessions;
 mod sound;
 mod telling;
 
-pub use repair::{Repair, Repaired, repair_device};
-pub use sessions::session;
+pub use repair::{Repair, Repaired, no_entry, open_quiet, repair_device};
+pub use sessions::{session, take_answer};
+pub use telling::{tell_passed, tell_started};

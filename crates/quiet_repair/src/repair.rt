@@ -38,8 +38,8 @@ pub enum Repair {
     Ended(Repaired),
 }
 
-// Why a repair isn't begun whose device isn't opened.
-fn no_entry(refused: OpenRefused) -> NoEntry
+/// Why a repair isn't begun whose device isn't opened (XFS Online Fsck Design, "Metadata Repair").
+pub fn no_entry(refused: OpenRefused) -> NoEntry
     ensures { IsSameRefusal refused result }
 {
     match refused {
@@ -69,8 +69,12 @@ fn open_counted<D: Device, L: Ledger>(
     open(alloc, dev, geo, &mut steps)
 }
 
-// Opens a device, for a caller that counts no steps.
-fn open_quiet<D: Device>(alloc: Global, dev: D, geo: Geometry) -> Result<Parts<D>, (D, OpenRefused)>
+/// Opens a device, for a caller that counts no steps (XFS Online Fsck Design, "Metadata Repair").
+pub fn open_quiet<D: Device>(
+    alloc: Global,
+    dev: D,
+    geo: Geometry,
+) -> Result<Parts<D>, (D, OpenRefused)>
     requires image { geo.dblocks ≤ D.blocks dev Image }
     requires redo { REDO_BLOCKS ≤ D.blocks dev Redo }
     ensures safe { IfOk result (IsSafe D.Device) }

@@ -26,8 +26,9 @@ pub(crate) struct End {
     pub(crate) stop: Option<ScrubFault>,
 }
 
-// The order takes an answer, where that may come; else it stays, and the answer is false.
-fn take_answer(order: &mut Order, answer: Answer, phase: Phase) -> bool
+/// The order takes an answer, where that may come; else it stays, and the answer is false
+/// (XFS Online Fsck Design, "Metadata Scrubbing").
+pub fn take_answer(order: &mut Order, answer: Answer, phase: Phase) -> bool
     ensures { order.new ≡ (if result then took_in order.old answer phase else order.old) }
 {
     if !order.can_take(answer, phase) {

@@ -3,8 +3,8 @@ use core_calls::Ask;
 use fs_model::Unit;
 
 /// Tells that a phase begins, with the first unit of its kind. Free space and reference counts of a group
-/// are two units of one phase.
-pub(crate) fn tell_started<W: Watch>(watch: &mut W, ask: Ask, groups: u32) {
+/// are two units of one phase (XFS Online Fsck Design, "Metadata Scrubbing").
+pub fn tell_started<W: Watch>(watch: &mut W, ask: Ask, groups: u32) {
     let Ask::Start { group: 0, unit, .. } = ask else {
         return;
     };
@@ -16,8 +16,8 @@ pub(crate) fn tell_started<W: Watch>(watch: &mut W, ask: Ask, groups: u32) {
     }
 }
 
-/// Tells that a unit has its verdict.
-pub(crate) fn tell_passed<W: Watch>(watch: &mut W, before: u64, now: u64) {
+/// Tells that units have their verdict (XFS Online Fsck Design, "Metadata Scrubbing").
+pub fn tell_passed<W: Watch>(watch: &mut W, before: u64, now: u64) {
     if now > before {
         watch.pass(now - before);
     }

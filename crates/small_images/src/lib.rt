@@ -19,3 +19,9 @@ pub use trees::{
     Place, at, bno_leaf, bno_part, bno_root, cnt_leaf, mapped, mended, owned, refc_leaf, rmap_leaf,
     rmap_part, rmap_root, run, shared,
 };
+
+// What the tests run, so that they name this crate alone.
+pub use xscrub::{
+    Command, Finding, LastLine, RunEnd, Status, Told, command_of, fixed_line, fsck_main, judge,
+    last_line, tell,
+};

@@ -7,11 +7,10 @@ use fs_model::{AnyRec, Entry, Fault, Unit, Verdict};
 use image_hosts::{MemHost, MemImage, Purpose};
 use sblock::{BlockFault, Kind};
 use small_images::{
-    ALL_GOOD, at, bno_leaf, run, run_words, small_image, small_with, two_groups_with,
+    ALL_GOOD, RunEnd, at, bno_leaf, judge, run, run_words, small_image, small_with, two_groups_with,
 };
 use std::alloc::{AllocError, Global};
 use std::process::Abort;
-use xscrub::{RunEnd, judge};
 
 const USAGE: &str =
     "usage: xscrub JOB TARGET [--redo FILE] [--script FILE] [--rebuild] [--turns N]\n";

@@ -4,10 +4,10 @@ use crate::runs::MEMORY;
 use dinode_core::CoreFault;
 use fs_model::{Entry, Evidence, Reason, Unit, Verdict};
 use image_hosts::MemHost;
+use small_images::{Finding, LastLine, Status, Told, tell};
 use std::alloc::{AllocError, Global};
 use std::collections::BTreeMap;
 use std::process::Abort;
-use xscrub::{Finding, LastLine, Status, Told, tell};
 
 // A journal of one entry, behind which this line stands.
 fn ended(alloc: Global, line: LastLine) -> Result<Finding, AllocError> {

@@ -3,9 +3,9 @@ use crate::runs::MEMORY;
 use ag_headers::HeadFault;
 use fs_model::Head;
 use geom::ImageFault;
+use small_images::{Command, LastLine, command_of, fixed_line, last_line};
 use std::alloc::Global;
 use std::process::Abort;
-use xscrub::{Command, LastLine, command_of, fixed_line, last_line};
 
 // Asserts the text of a last line.
 fn expect_text(rt: &impl Abort, alloc: Global, line: LastLine, text: &str) {

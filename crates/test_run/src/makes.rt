@@ -4,11 +4,10 @@ use crate::runs::{MEMORY, expect_end, run_over};
 use byte_fields::Block;
 use fresh_image::fresh_block;
 use image_hosts::{MemHost, MemImage, Purpose};
-use small_images::{ALL_GOOD, bare_image, run_words, small_heads, words_of};
+use small_images::{ALL_GOOD, RunEnd, bare_image, fsck_main, run_words, small_heads, words_of};
 use std::alloc::{AllocError, Global};
 use std::collections::BTreeMap;
 use std::process::Abort;
-use xscrub::{RunEnd, fsck_main};
 
 // Asserts that the stored image is the new one, block for block.
 fn expect_fresh(rt: &impl Abort, image: &MemImage) {

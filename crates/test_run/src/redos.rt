@@ -3,11 +3,12 @@ use super::same::same;
 use crate::runs::{MEMORY, expect_end, image_with};
 use byte_fields::Block;
 use image_hosts::{MemHost, MemImage, MemRedo, Purpose};
-use small_images::{ALL_GOOD, altered, mended_heads, small_heads, small_image, words_of};
+use small_images::{
+    ALL_GOOD, RunEnd, altered, fsck_main, mended_heads, small_heads, small_image, words_of,
+};
 use std::alloc::{AllocError, Global};
 use std::collections::BTreeMap;
 use std::process::Abort;
-use xscrub::{RunEnd, fsck_main};
 
 // A block with this in its first byte.
 fn gate(first: u8) -> Block {

@@ -3,10 +3,9 @@ use super::same::same;
 use blk_device::MemDevice;
 use byte_fields::Block;
 use image_hosts::{MemHost, MemImage};
-use small_images::{run_words, small_with, two_groups_with};
+use small_images::{RunEnd, run_words, small_with, two_groups_with};
 use std::alloc::Global;
 use std::process::Abort;
-use xscrub::RunEnd;
 
 /// What is expected where memory is asked for.
 pub(crate) const MEMORY: &str = "memory is there";

@@ -2,8 +2,8 @@
 use super::same::same;
 use crate::runs::two_group_device;
 use check_watch::{Phase, Watch};
+use small_images::judge;
 use std::alloc::Global;
-use xscrub::judge;
 
 // Each word that was heard: the phase, how much of it was done then, and of how much.
 #[derive(Drop)]

@@ -1,10 +1,9 @@
 //! How a check of an image in memory is to end.
 use super::same::same;
 use image_hosts::{MemHost, MemImage};
-use small_images::run_words;
+use small_images::{RunEnd, run_words};
 use std::alloc::{AllocError, Global};
 use std::process::Abort;
-use xscrub::RunEnd;
 
 /// What is expected where memory is asked for.
 pub(crate) const MEMORY: &str = "memory is there";

@@ -16,7 +16,9 @@ mod top;
 
 pub use crate::command::{Command, command_of};
 pub use crate::ending::{Finding, Status, Told};
+pub use crate::gathering::{gather, put_gathered};
 pub use crate::judging::{JudgeFault, Judgement, judge};
 pub use crate::last_lines::{BatchRefusal, LastLine, RedoRefusal, fixed_line, last_line};
-pub use crate::telling::tell;
+pub use crate::repairing::finding_of;
+pub use crate::telling::{TellStop, put_journal, repaired_status, tell};
 pub use crate::top::{RunEnd, fsck_main};

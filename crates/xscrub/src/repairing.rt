@@ -78,8 +78,9 @@ fn begun(repaired: Repaired, is_failed: bool) -> Finding
     ended(journal, stop, is_sick)
 }
 
-// What a repair found of a device, and whether that counted a fault.
-fn finding_of(alloc: Global, repair: Repair, is_failed: bool) -> Finding
+/// What a repair found of a device, and whether that counted a fault
+/// (XFS Online Fsck Design, "Metadata Repair").
+pub fn finding_of(alloc: Global, repair: Repair, is_failed: bool) -> Finding
     ensures device { (before now : ℕ) → EndsWell before now repair → IsOfDevice result }
     ensures count { (now : ℕ) → EndsWell 0 now repair → is_failed ≡ not (now == 0) → CountsFor 0 now result }
 {

@@ -175,8 +175,8 @@ fn status_of(journal: &[Entry]) -> Status
     Status::Faulty
 }
 
-// The status of a repair. What is sick at the end needs another repair.
-fn repaired_status(is_sick: bool, journal: &[Entry]) -> Status
+/// The status of a repair. What is sick at the end needs another repair.
+pub fn repaired_status(is_sick: bool, journal: &[Entry]) -> Status
     ensures { result ≡ repaired_status_of is_sick journal.now }
 {
     if !is_sick {

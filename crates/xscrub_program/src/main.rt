@@ -3,15 +3,22 @@
 //! it means that a unit was given up, and what to do after a repair; on a terminal also how far it is.
 #![tactic(auto)]
 
+mod guard;
+mod mounts;
+
+ghost use Rattle.std.specs.Thread.{IsSync};
+
+use crate::guard::{Hold, hold_image};
 use blk_device::reader_queue;
-use image_hosts::{FileHost, Host, tell_status};
+use image_hosts::{FileHost, ScriptHost, tell_status};
+use live_jobs::{Finding, NoGate, fsck_live, fsck_main, tell};
 use std::alloc::Global;
 use std::io::{ErrorKind, IsTerminal};
 use std::process::ExitCode;
 use std::rt::Env;
+use std::sync::Wait;
 use std::thread::Threads;
 use std::{env, io, thread};
-use xscrub::{Finding, fsck_main, tell};
 
 // So many bytes are asked for and given back before anything else.
 const KEPT_BYTES: usize = 8 << 20;
@@ -32,9 +39,18 @@ fn words_of<R: Env + AllocGlobal>(rt: &R) -> io::Result<Vec<String>> {
 }
 
 // Does what the words of the command line ask for, and answers the status.
-fn run<R: Env + AllocGlobal, H: Host>(alloc: Global, rt: &R, host: &mut H) -> u8 {
-    match words_of(rt) {
-        Ok(words) => fsck_main(alloc, host, words.as_slice()).status,
+fn run<R: Threads + Wait + Sync, H: ScriptHost>(
+    alloc: Global,
+    rt: &R,
+    host: &mut H,
+    words: io::Result<Vec<String>>,
+) -> u8
+where
+    H::Dev: Drop,
+    requires { IsSync R.row }
+{
+    match words {
+        Ok(words) => fsck_live(rt, alloc, host, &NoGate, words.as_slice()).status,
         Err(fault) if fault.kind() == ErrorKind::OutOfMemory => {
             tell(alloc, host, Finding::Memory(Vec::new(alloc)))
                 .status
@@ -64,7 +80,16 @@ fn main(rt: HostRuntime) -> ExitCode {
             host = host.with_readers(queue);
         }
     }
-    let status = run(alloc, &rt, &mut host);
+    let words = words_of(&rt);
+    // The image is this program's until it ends.
+    let hold = match &words {
+        Ok(words) => hold_image(alloc, &rt, words.as_slice()),
+        Err(_) => Hold::Free,
+    };
+    let status = match hold {
+        Hold::Busy => tell(alloc, &mut host, Finding::HostFailed).status.code(),
+        Hold::Held(_) | Hold::Free => run(alloc, &rt, &mut host, words),
+    };
     tell_status(&rt, status, host.is_changing());
     ExitCode::from(status)
 }

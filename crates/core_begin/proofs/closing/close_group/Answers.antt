@@ -1,4 +1,4 @@
-use Rattle.core_desk.proofs.AskLemmas.{steady_on}
+use Rattle.core_parts.proofs.common.AskLemmas.{steady_on}
 use Rattle.core_begin.proofs.BeginLemmas.{refused}
 use Rattle.core_begin.proofs.closing.close_group.Goals as goal
 

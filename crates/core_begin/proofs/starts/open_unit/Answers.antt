@@ -1,5 +1,5 @@
 use Rattle.std.proofs.Common.{◌≡◌, ◌∙◌, List, refl, ap, sym}
-use Rattle.core_open.specs.Inodes.{are_trees}
+use Rattle.core_parts.specs.Opens.Inodes.{are_trees}
 use Rattle.core_parts.specs.declared.groups.GroupKept.{GroupKept}
 use Rattle.geom.specs.Places.{layout}
 use Rattle.core_begin.proofs.BeginLemmas.{early_works, safe_desk, safe_on, where_on}

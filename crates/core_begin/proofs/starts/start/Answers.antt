@@ -1,4 +1,4 @@
-use Rattle.core_desk.proofs.AskLemmas.{steady_on}
+use Rattle.core_parts.proofs.common.AskLemmas.{steady_on}
 use Rattle.std.proofs.Common.{◌<◌, refl, sym, subst}
 use Rattle.geom.specs.declared.geometry.Geometry.{Geometry}
 use Rattle.core_begin.proofs.BeginLemmas.{safe_desk}

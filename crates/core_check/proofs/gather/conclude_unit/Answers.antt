@@ -8,3 +8,6 @@ returns-in-Ok-Judging-clause-leaves g c =
 
 pub returns-in-Err-clause-leaves : goal.returns-in-Err-clause-leaves
 returns-in-Err-clause-leaves g c = leaves_self g.D.Device c.args.desk.now c.args.which.group _ c.requires.usable tt tt
+
+pub returns-in-Ok-GaveUp-clause-stands : goal.returns-in-Ok-GaveUp-clause-stands
+returns-in-Ok-GaveUp-clause-stands g c = c.give_up_whole.ensures.stands c.args.gathered.owners.items

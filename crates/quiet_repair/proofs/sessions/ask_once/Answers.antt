@@ -1,3 +1,4 @@
+use Rattle.fsck_core.proofs.ToldLemmas.{tells_well}
 use Rattle.quiet_repair.proofs.SessionLemmas.{asked_on}
 use Rattle.quiet_repair.proofs.sessions.ask_once.Goals as goal
 
@@ -5,5 +6,5 @@ pub returns : goal.returns
 returns g c = record {
   on =
       asked_on g.D.Device c.args.parts.now c.answer_of-told.new.parts c.take_answer.result c.args.order.now c.take_answer.new.order c.answer_of-told.result.0 c.answer_of-told.result.1
-      c.requires.stands c.answer_of-told.ensures.acted.safe c.answer_of-told.ensures.acted.steady c.answer_of-told.ensures.acted.shut c.answer_of-told.ensures.acted.told c.take_answer.ensures;
+      c.requires.stands c.answer_of-told.ensures.acted.safe c.answer_of-told.ensures.acted.steady c.answer_of-told.ensures.acted.shut (tells_well c.answer_of-told.new.parts.desk c.answer_of-told.result.0 c.answer_of-told.ensures.acted.told) c.take_answer.ensures;
 }

@@ -1,0 +1,13 @@
+use Rattle.std.proofs.Common.{◌≡◌}
+use Rattle.core_parts.specs.Common.Asks.{IsUsable}
+use Rattle.core_parts.specs.Keeps.{IsSteady}
+use Rattle.unit_edits.specs.Opened.{IsOpen}
+use Rattle.core_chains.proofs.refill.fills.list_run.Given as goal
+
+abbrev pub invariant-loop-i : goal.invariant-loop-i
+invariant-loop-i g l = record {
+  usable : IsUsable g.D.Device l.desk;
+  steady : IsSteady g.D.Device l.initial.desk l.desk;
+  book : l.desk.book ≡ l.initial.desk.book;
+  opened : IsOpen g.D.Device l.g l.desk.store;
+}

@@ -1,0 +1,4 @@
+pub mod First
+pub mod Maps
+pub mod Shares
+pub mod Chunks

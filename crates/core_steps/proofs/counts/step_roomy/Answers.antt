@@ -1,7 +1,0 @@
-use Rattle.std.specs.Prelude.{None}
-use Rattle.core_steps.proofs.SaidLemmas.{whole_part}
-use Rattle.core_steps.specs.Entries.Counted.{Stretched}
-use Rattle.core_steps.proofs.counts.step_roomy.Goals as goal
-
-pub returns-then-is_sick-clause-said : goal.returns-then-is_sick-clause-said
-returns-then-is_sick-clause-said g c = (Stretched c.args.next.now.intent.count None None, whole_part c.args.next.now.intent c.requires.step.next.run, c.pass_over.ensures.said)

@@ -1,5 +1,0 @@
-use Rattle.core_steps.proofs.PartLemmas.{unit_stays}
-use Rattle.core_steps.proofs.hears.take_room.Goals as goal
-
-pub returns-in-Some-clause-stays : goal.returns-in-Some-clause-stays
-returns-in-Some-clause-stays c = unit_stays c.args.place.now c.in-Some.unit c.unit_room.new.unit c.in-Some.is c.unit_room.ensures.stays

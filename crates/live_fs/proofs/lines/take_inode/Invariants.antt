@@ -1,0 +1,5 @@
+use Rattle.live_fs.specs.Passes.{PassOn}
+use Rattle.live_fs.proofs.lines.take_inode.Given as goal
+
+abbrev pub invariant-loop : goal.invariant-loop
+invariant-loop g l = PassOn l.live.lock l.live.origin l.fn.pass l.pass

@@ -1,0 +1,4 @@
+pub mod Passes
+pub mod Ranges
+pub mod Runs
+pub mod Sections

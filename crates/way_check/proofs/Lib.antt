@@ -1,0 +1,7 @@
+pub mod HeadLemmas
+pub mod LeafLemmas
+pub mod NodeLemmas
+pub mod OverLemmas
+pub mod ReadLemmas
+pub mod StepLemmas
+pub mod WayLemmas
