@@ -13,8 +13,12 @@ words() {
   expect 'help' 2 "$usage" --help
   expect 'a repair without a redo file' 2 "$usage" repair a
   expect 'a repair of no file' 5 'host failed' repair nothing.img --redo b
-  expect 'the job run' 4 'unbuilt job' run a --redo b --script c
-  expect 'the job drill' 4 'unbuilt job' drill 7
+  expect 'a run without a script' 2 "$usage" run a --redo b
+  expect 'a run of no script' 5 'host failed' run a --redo b --script nothing.txt
+  printf 'writer 1\nmap a 0 0\n' >wrong.txt
+  expect 'a run of a wrong script' 3 'script line 2' run a --redo b --script wrong.txt
+  expect 'a drill' 0 "$(printf '%s\n' 'drill 7' 'repaired 2' 'accepted 148' 'mapped 400' 'shared 64' 'rebuilt 12' 'faults 0')" drill 7
+  rm -f xscrub.scratch
   expect 'the job make with a redo file' 2 "$usage" make a --redo b
   printf '\1' >waiting && truncate -s 663552 waiting && touch -r old waiting
   expect 'a change that waits in the redo file' 4 'redo waiting' check --redo waiting /dev/null
