@@ -26,14 +26,15 @@ use tree_defs::Site;
 use unit_plan::SpaceTrust;
 
 /// A unit of group `group`, of `length` blocks, that is rebuilt: the group's btrees as they were read,
-/// the units that are chunks, the owners of forks, the blocks that the switch loses, and what is
-/// reserved. New blocks get the log sequence number `lsn`
+/// with `btreeblks` of its head then, the units that are chunks, the owners of forks, the blocks that the
+/// switch loses, and what is reserved. New blocks get the log sequence number `lsn`
 /// (XFS Online Fsck Design, "Reconstructing Metadata: Bulk Loading").
 #[derive(Drop)]
 pub struct Rebuild {
     pub group: u32,
     pub length: u32,
     pub lsn: u64,
+    pub btreeblks: u32,
     pub trees: GroupTrees,
     pub chunks: Vec<u32>,
     pub owners: Vec<RmapRec>,
@@ -108,6 +109,7 @@ pub fn begin_rebuild(
         group: g,
         length,
         lsn: heads.agf.lsn,
+        btreeblks: heads.agf.btreeblks,
         trees,
         chunks,
         owners,

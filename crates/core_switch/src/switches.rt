@@ -38,29 +38,40 @@ fn beside_three(bno: u32, cnt: u32, rmap: u32) -> Option<u32>
     Some((all - 3) as u32)
 }
 
-// The same after a switch of free space. Blocks that were reserved for it moved reverse mappings, so these
-// are counted as the head has them now, and not as they were gathered.
-fn beside_now(switch: &Switch, rmap: u32) -> Option<u32> {
+// A number of blocks that were read, once the head's number of them moved on.
+fn moved(counted: Option<u32>, now: u32, then: u32) -> Option<u32> {
+    match counted {
+        Some(blocks) => Some(blocks.wrapping_add(now).wrapping_sub(then)),
+        None => None,
+    }
+}
+
+// The same after a switch, as the trees are now, and not as they were gathered: blocks that were reserved
+// for free space moved reverse mappings, and those reserved for these moved free space.
+fn beside_now(rebuild: &Rebuild, heads: &EditHeads, switch: &Switch) -> Option<u32> {
     match switch {
-        Switch::Free { bno, cnt, .. } => beside_three(bno.blocks, cnt.blocks, rmap),
+        Switch::Free { bno, cnt, .. } => {
+            beside_three(bno.blocks, cnt.blocks, heads.agf.rmap_blocks)
+        }
+        Switch::Rmap { btreeblks, .. } => moved(*btreeblks, heads.agf.btreeblks, rebuild.btreeblks),
         _ => None,
     }
 }
 
 // The heads as the switch makes them.
-fn heads_now(kept: &GroupKept, switch: &Switch) -> Heads {
+fn heads_now(kept: &GroupKept, rebuild: &Rebuild, switch: &Switch) -> Heads {
     let mut heads = switched_heads(kept.heads.agf, kept.heads.agi, switch);
-    if let Some(blocks) = beside_now(switch, kept.heads.agf.rmap_blocks) {
+    if let Some(blocks) = beside_now(rebuild, &kept.heads, switch) {
         heads.agf.btreeblks = blocks;
     }
     heads
 }
 
 // Where the heads are written, with what the switch makes of them.
-fn switch_place(kept: &GroupKept, unit: &UnitState, switch: &Switch) -> EditPlace
+fn switch_place(kept: &GroupKept, unit: &UnitState, rebuild: &Rebuild, switch: &Switch) -> EditPlace
     ensures group { result.group ≡ unit.now.group }
 {
-    let heads = heads_now(kept, switch);
+    let heads = heads_now(kept, rebuild, switch);
     EditPlace {
         heads: EditHeads {
             agf: heads.agf,
@@ -144,7 +155,7 @@ fn switch_staged<D: Device, L: Ledger>(
     ensures kept_stays { OnErr result (kept.new ≡ kept.old) }
     ensures unsaid { OnErr result (desk.new.book.journal.items ≡ desk.old.book.journal.items) }
 {
-    let place = switch_place(kept, unit, &staged.switch);
+    let place = switch_place(kept, unit, &rebuild, &staged.switch);
     match write_switch(desk, &place, steps) {
         Ok(()) => {
             settle_switch(desk, kept, unit.group, unit.unit, staged);
