@@ -84,6 +84,7 @@ done
 [ ${#images[@]} -gt 0 ] || echo 'skipped: no image that a kernel used was named'
 if [ -n "$repairs" ]; then
   large_trees
+  lean_trees
   refused_heads
   stops
   bad_redo_files

@@ -258,6 +258,20 @@ large_trees() {
   row 0:agf:counter:rmapblocks:25
 }
 
+# Trees of free space that hold as little as they may, and which blocks that are reserved for new reverse mappings
+# make smaller: all is rebuilt, and no counter is wrong in between.
+lean_trees() {
+  group_count=1
+  make_image lean.img --groups 1 --blocks 2560 --pieces 755 --half && copy lean.img real.img || {
+    verdict 'lean trees' 1 "${printed[@]}"
+    return
+  }
+  repair real.img --rebuild
+  [ "$ended $(cat said)" = "0 $(goods | sed 's/good$/rebuilt/')" ]
+  verdict 'lean trees are rebuilt' $? "found status $ended:" "$(cat said)"
+  all_good 'lean trees are good' real.img
+}
+
 # A head that is refused, in the group that isn't the first.
 refused_heads() {
   local edit line
