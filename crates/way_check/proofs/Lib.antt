@@ -4,4 +4,5 @@ pub mod NodeLemmas
 pub mod OverLemmas
 pub mod ReadLemmas
 pub mod StepLemmas
+pub mod WalkLemmas
 pub mod WayLemmas

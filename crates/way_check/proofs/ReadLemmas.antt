@@ -232,7 +232,7 @@ edits_out form Insert r recs is may = cc
 edits_out form Remove r recs is may = rw may refl
 edits_out form Change r recs is may = cc
 
-edits_so : {R K : Type 0} (form : Form R K) (how : Edit) (r : R) (recs : List R) → IsPlain form how → MayBe form how r recs → edited form how r recs ≡ Ok (made form how r recs)
+pub edits_so : {R K : Type 0} (form : Form R K) (how : Edit) (r : R) (recs : List R) → IsPlain form how → MayBe form how r recs → edited form how r recs ≡ Ok (made form how r recs)
 edits_so form how r recs (inl is) may = edits_out form how r recs is may
 edits_so form how r recs (inr parts) may = edits_plain form parts how r recs may
 

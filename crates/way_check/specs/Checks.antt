@@ -86,6 +86,14 @@ module _ {R K : Type 0} (form : Form R K) where
     pub left : left_of new ≡ left_of old
     pub right : right_of new ≡ right_of old
 
+  -- the entry of a node on the way, and its child, which is a block of the group
+  pub record LeadsOn (ask : Ask R) (node : List ℕ) (at child : ℕ) : Type 0 where
+    pub way : at ≡ way_in form ask.rec node
+    pub inside : at < numrecs node
+    pub child_is : child_of form.kind (area_of node) (way_in form ask.rec node) ≡ child
+    pub some : 1 ≤ child
+    pub lies : child < ask.site.bounds.length
+
   -- The new node has the keys of the block below that was made last, which stands in the place of the entry's child on the
   -- way. That block is of this level.
   pub record IsStep (ask : Ask R) (level : ℕ) (old new : List ℕ) (lower : List (ℕ × Block)) (child : ℕ) : Type 0 where
