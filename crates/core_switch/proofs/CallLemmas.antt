@@ -6,6 +6,8 @@ use Rattle.std.specs.Prelude.{◌||◌, [], Option, List, Result, Ok, Err, OnOk,
 use Rattle.blk_cache.specs.Cache.{AgreesTold}
 use Rattle.blk_device.specs.Causes.{HasCause, MovesOnly, Rose, any_error}
 use Rattle.blk_device.specs.Contents.{Contents}
+use Rattle.blk_device.specs.Crash.{IsDurable}
+use Rattle.blk_device.specs.declared.device.Region.TheVariants.{Image}
 use Rattle.blk_device.specs.declared.device.Device.{Ghosts}
 use Rattle.byte_fields.specs.Steps.{StepCount}
 use Rattle.block_reap.specs.Limbo.{has}
@@ -32,6 +34,14 @@ use Rattle.unit_edits.specs.Opened.{EditsStore}
 pub or_false : (b : Bool) → b ≡ (b || false)
 or_false true = refl
 or_false false = refl
+
+-- what was read before is read after
+pub sync_durable : {T E : Type 0} (result : Result T E) (old new : Option Contents) (outcomes : Contents → Type 0) → new ≡ old → OnOk result (IsDurable Image old outcomes) → OnOk result (IsDurable Image new outcomes)
+sync_durable (Ok x) old new outcomes same durable = subst (λ (told : Option Contents). IsDurable Image told outcomes) (sym same) durable
+sync_durable (Err e) old new outcomes same durable = tt
+
+pub not_unsynced : {X : Type 0} (b : Bool) → b ≡ false → b ≡ true → X
+not_unsynced b isnt is = absurd (false≢true (sym isnt ∙ is))
 
 -- an empty reserve has no block
 pub none_reserved : (r : Rebuild) (c : Bool) (b o : ℕ) → r.building.reserve.items ≡ [] → c ≡ (c || has_reserve r b o)
@@ -108,6 +118,12 @@ module _ {D : Type 0} (d : Ghosts D) where
   pub stopped_answers : {T : Type 0} (failed : Bool) (old mid new : Desk D) (fault : ScrubFault) → IsAsked d failed old mid → IsDesk d new → IsSteady d mid new → HasReason new fault → Answers {D = D} {T = T} d old new (Err fault)
   stopped_answers failed old mid new fault a desk steady reason =
       record { desk = desk; steady = steady_on d old mid new (asked_steady d failed old mid a) steady; reason = reason; unshut = tt }
+
+  -- what was made durable stays so, while nothing is asked of the device
+  pub synced_still : {T E : Type 0} (P : Type 0) (old mid new : Store D) (result : Result T E) → mid ≡ old → new ≡ mid → (P → IsDurable Image (d.content old.dev) (d.may_hold_now old.dev))
+      → OnOk result (P → IsDurable Image (d.content new.dev) (d.may_hold_now new.dev))
+  synced_still P old mid new (Ok x) a b durable = λ p. subst (λ (s : Store D). IsDurable Image (d.content s.dev) (d.may_hold_now s.dev)) (sym (b ∙ a)) (durable p)
+  synced_still P old mid new (Err e) a b durable = tt
 
   pub opens_desk : (k : Desk D) (drain : Drain) (g : ℕ) (gate : Gate) → gates_of drain ≡ slice_set (gates_of k.drain) g gate → IsUsable d k → IsUsable d (record k { drain = drain })
   opens_desk k drain g gate gates u = record {

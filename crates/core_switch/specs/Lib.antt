@@ -3,3 +3,4 @@ pub mod Marks
 pub mod Says
 pub mod Switched
 pub mod Reserves
+pub mod Synced

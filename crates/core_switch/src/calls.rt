@@ -1,6 +1,8 @@
 // The calls on the device that these events make: each alone, and with its fault noted.
 ghost use Rattle.std.specs.Prelude.{◌≡◌, ◌<◌, OnOk};
 ghost use Rattle.blk_device.specs.Causes.{any_error};
+ghost use Rattle.blk_device.specs.Crash.{IsDurable};
+ghost use Rattle.blk_device.specs.declared.device.Region.TheVariants.{Image};
 ghost use Rattle.core_parts.specs.Common.Asks.{Answers, IsUsable};
 ghost use Rattle.core_edit.specs.Open.{is_device};
 ghost use Rattle.core_parts.specs.Keeps.{IsAsked, failed_by};
@@ -72,10 +74,11 @@ fn call_reap<D: Device, L: Ledger>(
 }
 
 // Makes the image durable.
-#[tactic(auto, using(crate::proofs::CallLemmas::sync_asked))]
+#[tactic(auto, using(crate::proofs::CallLemmas::sync_asked, crate::proofs::CallLemmas::sync_durable))]
 fn call_sync<D: Device>(desk: &mut Desk<D>) -> Result<(), DeviceFailed>
     requires usable { IsUsable D.Device desk.old }
     ensures asked { IsAsked D.Device (failed_by any_error result) desk.old desk.new }
+    ensures durable { OnOk result (IsDurable Image (D.content desk.new.store.dev) (D.may_hold_now desk.new.store.dev)) }
 {
     desk.store.dev.sync(Region::Image)
 }
@@ -149,6 +152,7 @@ pub(crate) fn sync_at<D: Device>(desk: &mut Desk<D>) -> Result<(), ScrubFault>
     ensures answers { Answers D.Device desk.old desk.new result }
     ensures drain { OnOk result (desk.new.drain ≡ desk.old.drain) }
     ensures items { desk.new.book.journal.items ≡ desk.old.book.journal.items }
+    ensures durable { OnOk result (IsDurable Image (D.content desk.new.store.dev) (D.may_hold_now desk.new.store.dev)) }
 {
     match call_sync(desk) {
         Ok(()) => Ok(()),

@@ -1,8 +1,11 @@
 ghost use Rattle.std.specs.Prelude.{◌≡◌, ◌<◌, ◌||◌, ◌∷◌, [], ℕ, IfNone, IfSome, OnErr, OnOk, false, slice_set, true};
 ghost use Rattle.std.specs.Vec.{vec_capacity, vec_len};
+ghost use Rattle.blk_device.specs.Crash.{IsDurable};
+ghost use Rattle.blk_device.specs.declared.device.Region.TheVariants.{Image};
 ghost use Rattle.block_reap.specs.Limbo.{has};
 ghost use Rattle.core_switch.specs.Reserves.{has_reserve, is_reserved, reserve_in};
 ghost use Rattle.core_switch.specs.Says.{SaysBy, released_by, released_of};
+ghost use Rattle.core_switch.specs.Synced.{has_staged as has_staged_of, is_unsynced as is_unsynced_of};
 ghost use Rattle.core_parts.specs.Common.Asks.{Answers, IsSame, IsUsable};
 ghost use Rattle.core_parts.specs.Common.Entries.{HasMore};
 ghost use Rattle.core_parts.specs.Keeps.{IsGiven, IsSteady};
@@ -24,7 +27,9 @@ use core_reserve::{Rebuild, Staging, release};
 use fs_model::{Entry, Unit};
 
 // Whether new blocks were written.
-fn has_staged(staging: &Staging) -> bool {
+fn has_staged(staging: &Staging) -> bool
+    ensures { result ≡ has_staged_of staging.now }
+{
     match staging {
         Staging::First(number) => *number > 0,
         Staging::Second(_) => true,
@@ -33,7 +38,9 @@ fn has_staged(staging: &Staging) -> bool {
 }
 
 // Whether blocks were staged, and not synced since.
-fn is_unsynced(work: &Work) -> bool {
+fn is_unsynced(work: &Work) -> bool
+    ensures { result ≡ is_unsynced_of work.now }
+{
     match work {
         Work::Reserved(_, staging) => has_staged(staging),
         _ => false,
@@ -41,11 +48,13 @@ fn is_unsynced(work: &Work) -> bool {
 }
 
 // Makes new blocks durable where they aren't.
+#[tactic(auto, using(crate::proofs::CallLemmas::not_unsynced))]
 fn sync_staged<D: Device>(desk: &mut Desk<D>, work: &Work) -> Result<(), ScrubFault>
     requires usable { IsUsable D.Device desk.old }
     ensures answers { Answers D.Device desk.old desk.new result }
     ensures drain { OnOk result (desk.new.drain ≡ desk.old.drain) }
     ensures items { desk.new.book.journal.items ≡ desk.old.book.journal.items }
+    ensures durable { OnOk result (is_unsynced_of work.now ≡ true → IsDurable Image (D.content desk.new.store.dev) (D.may_hold_now desk.new.store.dev)) }
 {
     if is_unsynced(work) {
         return sync_at(desk);
@@ -67,6 +76,7 @@ fn say_released<D: Device>(desk: &mut Desk<D>, group: u32, unit: Unit) -> bool
     requires usable { IsUsable D.Device desk.old }
     ensures usable { IsUsable D.Device desk.new }
     ensures steady { IsSteady D.Device desk.old desk.new }
+    ensures store { desk.new.store ≡ desk.old.store }
     ensures drain { desk.new.drain ≡ desk.old.drain }
     ensures said { result ≡ true → HasMore desk.old desk.new (entries.Released group unit ∷ []) }
     ensures unsaid { result ≡ false → desk.new.book.journal.items ≡ desk.old.book.journal.items }
@@ -93,6 +103,7 @@ fn release_one<D: Device>(
     ensures usable { IsUsable D.Device desk.new }
     ensures steady { IsSteady D.Device desk.old desk.new }
     ensures kept { IsKept kept.new }
+    ensures store { desk.new.store ≡ desk.old.store }
     ensures drain { desk.new.drain ≡ desk.old.drain }
     ensures put { result ≡ true → (b o : ℕ) → has kept.new.limbo.items b o ≡ (has kept.old.limbo.items b o || has_reserve rebuild.now b o) }
     ensures said { result ≡ true → HasMore desk.old desk.new (released_of group unit rebuild.now.building.reserve.items) }
@@ -133,6 +144,7 @@ fn release_unit<D: Device>(desk: &mut Desk<D>, kept: &mut GroupKept, unit: &Unit
     ensures usable { IsUsable D.Device desk.new }
     ensures steady { IsSteady D.Device desk.old desk.new }
     ensures kept { IsKept kept.new }
+    ensures store { desk.new.store ≡ desk.old.store }
     ensures drain { desk.new.drain ≡ desk.old.drain }
     ensures put { result ≡ true → (b o : ℕ) → has kept.new.limbo.items b o ≡ (has kept.old.limbo.items b o || is_reserved unit.now.work b o) }
     ensures said { result ≡ true → HasMore desk.old desk.new (released_by unit.now) }
@@ -150,6 +162,7 @@ fn open_gate<D: Device>(desk: &mut Desk<D>, group: u32, had_room: bool) -> Resul
     requires usable { IsUsable D.Device desk.old }
     requires inside { group < desk.old.store.geo.agcount }
     ensures answers { Answers D.Device desk.old desk.new result }
+    ensures store { desk.new.store ≡ desk.old.store }
     ensures gates { gates_of desk.new.drain ≡ slice_set (gates_of desk.old.drain) group Open }
     ensures room { OnOk result (had_room ≡ true) }
     ensures lack { OnErr result (had_room ≡ false) }
@@ -180,6 +193,7 @@ pub fn reopen<D: Device>(
     ensures gates { OnOk result (gates_of desk.new.drain ≡ slice_set (gates_of desk.old.drain) unit.group Open) }
     ensures put { OnOk result ((b o : ℕ) → has kept.new.limbo.items b o ≡ (has kept.old.limbo.items b o || is_reserved unit.work b o)) }
     ensures says { SaysBy (released_by unit) desk.old desk.new result }
+    ensures durable { OnOk result (is_unsynced_of unit.work ≡ true → IsDurable Image (D.content desk.new.store.dev) (D.may_hold_now desk.new.store.dev)) }
 {
     sync_staged(desk, &unit.work)?;
     let had_room = release_unit(desk, kept, &unit);
