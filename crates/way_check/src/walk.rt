@@ -28,8 +28,7 @@ use tree_find::{child_in, start_for};
 // group.
 fn child_below<K: RecKind>(block: &Block, ask: &Ask<K::Rec>) -> Option<(usize, u32)>
     requires room { numrecs block.now.bytes ≤ node_most_of K.form.kind }
-    requires rising {
-        is_rising K.form false (area_of block.now.bytes) (numrecs block.now.bytes) ≡ true }
+    requires rising { is_rising K.form false (area_of block.now.bytes) (numrecs block.now.bytes) ≡ true }
     requires some { 1 ≤ numrecs block.now.bytes }
     ensures { IfSome result (λ x. LeadsOn K.form ask.now block.now.bytes x.0 x.1) }
 {
@@ -72,8 +71,7 @@ fn step_below<K: RecKind>(
     lower: &[(u32, Block)],
 ) -> Option<u32>
     requires room { numrecs old.now.bytes ≤ node_most_of K.form.kind }
-    requires rising {
-        is_rising K.form false (area_of old.now.bytes) (numrecs old.now.bytes) ≡ true }
+    requires rising { is_rising K.form false (area_of old.now.bytes) (numrecs old.now.bytes) ≡ true }
     requires some { 1 ≤ numrecs old.now.bytes }
     requires new_room { numrecs new.now.bytes ≤ node_most_of K.form.kind }
     ensures { IfSome result (λ child.
