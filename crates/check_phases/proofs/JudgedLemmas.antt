@@ -1,8 +1,8 @@
 -- Whether a unit passes is what the state decides.
 use Rattle.std.proofs.Common.{◌≡◌, ℕ, List, Option, ap, sym, ◌∙◌, length}
 use Rattle.std.specs.Prelude.{◌==◌}
-use Rattle.fs_derive.specs.Contradiction.{evidence}
-use Rattle.fs_derive.specs.Faults.{faults}
+use Rattle.fs_state.specs.Contradiction.{evidence}
+use Rattle.fs_state.specs.Faults.{faults}
 use Rattle.fs_model.specs.declared.claim.Evidence.{Evidence}
 use Rattle.fs_model.specs.declared.fault.Fault.{Fault}
 use Rattle.fs_model.specs.declared.unit.Unit.{Unit as ScrubUnit}

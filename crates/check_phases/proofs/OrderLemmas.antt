@@ -1,8 +1,8 @@
 -- The three phases one after the other are the order of a session.
 use Rattle.std.proofs.Common.{◌≡◌, ℕ, zero, suc, ◌+◌, List, [], ◌∷◌, ◌++◌, map, refl, ap}
 use Rattle.std.specs.Prelude.{flat_map}
-use Rattle.fs_derive.specs.Lists.{numbers}
-use Rattle.fs_derive.specs.Session.{Place, unit_order}
+use Rattle.fs_state.specs.Lists.{numbers}
+use Rattle.fs_state.specs.Session.{Place, unit_order}
 use Rattle.fs_model.specs.declared.unit.Unit.TheVariants as units
 use Rattle.check_phases.specs.Phases.{Inodes, Mappings, PhasesInOrder, places}
 

@@ -2,12 +2,12 @@
 use Rattle.std.proofs.Common.{◌≡◌, ℕ, Bool, true, false, List, [], ◌∷◌, ◌++◌, length, map, Option, Some, None, refl, sym, ◌∙◌, ap}
 use Rattle.std.specs.Prelude.{◌==◌, not, if◌then◌else◌}
 use Rattle.std.specs.List.{filter}
-use Rattle.fs_derive.specs.Contradiction.{evidence}
-use Rattle.fs_derive.specs.Derive.{derive}
-use Rattle.fs_derive.specs.Faults.{counter_fault, faults, faults_of_counter, faults_of_kind, index_faults, kind_of_fault, wanted}
-use Rattle.fs_derive.specs.Kinds.{kind_of_counter, shown_of, unit_of}
-use Rattle.fs_derive.specs.Lists.{only_if}
-use Rattle.fs_derive.specs.Session.{Place, first_unready, is_at, is_passed, stands}
+use Rattle.fs_state.specs.Contradiction.{evidence}
+use Rattle.fs_state.specs.Derive.{derive}
+use Rattle.fs_state.specs.Faults.{counter_fault, faults, faults_of_counter, faults_of_kind, index_faults, kind_of_fault, wanted}
+use Rattle.fs_state.specs.Records.{kind_of_counter, shown_of, unit_of}
+use Rattle.fs_state.specs.Lists.{only_if}
+use Rattle.fs_state.specs.Session.{Place, first_unready, is_at, is_passed, stands}
 use Rattle.fs_model.specs.declared.claim.Evidence.{Evidence}
 use Rattle.fs_model.specs.declared.entry.Entry.{Entry}
 use Rattle.fs_model.specs.declared.entry.Entry.TheVariants as entries

@@ -1,7 +1,7 @@
 -- The reverse mappings that free space and reference counts are read off.
 use Rattle.std.proofs.Common.{◌≡◌, ℕ, Bool, true, false, List, get_or, Option, Some, None, refl, ap, sym, ◌∙◌}
 use Rattle.ag_headers.specs.declared.agf.Agf.{Agf}
-use Rattle.fs_derive.specs.Session.{Place}
+use Rattle.fs_state.specs.Session.{Place}
 use Rattle.fs_model.specs.declared.unit.Unit.TheVariants as units
 use Rattle.fs_state.specs.Kinds.{Image, heads_of}
 use Rattle.fs_state.specs.Read.{Read}

@@ -1,6 +1,6 @@
 -- One unit, and both of free space and reference counts, as they are checked or skipped.
 use Rattle.std.proofs.Common.{◌≡◌, ℕ, ◌<◌, Bool, false, List, [], ◌∷◌, ◌++◌, length, Option, Some, None, Result, Ok, Err, OnOk, subst}
-use Rattle.fs_derive.specs.Session.{Place}
+use Rattle.fs_state.specs.Session.{Place}
 use Rattle.fs_model.specs.declared.entry.Entry.{Entry}
 use Rattle.fs_model.specs.declared.unit.Unit.{Unit as ScrubUnit}
 use Rattle.fs_model.specs.declared.unit.Unit.TheVariants as units

@@ -2,10 +2,10 @@
 -- allow.
 use Rattle.std.proofs.Common.{◌≡◌, ℕ, Bool, true, false, List, [], ◌∷◌, ◌++◌, length, map, Option, Some, None, refl, sym, ◌∙◌, ap, subst, append_assoc}
 use Rattle.std.specs.Prelude.{◌==◌, if◌then◌else◌}
-use Rattle.fs_derive.specs.Contradiction.{evidence}
-use Rattle.fs_derive.specs.Faults.{faults}
-use Rattle.fs_derive.specs.Session.{AreOf, FitsVerdict, Place, VerdictsFit, first_unready, is_refused, unit_order, verdict_places}
-use Rattle.fs_derive.specs.declared.plan.Plan.TheVariants.{Check}
+use Rattle.fs_state.specs.Contradiction.{evidence}
+use Rattle.fs_state.specs.Faults.{faults}
+use Rattle.fs_state.specs.Session.{AreOf, FitsVerdict, Place, VerdictsFit, first_unready, is_refused, unit_order, verdict_places}
+use Rattle.fs_state.specs.declared.plan.Plan.TheVariants.{Check}
 use Rattle.fs_model.specs.declared.claim.Evidence.{Evidence}
 use Rattle.fs_model.specs.declared.entry.Entry.{Entry}
 use Rattle.fs_model.specs.declared.entry.Entry.TheVariants as entries

@@ -2,7 +2,7 @@
 -- faults or with the evidence for which it is given up, or it is skipped for a unit that it needs. How many blocks are
 -- read isn't told then, and stands as 0.
 use Rattle.std.specs.Prelude.{◌≡◌, ℕ, zero, suc, ◌+◌, ◌-◌, ◌⊎◌, List, [], ◌∷◌, ◌++◌, Result}
-use Rattle.fs_derive.specs.Session.{Place}
+use Rattle.fs_state.specs.Session.{Place}
 use Rattle.fs_model.specs.declared.claim.Evidence.{Evidence}
 use Rattle.fs_model.specs.declared.claim.Evidence.TheVariants.{BadTree}
 use Rattle.fs_model.specs.declared.fault.Fault.{Fault}

@@ -1,7 +1,7 @@
 -- What a check adds to an empty journal, unit by unit in the order of a session.
 use Rattle.std.specs.Prelude.{◌≡◌, ℕ, ◌+◌, Bool, true, false, List, [], ◌∷◌, ◌++◌, Option, Some, None, if◌then◌else◌}
-use Rattle.fs_derive.specs.Session.{Place, Session, is_cut, is_refused, unit_order}
-use Rattle.fs_derive.specs.declared.plan.Plan.TheVariants.{Check}
+use Rattle.fs_state.specs.Session.{Place, Session, is_cut, is_refused, unit_order}
+use Rattle.fs_state.specs.declared.plan.Plan.TheVariants.{Check}
 use Rattle.fs_model.specs.declared.entry.Entry.{Entry}
 use Rattle.fs_state.specs.State.{State}
 use Rattle.space_check.specs.Events.{Event, entries_of}

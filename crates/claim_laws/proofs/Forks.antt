@@ -11,8 +11,8 @@ use Rattle.dinode_core.specs.declared.mapping.Fork.{Fork}
 use Rattle.dinode_core.specs.declared.mapping.ForkFault.{ForkFault}
 use Rattle.dinode_core.specs.declared.mapping.ForkFault.TheVariants as faults
 use Rattle.dinode_core.specs.declared.mapping.Mapping.{Mapping}
-use Rattle.fs_derive.specs.Claims.{blocks_at, fork_tree, fork_tree_claims, mapped_blocks, mapping_claims, tree_block_at, word_of}
-use Rattle.fs_derive.specs.Lists.{numbers, only_if}
+use Rattle.fs_state.specs.Claims.{blocks_at, fork_tree, fork_tree_claims, mapped_blocks, mapping_claims, tree_block_at, word_of}
+use Rattle.fs_state.specs.Lists.{numbers, only_if}
 use Rattle.fs_model.specs.declared.claim.Claim.{Claim}
 use Rattle.fs_model.specs.declared.claim.Claim.TheVariants.{ForkTree}
 use Rattle.geom.specs.Layout.{Layout, group_len_of, split_of}

@@ -8,10 +8,10 @@ use Rattle.std.proofs.lemmas.Grind.{flat_map-append}
 use Rattle.std.proofs.lemmas.List.{map-append}
 use Rattle.std.proofs.lemmas.List.Elements.{All-contains, Contains-append_cases, Contains-append_left, Contains-append_right}
 use Rattle.std.proofs.lemmas.List.Sorted.{Contains-permutation, IsPermutation-map, IsPermutation-sym}
-use Rattle.fs_derive.specs.Claims.{Claimed, mapped_blocks}
-use Rattle.fs_derive.specs.Contradiction.{is_data, is_written_data}
-use Rattle.fs_derive.specs.Lists.{numbers}
-use Rattle.fs_derive.specs.Own.{tuple_of}
+use Rattle.fs_state.specs.Claims.{Claimed, mapped_blocks}
+use Rattle.fs_state.specs.Contradiction.{is_data, is_written_data}
+use Rattle.fs_state.specs.Lists.{numbers}
+use Rattle.fs_state.specs.Own.{tuple_of}
 use Rattle.fs_model.specs.declared.claim.Claim.{Claim}
 use Rattle.rmap_recs.proofs.RisingLemmas.{at_place, in_either, in_front, in_rest, nothing_in, same_default}
 use Rattle.rmap_recs.specs.Rmap.{is_first, is_key_before}

@@ -9,10 +9,10 @@ use Rattle.std.proofs.lemmas.List.Elements.{All-append}
 use Rattle.std.proofs.lemmas.List.Sorted.{All-permutation, IsPermutation-append_comm, IsPermutation-append_left, IsPermutation-append_right, IsPermutation-map, IsPermutation-refl, IsPermutation-sym, IsPermutation-trans}
 use Rattle.dinode_core.specs.declared.mapping.Fork.{Fork}
 use Rattle.dinode_core.specs.declared.mapping.Fork.TheVariants as forks
-use Rattle.fs_derive.specs.Chunks.{inodes}
-use Rattle.fs_derive.specs.Claims.{Claimed, attribute, attribute_claims, claims, data_claims, fork_claims, fork_of, read_fork, tree_claims}
-use Rattle.fs_derive.specs.Contradiction.{first_overlap, is_data}
-use Rattle.fs_derive.specs.Own.{rmap_of, tuple_of}
+use Rattle.fs_state.specs.Chunks.{inodes}
+use Rattle.fs_state.specs.Claims.{Claimed, attribute, attribute_claims, claims, data_claims, fork_claims, fork_of, read_fork, tree_claims}
+use Rattle.fs_state.specs.Contradiction.{first_overlap, is_data}
+use Rattle.fs_state.specs.Own.{rmap_of, tuple_of}
 use Rattle.fs_model.specs.declared.claim.Claim.{Claim}
 use Rattle.fs_model.specs.declared.claim.Claim.TheVariants.{Heads, Log, List as FreeList, Tree, Reserve, Limbo, Chunk, Data, Attr, ForkTree, Staging}
 use Rattle.fs_model.specs.declared.claim.Evidence.{Evidence}

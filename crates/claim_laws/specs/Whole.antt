@@ -1,8 +1,8 @@
 -- What pieces that stand for the claims on a group's blocks say of the group.
 use Rattle.std.specs.Prelude.{◌≡◌, ℕ, List, Option, None}
-use Rattle.fs_derive.specs.Claims.{claims}
-use Rattle.fs_derive.specs.Contradiction.{first_overlap}
-use Rattle.fs_derive.specs.Own.{rmap_of}
+use Rattle.fs_state.specs.Claims.{claims}
+use Rattle.fs_state.specs.Contradiction.{first_overlap}
+use Rattle.fs_state.specs.Own.{rmap_of}
 use Rattle.fs_model.specs.declared.claim.Evidence.{Evidence}
 use Rattle.fs_state.specs.Kinds.{Image}
 use Rattle.fs_state.specs.Read.{state_of}

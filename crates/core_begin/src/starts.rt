@@ -13,8 +13,8 @@ use core_calls::ScrubFault;
 use core_parts::common::{entry_room, say_verdict};
 use core_parts::opens::ino_trees;
 use core_parts::{Desk, GroupKept, Parts, UnitState, Work, put_unit};
-use fs_derive::Plan;
 use fs_model::{Unit, Verdict};
+use fs_state::Plan;
 use std::alloc::Global;
 
 // Room in the journal for the verdict of the unit, and for one more.

@@ -14,8 +14,8 @@ use Rattle.core_parts.specs.Safe.{IsKept, IsUnit, IsWork}
 use Rattle.core_parts.specs.declared.desk.Desk.{Desk}
 use Rattle.core_parts.specs.declared.groups.GroupKept.{GroupKept}
 use Rattle.core_parts.specs.declared.units.UnitState.{UnitState}
-use Rattle.core_reserve.specs.Rebuilt.{IsRebuilding}
-use Rattle.core_reserve.specs.declared.rebuild.Rebuild.{Rebuild}
+use Rattle.core_units.specs.Rebuilt.{IsRebuilding}
+use Rattle.core_units.specs.declared.rebuild.Rebuild.{Rebuild}
 use Rattle.core_build.specs.Pieces.{MetBy, work_by}
 
 -- after a refusal it still is a rebuild

@@ -10,13 +10,13 @@ use Rattle.core_parts.specs.Keeps.{IsSteady}
 use Rattle.core_parts.specs.declared.desk.Desk.{Desk}
 use Rattle.core_parts.specs.declared.units.Work.{Work}
 use Rattle.core_parts.specs.declared.units.Work.TheVariants as works
-use Rattle.core_reserve.specs.Rebuilt.{IsReady, IsRebuilding}
-use Rattle.core_reserve.specs.Rebuilt.{IsSteady as IsSteadyBuild}
-use Rattle.core_reserve.specs.Staged.{IsAt}
-use Rattle.core_reserve.specs.declared.rebuild.Rebuild.{Rebuild}
-use Rattle.core_reserve.specs.declared.released.Staged.{Staged}
-use Rattle.core_reserve.specs.declared.stage.Staging.{Staging}
-use Rattle.core_reserve.specs.declared.stage.Staging.TheVariants.{First}
+use Rattle.core_units.specs.Rebuilt.{IsReady, IsRebuilding}
+use Rattle.core_units.specs.Rebuilt.{IsSteady as IsSteadyBuild}
+use Rattle.core_units.specs.Staged.{IsAt}
+use Rattle.core_units.specs.declared.rebuild.Rebuild.{Rebuild}
+use Rattle.core_units.specs.declared.released.Staged.{Staged}
+use Rattle.core_units.specs.declared.stage.Staging.{Staging}
+use Rattle.core_units.specs.declared.stage.Staging.TheVariants.{First}
 
 -- no other refusal than for memory
 abbrev pub IfMemory : {T : Type 0} → Result T ScrubFault → Type 0

@@ -4,17 +4,18 @@ ghost use Rattle.core_build.specs.Pieces.{BookStays, IfMemory};
 ghost use Rattle.core_parts.specs.Common.Asks.{Answers, IsUsable};
 ghost use Rattle.core_edit.specs.Open.{is_device};
 ghost use Rattle.core_parts.specs.Keeps.{IsAsked, failed_by};
-ghost use Rattle.unit_edits.specs.Opened.{IsOpen};
+ghost use Rattle.core_edit.specs.Opened.{IsOpen};
 
 use blk_device::Device;
 use byte_fields::Steps;
 use core_calls::ScrubFault;
-use core_edit::Stop;
+use core_edit::{
+    EditPlace, IndexesLeft, Reserved, Spare, Stop, commit, reserve_listed, reserve_spare,
+};
 use core_parts::Desk;
 use core_parts::common::stop_by;
 use std::alloc::Global;
 use std::sync::ledger::Ledger;
-use unit_edits::{EditPlace, IndexesLeft, Reserved, Spare, commit, reserve_listed, reserve_spare};
 
 // Whether the device failed. An index that is left is told by the edit itself, so a stop for it doesn't
 // come; it would be taken as a lack of memory.

@@ -5,19 +5,18 @@ ghost use Rattle.block_reap.specs.Limbo.{IsLimbo};
 ghost use Rattle.core_build.specs.Pieces.{IfMemory, MetBy, Notes};
 ghost use Rattle.core_parts.specs.Common.Asks.{Answers, IsUsable};
 ghost use Rattle.core_parts.specs.Safe.{IsKept};
-ghost use Rattle.core_reserve.specs.declared.rebuild.Rebuild.{Rebuild};
+ghost use Rattle.core_units.specs.declared.rebuild.Rebuild.{Rebuild};
 
 use blk_device::Device;
 use block_reap::{LimboRun, put};
 use core_calls::ScrubFault;
-use core_edit::Freed;
+use core_edit::{EditPlace, Freed, IndexesLeft};
 use core_parts::common::{add_entry, mark_sick};
 use core_parts::{Desk, GroupKept};
-use core_reserve::{Rebuild, make_room};
+use core_units::{Rebuild, make_room};
 use fs_model::{Cause, Entry};
 use rmap_recs::Owner;
 use sblock::Kind;
-use unit_edits::{EditPlace, IndexesLeft};
 
 /// A block that goes into the reserve, whether it is a spare one, and which indexes were left.
 #[derive(Clone, Copy)]

@@ -1,16 +1,15 @@
 // The parts of a reserving piece that ask neither the device nor the journal.
 ghost use Rattle.std.specs.Prelude.{◌≡◌, ◌<◌, true, IfOk};
 ghost use Rattle.core_build.specs.Pieces.{IfMemory, IsMet, KeepsBuild, work_by};
-ghost use Rattle.core_judge.specs.Judging.{IsJudging};
-ghost use Rattle.core_reserve.specs.Rebuilt.{IsRebuilding, IsSpareBelow, IsSteady};
+ghost use Rattle.core_units.specs.Judging.{IsJudging};
+ghost use Rattle.core_units.specs.Rebuilt.{IsRebuilding, IsSpareBelow, IsSteady};
 ghost use Rattle.geom.specs.Places.{layout};
 
 use core_calls::ScrubFault;
 use core_edit::EditHeads;
-use core_judge::Judging;
 use core_parts::common::space_trust;
 use core_parts::{GroupKept, UnitState, Work};
-use core_reserve::{Next, Rebuild, Staging, begin_rebuild, choose_next, ready, take_next};
+use core_units::{Judging, Next, Rebuild, Staging, begin_rebuild, choose_next, ready, take_next};
 use geom::Geometry;
 use group_trees::{GroupHeads, free_list};
 use std::alloc::Global;

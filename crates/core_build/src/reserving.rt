@@ -2,14 +2,14 @@ ghost use Rattle.std.specs.Prelude.{◌<◌, ◌≤◌, ◌+◌};
 ghost use Rattle.std.specs.Vec.{vec_capacity, vec_len};
 ghost use Rattle.core_build.specs.Pieces.{IfMemory, KeepsBuild, MetBy};
 ghost use Rattle.core_parts.specs.Common.Asks.{Answers, IsUsable};
-ghost use Rattle.core_judge.specs.Judging.{IsJudging};
+ghost use Rattle.core_units.specs.Judging.{IsJudging};
 ghost use Rattle.core_parts.specs.Keeps.{IsGiven, IsLeft};
 ghost use Rattle.core_parts.specs.Reasons.{AnswersWell};
 ghost use Rattle.core_parts.specs.Safe.{IsKept};
-ghost use Rattle.core_reserve.specs.Rebuilt.{IsRebuilding, IsSpareBelow, IsSteady};
-ghost use Rattle.core_reserve.specs.declared.rebuild.Rebuild.{Rebuild};
+ghost use Rattle.core_units.specs.Rebuilt.{IsRebuilding, IsSpareBelow, IsSteady};
+ghost use Rattle.core_units.specs.declared.rebuild.Rebuild.{Rebuild};
 ghost use Rattle.geom.specs.Places.{layout};
-ghost use Rattle.unit_edits.specs.Opened.{IsOpen};
+ghost use Rattle.core_edit.specs.Opened.{IsOpen};
 
 use crate::block_edits::{commit_edit, edit_listed, edit_spare};
 use crate::block_notes::{Taken, limbo_room, note_block, note_unnoted};
@@ -18,15 +18,14 @@ use crate::piece_phase::other_phase;
 use blk_device::Device;
 use byte_fields::Steps;
 use core_calls::ScrubFault;
-use core_judge::Judging;
+use core_edit::{EditPlace, Spare};
 use core_parts::common::{edit_place, entry_room, say_verdict};
 use core_parts::{Desk, GroupKept, UnitState, Work};
-use core_reserve::{Next, Rebuild};
+use core_units::{Judging, Next, Rebuild};
 use fs_model::{Reason, Verdict};
 use std::alloc::Global;
 use std::mem;
 use std::sync::ledger::Ledger;
-use unit_edits::{EditPlace, Spare};
 
 // The need is met: the lists are made ready. Without memory nothing is changed.
 fn met(alloc: Global, rebuild: &mut Rebuild) -> Result<bool, ScrubFault>

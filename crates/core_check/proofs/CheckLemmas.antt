@@ -3,9 +3,9 @@ use Rattle.std.proofs.Common.{ℕ, sym, subst}
 use Rattle.blk_device.specs.declared.device.Device.{Ghosts}
 use Rattle.core_parts.proofs.common.AskLemmas.{steady_self}
 use Rattle.core_parts.specs.Common.Asks.{IsUsable}
-use Rattle.core_judge.specs.Judging.{IsJudging}
-use Rattle.core_judge.specs.declared.compare.Place.{Place}
-use Rattle.core_judge.specs.declared.judging.Judging.{Judging}
+use Rattle.core_units.specs.Judging.{IsJudging}
+use Rattle.core_units.specs.declared.compare.Place.{Place}
+use Rattle.core_units.specs.declared.judging.Judging.{Judging}
 use Rattle.core_parts.specs.Keeps.{IsSteady}
 use Rattle.core_parts.specs.Reasons.{AnswersWell}
 use Rattle.core_parts.specs.Safe.{IsDesk, IsWork}

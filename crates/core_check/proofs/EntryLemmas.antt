@@ -6,14 +6,14 @@ use Rattle.core_calls.specs.declared.answers.ScrubFault.{ScrubFault}
 use Rattle.core_calls.specs.declared.answers.ScrubFault.TheVariants as faults
 use Rattle.core_parts.specs.Common.Entries.{HasMore, IsHalt, WantsRoom}
 use Rattle.core_edit.specs.declared.heads.EditHeads.{EditHeads}
-use Rattle.core_judge.specs.Compared.{faults_from}
-use Rattle.core_judge.specs.Judging.{StaysJudged}
-use Rattle.core_judge.specs.declared.judging.Judging.{Judging}
+use Rattle.core_units.specs.Compared.{faults_from}
+use Rattle.core_units.specs.Judging.{StaysJudged}
+use Rattle.core_units.specs.declared.judging.Judging.{Judging}
 use Rattle.core_parts.specs.declared.desk.Desk.{Desk}
 use Rattle.core_parts.specs.declared.units.UnitState.{UnitState}
 use Rattle.core_parts.specs.declared.units.Work.{Work}
 use Rattle.core_parts.specs.declared.units.Work.TheVariants as works
-use Rattle.core_trees.specs.declared.lists.Lists.{Lists}
+use Rattle.core_units.specs.declared.lists.Lists.{Lists}
 use Rattle.fs_model.specs.declared.entry.Entry.{Entry}
 use Rattle.fs_model.specs.declared.fault.Fault.{Fault}
 use Rattle.fs_model.specs.declared.unit.Unit.{Unit as ScrubUnit}

@@ -4,10 +4,10 @@ use Rattle.std.specs.Global.{Vec}
 use Rattle.std.specs.Vec.{vec_capacity, vec_len}
 use Rattle.core_calls.specs.declared.answers.Phase.{Phase}
 use Rattle.core_calls.specs.declared.answers.Phase.TheVariants as phases
-use Rattle.core_judge.specs.declared.compare.Place.{Place}
-use Rattle.core_judge.specs.declared.compare.Place.TheVariants.{First, Second, Counters, End}
-use Rattle.fs_derive.specs.declared.plan.Plan.{Plan}
-use Rattle.fs_derive.specs.declared.plan.Plan.TheVariants as plans
+use Rattle.core_units.specs.declared.compare.Place.{Place}
+use Rattle.core_units.specs.declared.compare.Place.TheVariants.{First, Second, Counters, End}
+use Rattle.fs_state.specs.declared.plan.Plan.{Plan}
+use Rattle.fs_state.specs.declared.plan.Plan.TheVariants as plans
 use Rattle.fs_model.specs.declared.entry.Entry.{Entry}
 use Rattle.core_check.specs.declared.tell.Outcome.{Outcome}
 use Rattle.core_check.specs.declared.tell.Outcome.TheVariants.{More, Good, Faulty, Rebuild}

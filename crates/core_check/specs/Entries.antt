@@ -5,9 +5,9 @@ use Rattle.core_calls.specs.declared.answers.ScrubFault.{ScrubFault}
 use Rattle.core_calls.specs.declared.answers.ScrubFault.TheVariants as faults
 use Rattle.core_parts.specs.Common.Entries.{HasMore, verdict_entry}
 use Rattle.core_edit.specs.declared.heads.EditHeads.{EditHeads}
-use Rattle.core_judge.specs.Compared.{faults_from}
-use Rattle.core_judge.specs.Judging.{StaysJudged}
-use Rattle.core_judge.specs.declared.judging.Judging.{Judging}
+use Rattle.core_units.specs.Compared.{faults_from}
+use Rattle.core_units.specs.Judging.{StaysJudged}
+use Rattle.core_units.specs.declared.judging.Judging.{Judging}
 use Rattle.core_parts.specs.declared.desk.Desk.{Desk}
 use Rattle.core_parts.specs.declared.units.UnitState.{UnitState}
 use Rattle.core_parts.specs.declared.units.Work.{Work}

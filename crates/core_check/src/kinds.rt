@@ -1,6 +1,6 @@
 ghost use Rattle.std.specs.Prelude.{◌≡◌};
-ghost use Rattle.fs_derive.specs.Faults.{kind_of_fault as kind_of_fault_of, kind_of_record as kind_of_record_of};
-ghost use Rattle.fs_derive.specs.Kinds.{kind_of_counter as kind_of_counter_of};
+ghost use Rattle.fs_state.specs.Faults.{kind_of_fault as kind_of_fault_of, kind_of_record as kind_of_record_of};
+ghost use Rattle.fs_state.specs.Records.{kind_of_counter as kind_of_counter_of};
 
 use fs_model::{AnyRec, Counter, Fault};
 use sblock::Kind;

@@ -6,7 +6,7 @@ ghost use Rattle.core_check.specs.Leaves.{IsComparedBy, Leaves};
 ghost use Rattle.core_check.specs.Told.{Tells};
 ghost use Rattle.core_parts.specs.Common.Asks.{Answers, IsUsable};
 ghost use Rattle.core_parts.specs.Common.Entries.{HasMore, verdict_entry};
-ghost use Rattle.core_judge.specs.Judging.{IsJudging};
+ghost use Rattle.core_units.specs.Judging.{IsJudging};
 ghost use Rattle.core_parts.specs.Keeps.{IsSteady};
 ghost use Rattle.geom.specs.Places.{layout};
 
@@ -14,11 +14,11 @@ use crate::kinds::kind_of_fault;
 use crate::work::{Left, Which};
 use blk_device::Device;
 use core_calls::ScrubFault;
-use core_judge::{Judging, Place};
 use core_parts::common::{add_entry, entry_room, judged_good, mark_sick};
 use core_parts::{Desk, GroupKept, Work};
-use fs_derive::Plan;
+use core_units::{Judging, Place};
 use fs_model::{Entry, Fault, Verdict};
+use fs_state::Plan;
 
 /// What a piece of a comparison leaves to be done: the next piece; or, after the last, the verdict that the
 /// unit is good or has so many faults, or its rebuild.

@@ -3,8 +3,8 @@ ghost use Rattle.std.specs.Prelude.{◌≡◌};
 
 use core_calls::ScrubFault;
 use core_parts::{UnitState, Work};
-use fs_derive::Plan;
 use fs_model::Unit;
+use fs_state::Plan;
 use std::mem;
 
 /// Which unit of which group it is, and what it is to do.

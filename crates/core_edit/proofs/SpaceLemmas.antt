@@ -28,7 +28,7 @@ use Rattle.fs_model.specs.declared.fault.Cause.{Cause}
 use Rattle.fs_model.specs.declared.record.AnyRec.{AnyRec}
 use Rattle.fs_change.specs.Changes.{by_count}
 use Rattle.fs_change.specs.Records.{before_run, behind_run, by_start, end_of, give_span, holder_of, joined_run, last_at, only_where, rest_of, span, swap_spans, take_span}
-use Rattle.fs_derive.specs.Lists.{only_if}
+use Rattle.fs_state.specs.Lists.{only_if}
 use Rattle.ag_headers.specs.Ring.{entries}
 use Rattle.tree_defs.specs.Lists.{times}
 use Rattle.fs_state.specs.Edits.{Now, Among, EditLaw, Edits, held}

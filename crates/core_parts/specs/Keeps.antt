@@ -3,7 +3,7 @@ use Rattle.std.specs.Prelude.{◌≡◌, ◌++◌, ◌≤◌, Bool, true, false,
 use Rattle.blk_cache.specs.Cache.{AgreesTold}
 use Rattle.blk_device.specs.Causes.{Rose}
 use Rattle.blk_device.specs.declared.device.Device.{Ghosts}
-use Rattle.core_store.specs.Ready.{HasRoom}
+use Rattle.core_edit.specs.Ready.{HasRoom}
 use Rattle.fs_model.specs.declared.entry.Entry.{Entry}
 use Rattle.geom.specs.Places.{layout}
 use Rattle.inode_scan.specs.Cursor.{AllInoTrees}

@@ -5,17 +5,17 @@ use Rattle.blk_cache.specs.Cache.{AgreesTold}
 use Rattle.blk_device.specs.Causes.{Rose}
 use Rattle.blk_device.specs.declared.device.Device.{Ghosts}
 use Rattle.block_reap.specs.Limbo.{IsLimbo}
-use Rattle.core_judge.specs.Judging.{IsJudging}
-use Rattle.core_judge.specs.Orderly.{IsOrderly}
+use Rattle.core_units.specs.Judging.{IsJudging}
+use Rattle.core_units.specs.Orderly.{IsOrderly}
 use Rattle.core_parts.specs.declared.desk.Desk.{Desk}
 use Rattle.core_parts.specs.declared.groups.GroupKept.{GroupKept}
 use Rattle.core_parts.specs.declared.parts.Parts.{Parts}
 use Rattle.core_parts.specs.declared.units.UnitState.{UnitState}
 use Rattle.core_parts.specs.declared.units.Work.{Work}
 use Rattle.core_parts.specs.declared.units.Work.TheVariants as works
-use Rattle.core_reserve.specs.Rebuilt.{IsRebuilding, IsReserved}
-use Rattle.core_reserve.specs.Staged.{IsAt}
-use Rattle.core_store.specs.Ready.{HasRoom}
+use Rattle.core_units.specs.Rebuilt.{IsRebuilding, IsReserved}
+use Rattle.core_units.specs.Staged.{IsAt}
+use Rattle.core_edit.specs.Ready.{HasRoom}
 use Rattle.geom.specs.Layout.{Layout}
 use Rattle.geom.specs.Places.{layout}
 use Rattle.inode_scan.specs.Cursor.{AllInoTrees}

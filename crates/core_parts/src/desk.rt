@@ -1,6 +1,6 @@
 use crate::book::Book;
 use blk_device::Device;
-use core_store::Store;
+use core_edit::Store;
 use intent_drain::Drain;
 use tree_blocks::TreeAt;
 

@@ -1,6 +1,6 @@
 use block_reap::LimboRun;
 use core_edit::EditHeads;
-use core_trees::BadTrees;
+use core_units::BadTrees;
 use fs_model::Trust;
 
 /// What is known of each of the six btrees of a group.

@@ -3,11 +3,10 @@ ghost use Rattle.std.specs.List.{slice_get};
 ghost use Rattle.core_parts.specs.Phases.{phase_in};
 
 use core_calls::Phase;
-use core_judge::{Gathered, Judging};
-use core_reserve::{Rebuild, Staged, Staging};
 use core_scan::Scan;
-use fs_derive::Plan;
+use core_units::{Gathered, Judging, Rebuild, Staged, Staging};
 use fs_model::Unit;
+use fs_state::Plan;
 use rmap_recs::RmapRec;
 use std::mem;
 

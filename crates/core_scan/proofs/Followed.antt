@@ -22,8 +22,8 @@ use Rattle.fs_state.specs.Apart.{in_chunk, is_inode}
 use Rattle.fs_state.specs.Frame.{SameFork}
 use Rattle.fs_state.specs.State.{State, is_readable}
 use Rattle.fs_state.specs.declared.intent.Intent.{Intent}
-use Rattle.fs_derive.specs.Derive.{is_free}
-use Rattle.fs_derive.specs.Lists.{numbers}
+use Rattle.fs_state.specs.Derive.{is_free}
+use Rattle.fs_state.specs.Lists.{numbers}
 use Rattle.fs_change.proofs.Beside as beside
 use Rattle.fs_change.proofs.Inodes as inodes
 use Rattle.fs_change.proofs.Sets.{has_both, has_passing, has_set}

@@ -5,8 +5,8 @@ use Rattle.rmap_recs.specs.declared.tuples.Tuple.{Tuple}
 use Rattle.run_edits.specs.EditLaws.{AreUntied}
 use Rattle.shadow_rmap.specs.Kept.{KeepsTuples, ShadowState}
 use Rattle.shadow_rmap.specs.ToldLaws.{runs_alike, untied_alike}
-use Rattle.fs_derive.specs.Claims.{Claimed}
-use Rattle.fs_derive.specs.Own.{tuple_of}
+use Rattle.fs_state.specs.Claims.{Claimed}
+use Rattle.fs_state.specs.Own.{tuple_of}
 use Rattle.law_writers.proofs.Change.Members.{hasc, hasc_both}
 use Rattle.fs_change.proofs.Sets.{has_both, has_of, of_has}
 use Rattle.core_scan.specs.Gains.{Gains, Lacks}

@@ -20,8 +20,8 @@ use Rattle.run_edits.specs.EditLaws.{AreUntied, IsOf}
 use Rattle.run_edits.specs.Edits.{HasRoom}
 use Rattle.shadow_rmap.specs.Kept.{KeepsTuples, ShadowState}
 use Rattle.shadow_rmap.specs.Union.{AreLeft, AreUnion}
-use Rattle.fs_derive.specs.Claims.{blocks_at, fork_tree, mapped_blocks, tree_block_at, word_of}
-use Rattle.fs_derive.specs.Lists.{numbers, only_if}
+use Rattle.fs_state.specs.Claims.{blocks_at, fork_tree, mapped_blocks, tree_block_at, word_of}
+use Rattle.fs_state.specs.Lists.{numbers, only_if}
 use Rattle.law_writers.proofs.Change.Members.{hasc}
 use Rattle.fs_change.proofs.Sets.{has_of, of_has, same_is, same_self}
 use Rattle.core_scan.specs.Gains.{Gains, claim_of, flag_of}

@@ -13,9 +13,9 @@ use Rattle.inode_scan.specs.NextInode.{IsAllocated}
 use Rattle.rmap_recs.proofs.RisingLemmas.{filtered, in_front, in_rest, kept_by_filter, kept_by_map, mapped}
 use Rattle.fs_state.specs.Apart.{has_unit, in_chunk, ino_lists, is_chunk, is_inode, is_listed, rmap_lists, unit_verifies}
 use Rattle.fs_state.specs.State.{State}
-use Rattle.fs_derive.specs.Chunks.{chunks, inode_in}
-use Rattle.fs_derive.specs.Derive.{is_free}
-use Rattle.fs_derive.specs.Lists.{numbers}
+use Rattle.fs_state.specs.Chunks.{chunks, inode_in}
+use Rattle.fs_state.specs.Derive.{is_free}
+use Rattle.fs_state.specs.Lists.{numbers}
 use Rattle.law_writers.proofs.Change.Members.{split_parts}
 use Rattle.law_writers.proofs.Inode.Cores.{chunk_inode, free_in, ino_is, own_chunks, unit_number}
 use Rattle.core_scan.specs.Equation.{AreMasks, MasksTell, recorded}

@@ -15,10 +15,10 @@ use Rattle.rmap_recs.specs.declared.tuples.Tuple.{Tuple}
 use Rattle.fs_state.specs.Apart.{is_inode}
 use Rattle.fs_state.specs.State.{State, ForkList}
 use Rattle.fs_state.specs.declared.intent.Intent.{Intent}
-use Rattle.fs_derive.specs.Claims.{Claimed, fork_of, mapping_claims, fork_tree_claims, attribute}
-use Rattle.fs_derive.specs.Derive.{is_free}
-use Rattle.fs_derive.specs.Lists.{numbers}
-use Rattle.fs_derive.specs.Own.{tuple_of}
+use Rattle.fs_state.specs.Claims.{Claimed, fork_of, mapping_claims, fork_tree_claims, attribute}
+use Rattle.fs_state.specs.Derive.{is_free}
+use Rattle.fs_state.specs.Lists.{numbers}
+use Rattle.fs_state.specs.Own.{tuple_of}
 use Rattle.law_writers.proofs.Change.Members.{hasc, hasc_both}
 use Rattle.fs_change.proofs.Sets.{has_set}
 use Rattle.fs_change.proofs.Settled.{in_settled}

@@ -13,8 +13,8 @@ use Rattle.fs_state.specs.Apart.{in_chunk, ino_lists, is_chunk, is_inode, is_lis
 use Rattle.fs_state.specs.Inodes.{bytes_at, core_in, fork_by, no_fork, whole_or}
 use Rattle.fs_state.specs.Read.{core_of_ino, core_or, fork_in_chunk, fork_of_ino, inode_bytes, reserved, state_of, without_forks}
 use Rattle.fs_state.specs.State.{Broken, CoreState, Kept, State, Whole}
-use Rattle.fs_derive.specs.Claims.{read_fork}
-use Rattle.fs_derive.specs.Derive.{is_free}
+use Rattle.fs_state.specs.Claims.{read_fork}
+use Rattle.fs_state.specs.Derive.{is_free}
 use Rattle.geom.specs.Apart.{HasFitting}
 use Rattle.law_writers.proofs.Inode.Cores.{chunk_verifies}
 use Rattle.core_scan.proofs.Masks.{place_of}

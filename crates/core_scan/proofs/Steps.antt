@@ -25,9 +25,9 @@ use Rattle.shadow_rmap.specs.Kept.{KeepsTuples, ShadowState}
 use Rattle.fs_state.specs.Frame.{SameFork}
 use Rattle.fs_state.specs.Apart.{is_inode}
 use Rattle.fs_state.specs.State.{State}
-use Rattle.fs_derive.specs.Claims.{Claimed, attribute, fork_of, fork_tree_claims, mapping_claims, read_fork, tree_block_at}
-use Rattle.fs_derive.specs.Derive.{is_free}
-use Rattle.fs_derive.specs.Own.{tuple_of}
+use Rattle.fs_state.specs.Claims.{Claimed, attribute, fork_of, fork_tree_claims, mapping_claims, read_fork, tree_block_at}
+use Rattle.fs_state.specs.Derive.{is_free}
+use Rattle.fs_state.specs.Own.{tuple_of}
 use Rattle.law_writers.proofs.Change.Members.{hasc}
 use Rattle.fs_change.proofs.Sets.{has_both, has_passing, has_set}
 use Rattle.fs_change.proofs.Shadow.{hold_begins}

@@ -11,7 +11,7 @@ use Rattle.shadow_rmap.specs.Union.{AreLeft, AreUnion}
 use Rattle.fs_state.specs.declared.intent.Intent.{Intent}
 use Rattle.fs_state.specs.declared.intent.IntentKind.{IntentKind}
 use Rattle.fs_state.specs.declared.intent.IntentKind.TheVariants.{RmapAdd, RmapRemove, RmapChange}
-use Rattle.fs_derive.specs.Claims.{unwritten}
+use Rattle.fs_state.specs.Claims.{unwritten}
 use Rattle.fs_change.proofs.Sets.{has_passing}
 use Rattle.fs_change.specs.Chains.{given_by, gives, is_change, run_of, taken_by, takes, tuples_in, tuples_of, word_taken}
 use Rattle.core_scan.proofs.Gained.{keeps_alike, untied_part}

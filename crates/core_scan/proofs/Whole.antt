@@ -10,7 +10,7 @@ use Rattle.rmap_recs.specs.Runs.{has, is_same}
 use Rattle.rmap_recs.specs.declared.tuples.Tuple.{Tuple}
 use Rattle.fs_state.specs.Apart.{is_inode}
 use Rattle.fs_state.specs.declared.intent.Intent.{Intent}
-use Rattle.fs_derive.specs.Derive.{is_free}
+use Rattle.fs_state.specs.Derive.{is_free}
 use Rattle.fs_change.specs.Chains.{given_by, gives, is_quiet, pending, run_of, settled_forks, taken_by, takes, tuples_in, tuples_of, word_taken}
 use Rattle.fs_change.specs.Laws.{fork_owners}
 use Rattle.fs_change.specs.Scan.{visited}

@@ -4,7 +4,7 @@ use Rattle.std.proofs.lemmas.Bool.{true≢false, and_parts, cases_Bool}
 use Rattle.geom.specs.Layout.{device_block_of}
 use Rattle.fs_state.specs.Apart.{Apart, ChunkAt, HeadsOf, Part, is_chunk, is_inode}
 use Rattle.fs_state.specs.State.{State}
-use Rattle.fs_derive.specs.Derive.{is_free}
+use Rattle.fs_state.specs.Derive.{is_free}
 use Rattle.law_writers.proofs.Inode.Cores.{unit_number}
 use Rattle.core_scan.proofs.Masks.{place_of}
 use Rattle.core_scan.specs.Equation.{NoInodeZero}

@@ -9,7 +9,7 @@ ghost use Rattle.run_edits.specs.EditLaws.{AreUntied};
 ghost use Rattle.run_edits.specs.Edits.{HasRoom};
 ghost use Rattle.shadow_rmap.specs.Kept.{KeepsTuples};
 ghost use Rattle.shadow_rmap.specs.Union.{AreUnion};
-ghost use Rattle.fs_derive.specs.Claims.{blocks_at, fork_tree, mapping_claims, tree_block_at, unwritten, word_of as word_is};
+ghost use Rattle.fs_state.specs.Claims.{blocks_at, fork_tree, mapping_claims, tree_block_at, unwritten, word_of as word_is};
 ghost use Rattle.core_scan.specs.Gains.{Gains, block_claims, claim_of, claims_of, flag_of as flag_is};
 
 use dinode_core::{Fork, Mapping};

@@ -11,8 +11,8 @@ use Rattle.blk_device.specs.declared.device.Region.TheVariants.{Image}
 use Rattle.blk_device.specs.declared.device.Device.{Ghosts}
 use Rattle.byte_fields.specs.Steps.{StepCount}
 use Rattle.block_reap.specs.Limbo.{has}
-use Rattle.core_reserve.specs.Released.{block_runs, owner_in}
-use Rattle.core_reserve.specs.declared.rebuild.Rebuild.{Rebuild}
+use Rattle.core_units.specs.Released.{block_runs, owner_in}
+use Rattle.core_units.specs.declared.rebuild.Rebuild.{Rebuild}
 use Rattle.core_switch.specs.Reserves.{has_reserve}
 use Rattle.core_calls.specs.declared.answers.ScrubFault.{ScrubFault}
 use Rattle.core_parts.proofs.common.AskLemmas.{asked_steady, asked_usable, steady_on}
@@ -24,12 +24,12 @@ use Rattle.core_parts.specs.Keeps.{IsAsked, IsSteady, failed_by}
 use Rattle.core_parts.specs.Reasons.{HasReason}
 use Rattle.core_parts.specs.Safe.{IsDesk}
 use Rattle.core_parts.specs.declared.desk.Desk.{Desk}
-use Rattle.core_store.specs.Ready.{IsReady, KeepsStore}
-use Rattle.core_store.specs.declared.store.Store.{Store}
+use Rattle.core_edit.specs.Ready.{IsReady, KeepsStore}
+use Rattle.core_edit.specs.declared.store.Store.{Store}
 use Rattle.intent_drain.specs.Drains.{gates_of}
 use Rattle.intent_drain.specs.declared.drain.Drain.{Drain}
 use Rattle.intent_drain.specs.declared.gates.Gate.{Gate}
-use Rattle.unit_edits.specs.Opened.{EditsStore}
+use Rattle.core_edit.specs.Opened.{EditsStore}
 
 pub or_false : (b : Bool) → b ≡ (b || false)
 or_false true = refl

@@ -2,7 +2,7 @@
 use Rattle.std.specs.Prelude.{ℕ, Bool, ◌||◌}
 use Rattle.block_reap.specs.Limbo.{has}
 use Rattle.core_edit.specs.declared.open.Freed.{Freed}
-use Rattle.core_reserve.specs.Released.{block_runs}
+use Rattle.core_units.specs.Released.{block_runs}
 use Rattle.rmap_recs.specs.Owners.{number_of}
 use Rattle.rmap_recs.specs.declared.owner.Owner.TheVariants.{Ag, Inobt, Refc}
 

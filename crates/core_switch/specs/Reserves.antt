@@ -3,8 +3,8 @@ use Rattle.std.specs.Prelude.{ℕ, Bool, false, List, []}
 use Rattle.block_reap.specs.Limbo.{has}
 use Rattle.core_parts.specs.declared.units.Work.{Work}
 use Rattle.core_parts.specs.declared.units.Work.TheVariants as works
-use Rattle.core_reserve.specs.Released.{block_runs, owner_in}
-use Rattle.core_reserve.specs.declared.rebuild.Rebuild.{Rebuild}
+use Rattle.core_units.specs.Released.{block_runs, owner_in}
+use Rattle.core_units.specs.declared.rebuild.Rebuild.{Rebuild}
 
 -- the block is in the reserve, and the owner is the unit's
 abbrev pub has_reserve : Rebuild → ℕ → ℕ → Bool

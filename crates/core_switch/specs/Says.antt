@@ -17,7 +17,7 @@ use Rattle.fs_model.specs.declared.fault.Cause.{Cause}
 use Rattle.fs_model.specs.declared.unit.Trust.TheVariants.{Sick}
 use Rattle.fs_model.specs.declared.unit.Unit.{Unit as ScrubUnit}
 use Rattle.sblock.specs.declared.kind.Kind.TheVariants.{Rmap}
-use Rattle.unit_edits.specs.declared.place.IndexesLeft.{IndexesLeft}
+use Rattle.core_edit.specs.declared.place.IndexesLeft.{IndexesLeft}
 
 -- these entries came, or it was refused and none came
 abbrev pub SaysBy : {D T : Type 0} → List Entry → (old new : Desk D) → Result T ScrubFault → Type 0

@@ -7,7 +7,7 @@ use Rattle.core_parts.specs.declared.groups.GroupKept.{GroupKept}
 use Rattle.core_parts.specs.declared.units.UnitState.{UnitState}
 use Rattle.core_parts.specs.declared.units.Work.{Work}
 use Rattle.core_parts.specs.declared.units.Work.TheVariants as works
-use Rattle.core_reserve.specs.declared.released.Staged.{Staged}
+use Rattle.core_units.specs.declared.released.Staged.{Staged}
 use Rattle.fs_model.specs.declared.entry.Entry.{Entry}
 use Rattle.fs_model.specs.declared.entry.Entry.TheVariants as entries
 use Rattle.fs_model.specs.declared.unit.Trust.TheVariants as trusts

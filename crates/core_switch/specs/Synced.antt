@@ -2,8 +2,8 @@
 use Rattle.std.specs.Prelude.{ℕ, nat_lt, Bool, true, false}
 use Rattle.core_parts.specs.declared.units.Work.{Work}
 use Rattle.core_parts.specs.declared.units.Work.TheVariants as works
-use Rattle.core_reserve.specs.declared.stage.Staging.{Staging}
-use Rattle.core_reserve.specs.declared.stage.Staging.TheVariants as stagings
+use Rattle.core_units.specs.declared.stage.Staging.{Staging}
+use Rattle.core_units.specs.declared.stage.Staging.TheVariants as stagings
 
 -- new blocks were written
 abbrev pub has_staged : Staging → Bool

@@ -6,18 +6,17 @@ ghost use Rattle.blk_device.specs.declared.device.Region.TheVariants.{Image};
 ghost use Rattle.core_parts.specs.Common.Asks.{Answers, IsUsable};
 ghost use Rattle.core_edit.specs.Open.{is_device};
 ghost use Rattle.core_parts.specs.Keeps.{IsAsked, failed_by};
-ghost use Rattle.unit_edits.specs.Opened.{IsOpen};
+ghost use Rattle.core_edit.specs.Opened.{IsOpen};
 
 use blk_device::{Device, DeviceFailed, Region};
 use block_reap::LimboRun;
 use byte_fields::Steps;
 use core_calls::ScrubFault;
-use core_edit::Stop;
+use core_edit::{EditPlace, Reap, Stop, commit, open_edit, reap_run};
 use core_parts::Desk;
 use core_parts::common::stop_by;
 use std::alloc::Global;
 use std::sync::ledger::Ledger;
-use unit_edits::{EditPlace, Reap, commit, open_edit, reap_run};
 
 // Whether the device stopped a call.
 fn is_failed(stop: &Stop) -> bool

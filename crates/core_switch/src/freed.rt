@@ -1,7 +1,7 @@
 // Blocks that the edits of an event freed, and for which the free list had no room.
 ghost use Rattle.std.specs.Prelude.{◌≡◌, ◌||◌, ◌+◌, ℕ, true};
 ghost use Rattle.block_reap.specs.Limbo.{IsLimbo, has};
-ghost use Rattle.core_reserve.specs.Released.{block_runs};
+ghost use Rattle.core_units.specs.Released.{block_runs};
 ghost use Rattle.core_switch.specs.Freed.{has_freed};
 
 use block_reap::{LimboRun, put};

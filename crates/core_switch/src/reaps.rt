@@ -10,7 +10,7 @@ ghost use Rattle.core_parts.specs.Phases.{phase_in};
 ghost use Rattle.core_parts.specs.Reasons.{AnswersWell};
 ghost use Rattle.core_parts.specs.Safe.{IsKept};
 ghost use Rattle.core_switch.specs.Says.{SaysReaped, SaysReaping, SaysRun};
-ghost use Rattle.unit_edits.specs.Opened.{IsOpen};
+ghost use Rattle.core_edit.specs.Opened.{IsOpen};
 
 use crate::calls::{commit_at, reap_at};
 use crate::freed::room_for_freed;
@@ -19,13 +19,13 @@ use blk_device::Device;
 use block_reap::{LimboRun, next};
 use byte_fields::Steps;
 use core_calls::{Phase, ScrubFault};
+use core_edit::{IndexesLeft, Reap};
 use core_parts::common::{edit_place, entry_room, is_good};
 use core_parts::{Desk, GroupKept, UnitState, phase_of};
 use fs_model::Cause;
 use sblock::Kind;
 use std::alloc::Global;
 use std::sync::ledger::Ledger;
-use unit_edits::{IndexesLeft, Reap};
 
 // Writes the reaped run, and keeps the group so; the answer is whether limbo is empty.
 fn commit_reap<D: Device, L: Ledger>(

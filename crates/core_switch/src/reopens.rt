@@ -11,7 +11,7 @@ ghost use Rattle.core_parts.specs.Common.Entries.{HasMore};
 ghost use Rattle.core_parts.specs.Keeps.{IsGiven, IsSteady};
 ghost use Rattle.core_parts.specs.Reasons.{AnswersWell};
 ghost use Rattle.core_parts.specs.Safe.{IsDesk, IsKept, IsUnit, IsWork};
-ghost use Rattle.core_reserve.specs.Rebuilt.{IsSteady as IsSteadyRebuild};
+ghost use Rattle.core_units.specs.Rebuilt.{IsSteady as IsSteadyRebuild};
 ghost use Rattle.fs_model.specs.declared.entry.Entry.TheVariants as entries;
 ghost use Rattle.geom.specs.Layout.{Layout};
 ghost use Rattle.geom.specs.Places.{layout};
@@ -23,7 +23,7 @@ use blk_device::Device;
 use core_calls::ScrubFault;
 use core_parts::common::add_entry;
 use core_parts::{Desk, GroupKept, UnitState, Work};
-use core_reserve::{Rebuild, Staging, release};
+use core_units::{Rebuild, Staging, release};
 use fs_model::{Entry, Unit};
 
 // Whether new blocks were written.

@@ -18,14 +18,12 @@ ghost use Rattle.fs_model.specs.declared.verdict.Verdict.TheVariants as verdicts
 use crate::freed::put_freed;
 use blk_device::Device;
 use block_reap::{LimboRun, take_off};
-use core_edit::Freed;
+use core_edit::{Freed, IndexesLeft};
 use core_parts::common::{add_entry, judged_good, mark_sick};
 use core_parts::{Desk, GroupKept};
-use core_reserve::Staged;
-use core_trees::BadTrees;
+use core_units::{BadTrees, Staged};
 use fs_model::{Cause, Entry, Extent, Unit, Verdict};
 use sblock::Kind;
-use unit_edits::IndexesLeft;
 
 // The unit's btrees can be read from now on.
 fn forget_bad(bad: &mut BadTrees, unit: Unit) {

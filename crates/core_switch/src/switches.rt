@@ -7,7 +7,7 @@ ghost use Rattle.core_parts.specs.Phases.{phase_in};
 ghost use Rattle.core_parts.specs.Reasons.{AnswersWell};
 ghost use Rattle.core_parts.specs.Safe.{IsKept};
 ghost use Rattle.core_parts.specs.declared.units.Work.TheVariants as works;
-ghost use Rattle.core_reserve.specs.Rebuilt.{IsRebuilding};
+ghost use Rattle.core_units.specs.Rebuilt.{IsRebuilding};
 ghost use Rattle.core_calls.specs.declared.answers.Phase.TheVariants as phases;
 ghost use Rattle.core_calls.specs.declared.answers.ScrubFault.TheVariants as faults;
 ghost use Rattle.core_switch.specs.Switched.{HasSwitched, IsRebuilt, SaysSwitched};
@@ -18,14 +18,13 @@ use crate::settle::settle_switch;
 use blk_device::Device;
 use byte_fields::Steps;
 use core_calls::ScrubFault;
-use core_edit::EditHeads;
+use core_edit::{EditHeads, EditPlace};
 use core_parts::common::{edit_place, entry_room};
 use core_parts::{Desk, GroupKept, UnitState, Work, phase_of};
-use core_reserve::{Rebuild, Staged, switched_heads};
+use core_units::{Rebuild, Staged, switched_heads};
 use root_switch::{Heads, Switch};
 use std::mem;
 use std::sync::ledger::Ledger;
-use unit_edits::EditPlace;
 
 // The blocks of three btrees beside their roots, where these have a number.
 fn beside_three(bno: u32, cnt: u32, rmap: u32) -> Option<u32>

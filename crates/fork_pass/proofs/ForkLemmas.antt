@@ -32,8 +32,8 @@ use Rattle.inode_pass.specs.Stops.{is_failed}
 use Rattle.inode_pass.specs.declared.stop.PassStop.{PassStop}
 use Rattle.fork_read.specs.Whole.{FirstFaultTells, Follow, HasFault, IsWhole, all_blocks, all_mappings}
 use Rattle.fork_read.specs.declared.fault.ForkPiece.{ForkPiece}
-use Rattle.fs_derive.specs.Claims.{read_fork}
-use Rattle.fs_derive.specs.Contradiction.{bad_fork_of}
+use Rattle.fs_state.specs.Claims.{read_fork}
+use Rattle.fs_state.specs.Contradiction.{bad_fork_of}
 use Rattle.fs_model.specs.declared.claim.Evidence.{Evidence}
 use Rattle.fs_model.specs.declared.claim.Evidence.TheVariants.{BadFork}
 use Rattle.fs_state.specs.Inodes.{no_fork}

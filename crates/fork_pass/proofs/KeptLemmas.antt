@@ -1,6 +1,6 @@
 -- What is kept of the inodes of groups, one group after the other.
 use Rattle.std.proofs.Common.{◌≡◌, ℕ, zero, suc, ◌<◌, List, [], ◌∷◌, length, get_or, set, Option, refl, ap, sym, subst, ◌∙◌, arith}
-use Rattle.fs_derive.specs.Chunks.{chunks}
+use Rattle.fs_state.specs.Chunks.{chunks}
 use Rattle.fs_model.specs.declared.claim.Evidence.{Evidence}
 use Rattle.fs_state.specs.Kinds.{Image}
 use Rattle.geom.specs.Layout.{Layout}

@@ -17,9 +17,9 @@ use Rattle.dinode_core.specs.declared.mapping.Fork.TheVariants as forks
 use Rattle.dinode_core.specs.declared.mapping.ForkFault.{ForkFault}
 use Rattle.dinode_core.specs.declared.mapping.Mapping.{Mapping}
 use Rattle.fork_read.proofs.WholeLemmas.{else_parts}
-use Rattle.fs_derive.specs.Chunks.{chunks}
-use Rattle.fs_derive.specs.Contradiction.{bad_fork, bad_fork_of}
-use Rattle.fs_derive.specs.Lists.{first_of_all, numbers}
+use Rattle.fs_state.specs.Chunks.{chunks}
+use Rattle.fs_state.specs.Contradiction.{bad_fork, bad_fork_of}
+use Rattle.fs_state.specs.Lists.{first_of_all, numbers}
 use Rattle.fs_model.specs.declared.claim.Evidence.{Evidence}
 use Rattle.fs_state.specs.Apart.{is_chunk, is_listed, unit_verifies}
 use Rattle.fs_state.specs.Inodes.{no_fork, slot_in}

@@ -7,10 +7,10 @@ use Rattle.std.proofs.lemmas.Grind.{flat_map-append}
 use Rattle.std.proofs.lemmas.List.{append-nil}
 use Rattle.dinode_core.specs.declared.mapping.Fork.{Fork}
 use Rattle.dinode_core.specs.declared.mapping.ForkFault.{ForkFault}
-use Rattle.fs_derive.specs.Chunks.{inode_in, inodes, inodes_in}
-use Rattle.fs_derive.specs.Claims.{read_fork}
-use Rattle.fs_derive.specs.Contradiction.{bad_fork, first_bad_fork}
-use Rattle.fs_derive.specs.Lists.{first_of_all, numbers}
+use Rattle.fs_state.specs.Chunks.{inode_in, inodes, inodes_in}
+use Rattle.fs_state.specs.Claims.{read_fork}
+use Rattle.fs_state.specs.Contradiction.{bad_fork, first_bad_fork}
+use Rattle.fs_state.specs.Lists.{first_of_all, numbers}
 use Rattle.fs_model.specs.declared.claim.Evidence.{Evidence}
 use Rattle.fs_state.specs.Apart.{is_chunk}
 use Rattle.fs_state.specs.Kinds.{Image}

@@ -5,7 +5,7 @@ use Rattle.std.proofs.lemmas.Bool.{and_parts, leb-true}
 use Rattle.dinode_core.specs.Inline.{ends_in_group, in_range, is_attr}
 use Rattle.dinode_core.specs.declared.mapping.Fork.{Fork}
 use Rattle.dinode_core.specs.declared.mapping.Mapping.{Mapping}
-use Rattle.fs_derive.specs.Lists.{only_if}
+use Rattle.fs_state.specs.Lists.{only_if}
 use Rattle.geom.specs.Layout.{Layout, split_of}
 use Rattle.unit_plan.specs.declared.claims.ClaimSet.{ClaimSet}
 use Rattle.unit_plan.specs.declared.piece.Piece.{Piece}

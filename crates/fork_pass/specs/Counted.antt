@@ -9,7 +9,7 @@ use Rattle.dinode_core.specs.declared.mapping.Fork.{Fork}
 use Rattle.dinode_core.specs.declared.mapping.Fork.TheVariants as forks
 use Rattle.dinode_core.specs.declared.mapping.ForkFault.{ForkFault}
 use Rattle.fork_read.specs.First.{most_met}
-use Rattle.fs_derive.specs.Lists.{numbers}
+use Rattle.fs_state.specs.Lists.{numbers}
 use Rattle.fs_state.specs.Inodes.{slot_in}
 use Rattle.geom.specs.Layout.{Layout, device_block_of}
 use Rattle.inode_pass.specs.declared.note.ForkNote.{ForkNote}

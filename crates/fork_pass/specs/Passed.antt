@@ -1,8 +1,8 @@
 -- What a pass over the forks of inodes has found, by the state that the image stands for.
 use Rattle.std.specs.Prelude.{◌≡◌, ⊤, ℕ, zero, suc, ◌+◌, ◌*◌, ◌/◌, ◌<◌, true, All, List, [], ◌∷◌, length, map, flat_map, Option, Some, None}
-use Rattle.fs_derive.specs.Chunks.{chunks}
-use Rattle.fs_derive.specs.Contradiction.{bad_fork, first_bad_fork}
-use Rattle.fs_derive.specs.Lists.{first_of_all, numbers}
+use Rattle.fs_state.specs.Chunks.{chunks}
+use Rattle.fs_state.specs.Contradiction.{bad_fork, first_bad_fork}
+use Rattle.fs_state.specs.Lists.{first_of_all, numbers}
 use Rattle.fs_model.specs.declared.claim.Evidence.{Evidence}
 use Rattle.fs_state.specs.Apart.{is_chunk}
 use Rattle.fs_state.specs.Kinds.{Image}

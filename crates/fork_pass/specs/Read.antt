@@ -19,8 +19,8 @@ use Rattle.fork_read.specs.declared.fault.ReadFault.{ReadFault}
 use Rattle.fork_read.specs.declared.fault.ReadFault.TheVariants.{Fork as IsFork, Core as IsCoreFault, Failed as ReadFailed, Memory as NoMemory}
 use Rattle.inode_pass.specs.declared.stop.PassStop.{PassStop}
 use Rattle.inode_pass.specs.declared.stop.PassStop.TheVariants.{Failed, Memory}
-use Rattle.fs_derive.specs.Claims.{read_fork}
-use Rattle.fs_derive.specs.Contradiction.{bad_fork_of}
+use Rattle.fs_state.specs.Claims.{read_fork}
+use Rattle.fs_state.specs.Contradiction.{bad_fork_of}
 use Rattle.fs_model.specs.declared.claim.Evidence.{Evidence}
 use Rattle.fs_state.specs.Inodes.{no_fork}
 use Rattle.fs_state.specs.State.{ForkList}

@@ -7,7 +7,7 @@ use Rattle.dinode_core.specs.Frame.{fork_in}
 use Rattle.dinode_core.specs.declared.inode.Core3.{Core3}
 use Rattle.dinode_core.specs.declared.mapping.Fork.{Fork}
 use Rattle.dinode_core.specs.declared.mapping.ForkFault.{ForkFault}
-use Rattle.fs_derive.specs.Chunks.{chunks}
+use Rattle.fs_state.specs.Chunks.{chunks}
 use Rattle.fs_model.specs.declared.claim.Evidence.{Evidence}
 use Rattle.fs_state.specs.Apart.{is_chunk}
 use Rattle.geom.specs.Layout.{Layout}

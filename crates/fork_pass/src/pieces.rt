@@ -2,7 +2,7 @@ ghost use Rattle.std.specs.Prelude.{◌≡◌, ◌+◌, ◌≤◌, ◌^◌, All,
 ghost use Rattle.dinode_core.specs.Inline.{in_range};
 ghost use Rattle.fork_pass.specs.Pieces.{block_pieces, block_piece, claim_of as claim_is, flag_of as flag_is, mapping_piece, mapping_pieces, piece_where};
 ghost use Rattle.fork_pass.specs.Sets.{Adds};
-ghost use Rattle.fs_derive.specs.Claims.{word_of as word_is, unwritten};
+ghost use Rattle.fs_state.specs.Claims.{word_of as word_is, unwritten};
 ghost use Rattle.geom.specs.Layout.{split_of};
 ghost use Rattle.geom.specs.Places.{layout};
 

@@ -1,5 +1,5 @@
 ghost use Rattle.std.specs.Prelude.{◌≡◌, ◌==◌, ◌<◌, IfErr, IfOk, OnOk, length};
-ghost use Rattle.fs_derive.specs.Lists.{only_if};
+ghost use Rattle.fs_state.specs.Lists.{only_if};
 ghost use Rattle.fork_pass.specs.Sets.{Adds, AreFresh};
 
 use inode_pass::PassStop;

@@ -9,8 +9,8 @@ use Rattle.geom.specs.Layout.{group_len_of}
 use Rattle.sblock.specs.declared.kind.Kind.{Kind}
 use Rattle.sblock.specs.declared.kind.Kind.TheVariants.{Bno, Cnt, Rmap, Refc}
 use Rattle.fs_state.specs.State.{State, Group}
-use Rattle.fs_derive.specs.Derive.{derive, mappings, bno_of, cnt_of, refc_of}
-use Rattle.fs_derive.specs.Kinds.{kinds_of}
+use Rattle.fs_state.specs.Derive.{derive, mappings, bno_of, cnt_of, refc_of}
+use Rattle.fs_state.specs.Records.{kinds_of}
 use Rattle.fs_change.proofs.Trees.{in_itself}
 use Rattle.fs_change.specs.Laws.{SpaceDerivedAgain}
 use Rattle.fs_change.specs.Parts.{records_in}

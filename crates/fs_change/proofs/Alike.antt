@@ -16,16 +16,16 @@ use Rattle.sblock.specs.declared.kind.Kind.TheVariants.{Bno, Cnt, Rmap, Refc, In
 use Rattle.fs_state.specs.Apart.{ino_lists, rmap_lists, has_unit, is_listed, unit_verifies, is_chunk}
 use Rattle.fs_state.specs.Kinds.{RecOf}
 use Rattle.fs_state.specs.State.{State, Group, Index, Reading, Readable, Unreadable, recs_of}
-use Rattle.fs_derive.specs.Chunks.{chunks, inodes_in, inodes}
-use Rattle.fs_derive.specs.Derive.{chunk_record, ino_of, fino_of, bno_of, cnt_of, refc_of, derive, mappings}
-use Rattle.fs_derive.specs.Lists.{numbers}
+use Rattle.fs_state.specs.Chunks.{chunks, inodes_in, inodes}
+use Rattle.fs_state.specs.Derive.{chunk_record, ino_of, fino_of, bno_of, cnt_of, refc_of, derive, mappings}
+use Rattle.fs_state.specs.Lists.{numbers}
 use Rattle.fs_change.proofs.Trees.{in_itself}
 use Rattle.fs_change.specs.Parts.{in_group, tree_only, in_blocks, set_blocks, in_trees, records_in}
 use Rattle.fs_change.specs.Switch.{empty_trees, without_trees, prepared, moved, move_blocks, switched, derived_in, hold, exact_counters, join_limbo, lost_owned}
 use Rattle.byte_fields.specs.Below.{all_below}
 use Rattle.rmap_recs.specs.declared.records.RmapRec.{RmapRec}
-use Rattle.fs_derive.specs.Kinds.{kinds_of}
-use Rattle.fs_derive.specs.Laws.{EachTree}
+use Rattle.fs_state.specs.Records.{kinds_of}
+use Rattle.fs_state.specs.Laws.{EachTree}
 
 -- ---- records stay where blocks change
 

@@ -17,9 +17,9 @@ use Rattle.sblock.specs.declared.kind.Kind.TheVariants.{Rmap}
 use Rattle.fs_state.specs.State.{State, Group}
 use Rattle.fs_state.specs.declared.intent.Intent.{Intent}
 use Rattle.fs_state.specs.declared.intent.IntentKind.TheVariants.{RmapAdd, RmapRemove, RmapChange, RefMore, RefLess}
-use Rattle.fs_derive.specs.Derive.{derive}
-use Rattle.fs_derive.specs.Kinds.{kinds_of}
-use Rattle.fs_derive.specs.Lists.{numbers}
+use Rattle.fs_state.specs.Derive.{derive}
+use Rattle.fs_state.specs.Records.{kinds_of}
+use Rattle.fs_state.specs.Lists.{numbers}
 use Rattle.fs_change.specs.Changes.{mapped, unmapped, converted, shared, rmap_done, ref_done, freed, taken, given, refilled, trimmed, marked, judged, judge, reserved, released, reaped, take_free, give_free, give_owner, take_owner, intent, data_word, extent_of, data_of, do_mapping, change_count, to_free, behind, inodes_follow, turn, list_chunk, chunk_extent, make_chunk, is_in_extent, own_new, leave, block_extent, owner_of_run, reap_in}
 use Rattle.fs_change.specs.Laws.{ChangesOneGroup, StaysBeside, chain_of}
 use Rattle.fs_change.specs.Parts.{at_only, in_group, edit, set_trust}

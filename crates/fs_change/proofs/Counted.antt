@@ -15,12 +15,12 @@ use Rattle.sblock.specs.declared.kind.Kind.{Kind}
 use Rattle.sblock.specs.declared.kind.Kind.TheVariants.{Bno, Cnt, Rmap, Refc, Ino, Fino}
 use Rattle.tree_defs.specs.Lists.{times}
 use Rattle.fs_state.specs.State.{State, Group, Owned, Reading, Readable, Unreadable, blocks_of, blocks_in, comes_first, put_pair, pairs_of}
-use Rattle.fs_derive.specs.Chunks.{chunks}
-use Rattle.fs_derive.specs.Claims.{Claimed, claimed_by, log_claims, metadata_claims, fork_claims, claims, data_claims, attribute_claims, tree_claims}
-use Rattle.fs_derive.specs.Derive.{derive}
-use Rattle.fs_derive.specs.Kinds.{all_kinds, kinds_of, tree_owner}
-use Rattle.fs_derive.specs.Lists.{numbers}
-use Rattle.fs_derive.specs.Own.{tuple_of, own, rmap_of}
+use Rattle.fs_state.specs.Chunks.{chunks}
+use Rattle.fs_state.specs.Claims.{Claimed, claimed_by, log_claims, metadata_claims, fork_claims, claims, data_claims, attribute_claims, tree_claims}
+use Rattle.fs_state.specs.Derive.{derive}
+use Rattle.fs_state.specs.Records.{all_kinds, kinds_of, tree_owner}
+use Rattle.fs_state.specs.Lists.{numbers}
+use Rattle.fs_state.specs.Own.{tuple_of, own, rmap_of}
 use Rattle.fs_change.proofs.Alike.{chunks_alike, inodes_alike, moved_listed, prepared_listed, inodes_counted, free_counted, refc_counted}
 use Rattle.fs_change.proofs.Sets.{one_set, order}
 use Rattle.fs_change.proofs.Trees.{in_itself}

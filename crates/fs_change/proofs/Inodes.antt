@@ -21,7 +21,7 @@ use Rattle.fs_state.specs.Apart.{is_chunk, in_chunk, is_inode}
 use Rattle.fs_state.specs.Frame.{SameFork}
 use Rattle.fs_state.specs.State.{State, CoreState, ForkList}
 use Rattle.fs_state.specs.declared.intent.Intent.{Intent}
-use Rattle.fs_derive.specs.Claims.{fork_of}
+use Rattle.fs_state.specs.Claims.{fork_of}
 use Rattle.fs_change.proofs.Beside.{elsewhere}
 use Rattle.fs_change.specs.Changes.{mapped, unmapped, converted, shared, rmap_done, ref_done, freed, taken, given, refilled, trimmed, marked, judged, reserved, released, owner_of_run, reaped, take_free, give_owner, extent_of, data_of, mapping_of, change_data, changed_fork, mark_shared, shares_blocks, freed_core, core_with, file_mode, list_chunk, chunk_extent, inodes_follow, turn, own_new, leave, block_extent}
 use Rattle.fs_change.specs.Laws.{KeepsOtherInodes, changes_inode}

@@ -19,13 +19,13 @@ use Rattle.sblock.specs.declared.kind.Kind.{Kind}
 use Rattle.sblock.specs.declared.kind.Kind.TheVariants.{Rmap, Ino}
 use Rattle.fs_state.specs.Apart.{ino_lists, rmap_lists, has_unit, is_listed, unit_verifies, is_chunk}
 use Rattle.fs_state.specs.State.{State, Group}
-use Rattle.fs_derive.specs.Chunks.{chunks, inodes_in, inodes}
-use Rattle.fs_derive.specs.Claims.{metadata_claims, fork_claims, claims, claimed_by, data_claims, attribute_claims, tree_claims}
-use Rattle.fs_derive.specs.Derive.{derive}
-use Rattle.fs_derive.specs.Kinds.{kinds_of}
-use Rattle.fs_derive.specs.Laws.{EachTree}
-use Rattle.fs_derive.specs.Lists.{numbers}
-use Rattle.fs_derive.specs.Own.{set_of, tuple_of, own, rmap_of}
+use Rattle.fs_state.specs.Chunks.{chunks, inodes_in, inodes}
+use Rattle.fs_state.specs.Claims.{metadata_claims, fork_claims, claims, claimed_by, data_claims, attribute_claims, tree_claims}
+use Rattle.fs_state.specs.Derive.{derive}
+use Rattle.fs_state.specs.Records.{kinds_of}
+use Rattle.fs_state.specs.Laws.{EachTree}
+use Rattle.fs_state.specs.Lists.{numbers}
+use Rattle.fs_state.specs.Own.{set_of, tuple_of, own, rmap_of}
 use Rattle.fs_change.proofs.Alike.{gives_unit, lists_unit, listed_among, in_range}
 use Rattle.fs_change.proofs.Beside.{elsewhere}
 use Rattle.fs_change.proofs.Counted.{hasc, hasc_both, has_blocks, is_plain, parts, parted, chunk_part, front, has_behind, chunks_behind}

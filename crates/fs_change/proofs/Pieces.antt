@@ -9,8 +9,8 @@ use Rattle.geom.specs.Layout.{split_of}
 use Rattle.rmap_recs.specs.Runs.{has}
 use Rattle.rmap_recs.specs.declared.tuples.Tuple.{Tuple}
 use Rattle.fs_state.specs.State.{State}
-use Rattle.fs_derive.specs.Claims.{Claimed, mapping_claims, blocks_at, fork_tree_claims, tree_block_at, fork_of, attribute}
-use Rattle.fs_derive.specs.Own.{tuple_of, set_of}
+use Rattle.fs_state.specs.Claims.{Claimed, mapping_claims, blocks_at, fork_tree_claims, tree_block_at, fork_of, attribute}
+use Rattle.fs_state.specs.Own.{tuple_of, set_of}
 use Rattle.fs_change.proofs.Counted.{hasc, hasc_both}
 use Rattle.fs_change.proofs.Sets.{one_set, has_set, has_both}
 use Rattle.fs_change.specs.Chains.{settled_forks}

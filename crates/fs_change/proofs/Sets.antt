@@ -9,7 +9,7 @@ use Rattle.rmap_recs.specs.Runs.{is_same, has}
 use Rattle.rmap_recs.specs.Words.{key_word}
 use Rattle.rmap_recs.specs.declared.tuples.Tuple.{Tuple}
 use Rattle.sblock.specs.Lists.{IsAhead, Rises}
-use Rattle.fs_derive.specs.Own.{comes_before, put_once, set_of}
+use Rattle.fs_state.specs.Own.{comes_before, put_once, set_of}
 use Rattle.fs_change.specs.Laws.{OneSet}
 
 -- ---- the order

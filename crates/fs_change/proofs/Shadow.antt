@@ -8,8 +8,8 @@ use Rattle.fs_model.specs.declared.claim.Claim.TheVariants.{Data, Attr}
 use Rattle.rmap_recs.specs.Runs.{has}
 use Rattle.rmap_recs.specs.declared.tuples.Tuple.{Tuple}
 use Rattle.fs_state.specs.State.{State, ForkList}
-use Rattle.fs_derive.specs.Claims.{Claimed, mapping_claims, fork_tree_claims, fork_of, attribute}
-use Rattle.fs_derive.specs.Own.{tuple_of, set_of}
+use Rattle.fs_state.specs.Claims.{Claimed, mapping_claims, fork_tree_claims, fork_of, attribute}
+use Rattle.fs_state.specs.Own.{tuple_of, set_of}
 use Rattle.fs_change.proofs.Sets.{one_set, has_set, has_both, has_passing}
 use Rattle.fs_change.specs.Chains.{settled_forks}
 use Rattle.fs_change.specs.Laws.{CursorPasses, HoldBegins, HoldEnds, ShadowGains, ShadowLoses, is_seen}

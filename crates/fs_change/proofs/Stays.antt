@@ -16,7 +16,7 @@ use Rattle.fs_change.specs.Laws.{AreWords, DecidedStands}
 use Rattle.fs_change.specs.Loose.{Loosely, Inside, InodesStay, MovesBlocks, begins_with, count_used, list_room, may_join, laid_out, owners_follow, owners_in, lost_to, met_by_moves, tree_blocks, block_counter}
 use Rattle.fs_change.specs.Met.{is_fault, met_moving, give_each, take_each}
 use Rattle.fs_change.specs.Parts.{tree_only, change_tree, set_blocks, in_trees, in_blocks, with_recs, edit, is_edited, records_in}
-use Rattle.fs_derive.specs.Kinds.{tree_owner}
+use Rattle.fs_state.specs.Records.{tree_owner}
 use Rattle.tree_defs.specs.Lists.{is_in}
 use Rattle.fs_change.specs.Step.{edited_in, group_of_entry}
 use Rattle.fs_change.specs.Switch.{is_same_owned, has_owned}

@@ -8,7 +8,7 @@ use Rattle.ino_recs.specs.declared.chunk.InoRec.{InoRec}
 use Rattle.sblock.specs.declared.kind.Kind.TheVariants.{Rmap, Ino, Fino}
 use Rattle.fs_state.specs.Apart.{verifies, ino_lists, rmap_lists, has_unit, is_listed, block_verifies, unit_verifies, is_chunk}
 use Rattle.fs_state.specs.State.{State, Group, CoreState, Broken, Whole, Reading, Readable, Unreadable, recs_of}
-use Rattle.fs_derive.specs.Derive.{is_free}
+use Rattle.fs_state.specs.Derive.{is_free}
 use Rattle.fs_change.proofs.Alike.{gives_unit, lists_unit, recs_in_group}
 use Rattle.fs_change.proofs.Trees.{turned_tree}
 use Rattle.fs_change.specs.Changes.{taken, turn, inodes_follow, core_with, file_mode}

@@ -22,10 +22,10 @@ use Rattle.fs_state.specs.Group.{is_among}
 use Rattle.fs_state.specs.Kinds.{RecOf}
 use Rattle.fs_state.specs.State.{State, Group, Index, Readable, recs_of, blocks_of}
 use Rattle.fs_state.specs.declared.intent.Intent.{Intent}
-use Rattle.fs_derive.specs.Derive.{derive}
-use Rattle.fs_derive.specs.Faults.{kind_of_fault}
-use Rattle.fs_derive.specs.Kinds.{kinds_of}
-use Rattle.fs_derive.specs.Lists.{numbers}
+use Rattle.fs_state.specs.Derive.{derive}
+use Rattle.fs_state.specs.Faults.{kind_of_fault}
+use Rattle.fs_state.specs.Records.{kinds_of}
+use Rattle.fs_state.specs.Lists.{numbers}
 use Rattle.fs_change.specs.Changes.{mapped, unmapped, converted, shared, rmap_done, ref_done, freed, taken, given, refilled, trimmed, marked, judged, judge, reserved, released, reaped, changes_count, change_count, owner_of_run, joins_no_space, take_free, give_free, give_owner, take_owner, extent_of, data_of, do_mapping, new_count, inodes_follow, turn, list_chunk, chunk_extent, make_chunk, is_in_extent, own_new, leave, block_extent, leave_limbo, reap_in, by_count, known_spans, plain_run, free_chunk}
 use Rattle.fs_change.specs.Laws.{KeepsOtherTrees, changed_kinds, with_owners}
 use Rattle.fs_change.specs.Loose.{Inside, MovesBlocks, count_used, owners_follow, owners_in, lost_to}

@@ -9,9 +9,9 @@ use Rattle.fs_state.specs.State.{State}
 use Rattle.fs_state.specs.declared.intent.Intent.{Intent}
 use Rattle.fs_state.specs.declared.intent.IntentKind.{IntentKind}
 use Rattle.fs_state.specs.declared.intent.IntentKind.TheVariants.{RmapAdd, RmapRemove, RmapChange, RefMore, RefLess, Free}
-use Rattle.fs_derive.specs.Claims.{metadata_claims, fork_claims, unwritten}
-use Rattle.fs_derive.specs.Lists.{numbers}
-use Rattle.fs_derive.specs.Own.{tuple_of, set_of}
+use Rattle.fs_state.specs.Claims.{metadata_claims, fork_claims, unwritten}
+use Rattle.fs_state.specs.Lists.{numbers}
+use Rattle.fs_state.specs.Own.{tuple_of, set_of}
 
 -- so many chains may be open; a new one gets the lowest number that no open one has
 abbrev pub most_chains : ℕ

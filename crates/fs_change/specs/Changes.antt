@@ -28,9 +28,9 @@ use Rattle.fs_state.specs.State.{State, Group, Owned, CoreState, Broken, Whole, 
 use Rattle.fs_state.specs.declared.intent.Intent.{Intent}
 use Rattle.fs_state.specs.declared.intent.IntentKind.{IntentKind}
 use Rattle.fs_state.specs.declared.intent.IntentKind.TheVariants.{RmapAdd, RmapRemove, RmapChange, RefMore, RefLess, Free}
-use Rattle.fs_derive.specs.Claims.{unwritten, fork_of}
-use Rattle.fs_derive.specs.Kinds.{kinds_of}
-use Rattle.fs_derive.specs.Lists.{numbers, only_if}
+use Rattle.fs_state.specs.Claims.{unwritten, fork_of}
+use Rattle.fs_state.specs.Records.{kinds_of}
+use Rattle.fs_state.specs.Lists.{numbers, only_if}
 use Rattle.fs_change.specs.Chains.{run_of, word_taken}
 use Rattle.fs_change.specs.Choice.{is_guarded}
 use Rattle.fs_change.specs.Parts.{in_group, set_chain, set_core, set_data, set_cores, set_trust, set_trusts, edit, is_edited, sick_in, records_in}

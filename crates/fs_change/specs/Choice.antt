@@ -14,9 +14,9 @@ use Rattle.sblock.specs.declared.kind.Kind.{Kind}
 use Rattle.sblock.specs.declared.kind.Kind.TheVariants.{Bno, Cnt, Rmap, Refc, Ino, Fino}
 use Rattle.fs_state.specs.Apart.{is_free}
 use Rattle.fs_state.specs.State.{State, Group, is_readable}
-use Rattle.fs_derive.specs.Claims.{Claimed, claims, metadata_claims}
-use Rattle.fs_derive.specs.Derive.{bno_of}
-use Rattle.fs_derive.specs.Lists.{numbers}
+use Rattle.fs_state.specs.Claims.{Claimed, claims, metadata_claims}
+use Rattle.fs_state.specs.Derive.{bno_of}
+use Rattle.fs_state.specs.Lists.{numbers}
 use Rattle.fs_change.specs.Parts.{sick_in, records_in}
 use Rattle.fs_change.specs.Records.{most_mapped}
 

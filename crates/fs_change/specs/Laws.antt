@@ -18,13 +18,13 @@ use Rattle.fs_state.specs.Frame.{SameFork}
 use Rattle.fs_state.specs.Group.{is_among}
 use Rattle.fs_state.specs.State.{State, Group, blocks_in}
 use Rattle.fs_state.specs.declared.intent.Intent.{Intent}
-use Rattle.fs_derive.specs.Claims.{fork_claims}
-use Rattle.fs_derive.specs.Derive.{derive}
-use Rattle.fs_derive.specs.Faults.{kind_of_fault}
-use Rattle.fs_derive.specs.Kinds.{kinds_of}
-use Rattle.fs_derive.specs.Laws.{EachTree}
-use Rattle.fs_derive.specs.Chunks.{chunks}
-use Rattle.fs_derive.specs.Own.{tuple_of, set_of, own}
+use Rattle.fs_state.specs.Claims.{fork_claims}
+use Rattle.fs_state.specs.Derive.{derive}
+use Rattle.fs_state.specs.Faults.{kind_of_fault}
+use Rattle.fs_state.specs.Records.{kinds_of}
+use Rattle.fs_state.specs.Laws.{EachTree}
+use Rattle.fs_state.specs.Chunks.{chunks}
+use Rattle.fs_state.specs.Own.{tuple_of, set_of, own}
 use Rattle.fs_change.specs.Chains.{most_chains, owed_gifts, owed_takings, given_by, taken_by, settled_by, settled_forks}
 use Rattle.fs_change.specs.Forget.{Forget, forgotten}
 use Rattle.fs_change.specs.Parts.{at_only, stands_in, records_in}

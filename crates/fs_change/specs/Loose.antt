@@ -14,7 +14,7 @@ use Rattle.tree_defs.specs.Lists.{is_in, times}
 use Rattle.fs_state.specs.Apart.{is_chunk, is_inode}
 use Rattle.fs_state.specs.Frame.{SameFork}
 use Rattle.fs_state.specs.State.{State, Group, Owned, blocks_of, blocks_in}
-use Rattle.fs_derive.specs.Kinds.{all_kinds, tree_owner}
+use Rattle.fs_state.specs.Records.{all_kinds, tree_owner}
 use Rattle.fs_change.specs.Met.{Met, is_fault, take_each, give_each, met_moving}
 use Rattle.fs_change.specs.Parts.{edit, in_trees, is_edited, records_in}
 use Rattle.fs_change.specs.Changes.{follow}

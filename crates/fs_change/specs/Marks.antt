@@ -17,8 +17,8 @@ use Rattle.tree_defs.specs.Lists.{AllDiffer, is_in}
 use Rattle.fs_state.specs.Apart.{unit_verifies}
 use Rattle.fs_state.specs.Group.{is_among}
 use Rattle.fs_state.specs.State.{State, Group, Owned, blocks_in, is_readable}
-use Rattle.fs_derive.specs.Derive.{is_free}
-use Rattle.fs_derive.specs.Kinds.{all_kinds, tree_owner}
+use Rattle.fs_state.specs.Derive.{is_free}
+use Rattle.fs_state.specs.Records.{all_kinds, tree_owner}
 use Rattle.fs_change.specs.Choice.{chosen, free_inode, chunk_run, inode_of}
 use Rattle.fs_change.specs.Edited.{group_of_inode, group_of_entry, is_asked, edited_in, met_by}
 use Rattle.fs_change.specs.Loose.{tree_blocks, owners_in, lost_to, met_by_moves}

@@ -14,7 +14,7 @@ use Rattle.fs_state.specs.State.{Owned}
 use Rattle.fs_state.specs.declared.intent.Intent.{Intent}
 use Rattle.fs_state.specs.declared.intent.IntentKind.{IntentKind}
 use Rattle.fs_state.specs.declared.intent.IntentKind.TheVariants.{RmapAdd, RmapRemove, RmapChange, RefMore, RefLess, Free}
-use Rattle.fs_derive.specs.Lists.{only_if}
+use Rattle.fs_state.specs.Lists.{only_if}
 use Rattle.fs_change.specs.Chains.{run_of, word_taken}
 use Rattle.fs_change.specs.Records.{without_first, last_at, end_of, is_same_span, has_span, holder_of, rest_of, beside_run, joined_run, take_mapping, give_mapping, refc_end, counter_of, is_same_count, count_rest, cut_counts, count_before, count_behind, joined_counts, has_inode}
 

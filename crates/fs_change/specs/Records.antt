@@ -9,7 +9,7 @@ use Rattle.rmap_recs.specs.declared.records.RmapRec.{RmapRec}
 use Rattle.run_edits.specs.Edits.{put_rec, grown, holds, rest_put}
 use Rattle.span_recs.specs.declared.refcount.RefcRec.{RefcRec}
 use Rattle.span_recs.specs.declared.span.SpanRec.{SpanRec}
-use Rattle.fs_derive.specs.Lists.{only_if}
+use Rattle.fs_state.specs.Lists.{only_if}
 
 -- ---- lists in order
 

@@ -5,8 +5,8 @@ use Rattle.dinode_core.specs.declared.mapping.Fork.TheVariants as forks
 use Rattle.fs_model.specs.declared.claim.Claim.TheVariants.{Data, Attr}
 use Rattle.rmap_recs.specs.declared.tuples.Tuple.{Tuple}
 use Rattle.fs_state.specs.State.{State, ForkList}
-use Rattle.fs_derive.specs.Claims.{Claimed, mapping_claims, fork_tree_claims, fork_of, attribute}
-use Rattle.fs_derive.specs.Own.{tuple_of, set_of}
+use Rattle.fs_state.specs.Claims.{Claimed, mapping_claims, fork_tree_claims, fork_of, attribute}
+use Rattle.fs_state.specs.Own.{tuple_of, set_of}
 use Rattle.fs_change.specs.Chains.{settled_forks}
 
 -- Has a scan whose cursor is c been at the inode? The cursor is the last number that it has passed.

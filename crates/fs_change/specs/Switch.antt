@@ -17,11 +17,11 @@ use Rattle.sblock.specs.declared.kind.Kind.TheVariants.{Bno, Rmap}
 use Rattle.fs_state.specs.Apart.{is_free}
 use Rattle.fs_state.specs.Kinds.{RecOf}
 use Rattle.fs_state.specs.State.{State, Group, Owned, Reading, Readable, Unreadable, blocks_of, is_readable, pairs_of}
-use Rattle.fs_derive.specs.Claims.{claims}
-use Rattle.fs_derive.specs.Derive.{derive}
-use Rattle.fs_derive.specs.Faults.{wanted}
-use Rattle.fs_derive.specs.Kinds.{kinds_of}
-use Rattle.fs_derive.specs.Lists.{numbers}
+use Rattle.fs_state.specs.Claims.{claims}
+use Rattle.fs_state.specs.Derive.{derive}
+use Rattle.fs_state.specs.Faults.{wanted}
+use Rattle.fs_state.specs.Records.{kinds_of}
+use Rattle.fs_state.specs.Lists.{numbers}
 use Rattle.tree_defs.specs.Lists.{times}
 use Rattle.fs_change.specs.Parts.{in_group, change_tree, set_blocks, in_trees, records_in}
 

@@ -8,9 +8,9 @@ use Rattle.fs_model.specs.declared.fault.Fault.{Fault}
 use Rattle.fs_model.specs.declared.unit.Unit.{Unit as ScrubUnit}
 use Rattle.fs_model.specs.declared.unit.Unit.TheVariants as units
 use Rattle.fs_state.specs.State.{State}
-use Rattle.fs_derive.specs.Faults.{faults}
-use Rattle.fs_derive.specs.Session.{is_at, is_same_unit}
-use Rattle.fs_derive.specs.declared.plan.Plan.{Plan}
+use Rattle.fs_state.specs.Faults.{faults}
+use Rattle.fs_state.specs.Session.{is_at, is_same_unit}
+use Rattle.fs_state.specs.declared.plan.Plan.{Plan}
 use Rattle.fs_change.specs.Marks.{Due, dues}
 use Rattle.fs_said.specs.Laws.{found_since, AreFound, FaultsAreFound}
 use Rattle.fs_said.specs.Said.{Stage, Unbegun, Begun, Told, nothing_told, told_after, left_to_say, count_said, SaysSo, SaysOn}

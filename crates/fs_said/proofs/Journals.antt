@@ -3,7 +3,7 @@ use Rattle.std.proofs.Common.{List, [], ◌∷◌, ◌++◌, subst}
 use Rattle.fs_model.specs.declared.entry.Entry.{Entry}
 use Rattle.fs_state.specs.State.{State}
 use Rattle.sblock.specs.declared.kind.Kind.{Kind}
-use Rattle.fs_derive.specs.declared.plan.Plan.{Plan}
+use Rattle.fs_state.specs.declared.plan.Plan.{Plan}
 use Rattle.fs_change.specs.Marks.{Due, dues}
 use Rattle.fs_change.specs.Run.{LeadsOn}
 use Rattle.fs_change.specs.Step.{Step}

@@ -5,9 +5,9 @@ use Rattle.fs_model.specs.declared.entry.Entry.TheVariants as entries
 use Rattle.fs_model.specs.declared.fault.Fault.{Fault}
 use Rattle.fs_model.specs.declared.unit.Unit.{Unit as ScrubUnit}
 use Rattle.fs_state.specs.State.{State}
-use Rattle.fs_derive.specs.Faults.{faults}
-use Rattle.fs_derive.specs.Session.{is_at}
-use Rattle.fs_derive.specs.declared.plan.Plan.{Plan}
+use Rattle.fs_state.specs.Faults.{faults}
+use Rattle.fs_state.specs.Session.{is_at}
+use Rattle.fs_state.specs.declared.plan.Plan.{Plan}
 use Rattle.fs_change.specs.Run.{Leads}
 use Rattle.fs_said.specs.Said.{Stage, Unbegun, Begun, Told, nothing_told, SaysOn, LeadsTruly}
 

@@ -14,11 +14,11 @@ use Rattle.fs_model.specs.declared.verdict.Verdict.{Verdict}
 use Rattle.fs_model.specs.declared.verdict.Verdict.TheVariants.{Good, Faulty, Rebuilt, Skipped, GaveUp}
 use Rattle.sblock.specs.declared.kind.Kind.{Kind}
 use Rattle.fs_state.specs.State.{State}
-use Rattle.fs_derive.specs.Contradiction.{evidence}
-use Rattle.fs_derive.specs.Faults.{faults}
-use Rattle.fs_derive.specs.Session.{is_at, first_unready}
-use Rattle.fs_derive.specs.declared.plan.Plan.{Plan}
-use Rattle.fs_derive.specs.declared.plan.Plan.TheVariants.{Check, Repair, Rebuild}
+use Rattle.fs_state.specs.Contradiction.{evidence}
+use Rattle.fs_state.specs.Faults.{faults}
+use Rattle.fs_state.specs.Session.{is_at, first_unready}
+use Rattle.fs_state.specs.declared.plan.Plan.{Plan}
+use Rattle.fs_state.specs.declared.plan.Plan.TheVariants.{Check, Repair, Rebuild}
 use Rattle.fs_change.specs.Choice.{spare_block}
 use Rattle.fs_change.specs.Marks.{Due, IsDue, dues, MayStandAlone}
 use Rattle.fs_change.specs.Step.{Step}

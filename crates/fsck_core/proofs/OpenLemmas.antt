@@ -11,8 +11,8 @@ use Rattle.core_parts.specs.Opens.Heads.{Each}
 use Rattle.core_parts.specs.Safe.{AreKept, IsKept, IsSafe}
 use Rattle.core_parts.specs.declared.groups.GroupKept.{GroupKept}
 use Rattle.core_parts.specs.declared.units.UnitState.{UnitState}
-use Rattle.core_store.specs.Ready.{IsReady}
-use Rattle.core_store.specs.declared.store.Store.{Store}
+use Rattle.core_edit.specs.Ready.{IsReady}
+use Rattle.core_edit.specs.declared.store.Store.{Store}
 use Rattle.fs_model.specs.declared.entry.Entry.{Entry}
 use Rattle.fsck_core.proofs.Places.{none_some, some_same}
 use Rattle.fsck_core.specs.Opens.{AreBeside, NoneOpen}

@@ -13,8 +13,8 @@ use core_calls::{Answer, Phase, ScrubFault};
 use core_parts::common::unless_shut;
 use core_parts::{Desk, GroupKept, Parts, UnitState, put_unit, take_unit};
 use core_switch::reopen;
-use fs_derive::Plan;
 use fs_model::Unit;
+use fs_state::Plan;
 use std::alloc::Global;
 use std::sync::ledger::Ledger;
 

@@ -1,7 +1,7 @@
 ghost use Rattle.std.specs.Prelude.{◌≡◌, ◌≤◌, IfErr, IfOk};
 ghost use Rattle.blk_device.specs.declared.device.Region.TheVariants.{Image, Redo};
 ghost use Rattle.core_parts.specs.Safe.{IsSafe};
-ghost use Rattle.core_store.specs.Ready.{IsReady};
+ghost use Rattle.core_edit.specs.Ready.{IsReady};
 ghost use Rattle.fsck_core.specs.Opens.{AreBeside, IsBack, IsBegun};
 ghost use Rattle.redo_area.specs.declared.TheConstants.{REDO_BLOCKS};
 
@@ -9,8 +9,8 @@ use crate::opened::{Beside, read_beside};
 use blk_device::Device;
 use byte_fields::Steps;
 use core_calls::OpenRefused;
+use core_edit::Store;
 use core_parts::{Book, Desk, Parts};
-use core_store::Store;
 use geom::Geometry;
 use std::alloc::Global;
 use std::sync::ledger::Ledger;

@@ -1,6 +1,6 @@
 -- The pieces of claims by a group's own metadata.
 use Rattle.std.specs.Prelude.{ℕ, ◌*◌, ◌==◌, List, [], ◌∷◌, ◌++◌, map, flat_map, Option, Some, None, if◌then◌else◌}
-use Rattle.fs_derive.specs.Kinds.{all_kinds, tree_owner}
+use Rattle.fs_state.specs.Records.{all_kinds, tree_owner}
 use Rattle.fs_model.specs.declared.claim.Claim.{Claim}
 use Rattle.fs_model.specs.declared.claim.Claim.TheVariants.{Heads, Log, List as FreeList, Tree, Chunk}
 use Rattle.geom.specs.declared.geometry.Run3.{Run3}

@@ -1,5 +1,5 @@
 ghost use Rattle.std.specs.Prelude.{◌≡◌, ◌+◌, ◌≤◌, ◌++◌, IfOk, OnOk};
-ghost use Rattle.fs_derive.specs.Lists.{numbers};
+ghost use Rattle.fs_state.specs.Lists.{numbers};
 ghost use Rattle.inode_pass.specs.Units.{units_in};
 ghost use Rattle.run_sets.specs.Runs.{EndWithin, most};
 

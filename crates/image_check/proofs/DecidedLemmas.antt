@@ -6,7 +6,7 @@ use Rattle.std.proofs.lemmas.List.{append-nil}
 use Rattle.ag_headers.specs.declared.fault.HeadFault.{HeadFault}
 use Rattle.blk_device.specs.Taken.{IsFront}
 use Rattle.check_phases.specs.Session.{check_events, session_events, with_entries}
-use Rattle.fs_derive.specs.Session.{Place, unit_order}
+use Rattle.fs_state.specs.Session.{Place, unit_order}
 use Rattle.fs_model.specs.declared.entry.Entry.{Entry}
 use Rattle.fs_model.specs.declared.unit.Head.{Head}
 use Rattle.fs_model.specs.declared.unit.Unit.{Unit as ScrubUnit}

@@ -1,9 +1,9 @@
 -- A fork that can't be read is the evidence of all reverse mappings.
 use Rattle.std.proofs.Common.{◌≡◌, ℕ, [], ◌∷◌, Some}
 use Rattle.std.specs.Option.{option_or}
-use Rattle.fs_derive.specs.Claims.{claims}
-use Rattle.fs_derive.specs.Contradiction.{evidence, first_bad_fork, first_contradiction, first_later, first_overlap, later_in}
-use Rattle.fs_derive.specs.Lists.{first_of_all}
+use Rattle.fs_state.specs.Claims.{claims}
+use Rattle.fs_state.specs.Contradiction.{evidence, first_bad_fork, first_contradiction, first_later, first_overlap, later_in}
+use Rattle.fs_state.specs.Lists.{first_of_all}
 use Rattle.fs_model.specs.declared.claim.Evidence.{Evidence}
 use Rattle.fs_model.specs.declared.unit.Unit.TheVariants as units
 use Rattle.fs_state.specs.State.{State}

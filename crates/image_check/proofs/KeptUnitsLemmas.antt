@@ -12,8 +12,8 @@ use Rattle.check_phases.specs.Phases.{Inodes, Mappings, Phase, Space, group_even
 use Rattle.check_phases.specs.Session.{inode_fallen, mappings_passed}
 use Rattle.check_phases.specs.declared.part.Part.{Part}
 use Rattle.check_phases.specs.declared.tally.Tally.{Tally}
-use Rattle.fs_derive.specs.Lists.{numbers}
-use Rattle.fs_derive.specs.Session.{Place}
+use Rattle.fs_state.specs.Lists.{numbers}
+use Rattle.fs_state.specs.Session.{Place}
 use Rattle.fs_model.specs.declared.entry.Entry.{Entry}
 use Rattle.fs_model.specs.declared.unit.Head.{Head}
 use Rattle.fs_model.specs.declared.unit.Unit.{Unit as ScrubUnit}

@@ -9,8 +9,8 @@ use Rattle.dinode_core.specs.declared.mapping.Mapping.{Mapping}
 use Rattle.fork_pass.specs.Passed.{AreForkClaims, units_at}
 use Rattle.fork_pass.specs.Pieces.{block_piece, block_pieces, claim_of, flag_of, fork_pieces as passed_pieces, inode_pieces, mapping_piece, mapping_pieces, piece_where}
 use Rattle.fork_pass.specs.Sets.{pieces_at}
-use Rattle.fs_derive.specs.Chunks.{inodes}
-use Rattle.fs_derive.specs.Claims.{fork_of}
+use Rattle.fs_state.specs.Chunks.{inodes}
+use Rattle.fs_state.specs.Claims.{fork_of}
 use Rattle.fs_state.specs.Kinds.{Image}
 use Rattle.fs_state.specs.State.{State}
 use Rattle.geom.specs.Layout.{Layout, split_of}

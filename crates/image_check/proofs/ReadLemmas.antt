@@ -9,8 +9,8 @@ use Rattle.check_phases.specs.Phases.{Mappings, lacks_nothing}
 use Rattle.check_phases.specs.declared.tally.Tally.{Tally}
 use Rattle.fork_pass.specs.Counted.{forks_most, notes_most}
 use Rattle.fork_pass.specs.Passed.{AreChunks, AreNotes, notes_at}
-use Rattle.fs_derive.specs.Lists.{numbers}
-use Rattle.fs_derive.specs.Session.{Place}
+use Rattle.fs_state.specs.Lists.{numbers}
+use Rattle.fs_state.specs.Session.{Place}
 use Rattle.fs_model.specs.declared.entry.Entry.{Entry}
 use Rattle.fs_model.specs.declared.unit.Unit.TheVariants as units
 use Rattle.fs_state.specs.Kinds.{Image}

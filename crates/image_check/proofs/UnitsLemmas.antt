@@ -5,7 +5,7 @@ use Rattle.check_phases.proofs.AddedLemmas.{any_judged, any_space_part, groups_b
 use Rattle.check_phases.specs.Parts.{AddsPart, AreParts, IsInodePart, IsSpacePart, skipped_event}
 use Rattle.check_phases.specs.declared.part.Part.{Part}
 use Rattle.check_phases.specs.declared.tally.Tally.{Tally}
-use Rattle.fs_derive.specs.Session.{Place}
+use Rattle.fs_state.specs.Session.{Place}
 use Rattle.fs_model.specs.declared.unit.Unit.TheVariants as units
 use Rattle.space_check.specs.Events.{Event, most_entries}
 use Rattle.space_check.specs.Progress.{Begins, IsOutside}

@@ -4,7 +4,7 @@ use Rattle.std.specs.Prelude.{◌≡◌, ◌≤◌, ℕ, ◌+◌, List, [], ◌�
 use Rattle.std.specs.Global.{Vec}
 pub use Rattle.check_phases.specs.Kept.{begun_of}
 use Rattle.check_phases.specs.Session.{check_events}
-use Rattle.fs_derive.specs.Session.{Place, unit_order}
+use Rattle.fs_state.specs.Session.{Place, unit_order}
 use Rattle.fs_model.specs.declared.entry.Entry.{Entry}
 use Rattle.fs_model.specs.declared.unit.Unit.{Unit as ScrubUnit}
 use Rattle.fs_state.specs.Kinds.{Image}

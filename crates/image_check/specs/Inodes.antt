@@ -2,7 +2,7 @@
 use Rattle.std.specs.Prelude.{◌≡◌, ℕ, ◌<◌, true, List}
 use Rattle.check_phases.specs.Entries.{passes_judged}
 use Rattle.fork_pass.specs.Passed.{notes_at, units_at}
-use Rattle.fs_derive.specs.Chunks.{chunks}
+use Rattle.fs_state.specs.Chunks.{chunks}
 use Rattle.fs_model.specs.declared.unit.Unit.TheVariants as units
 use Rattle.fs_state.specs.Kinds.{Image}
 use Rattle.geom.specs.Layout.{Layout}

@@ -7,7 +7,7 @@ use Rattle.check_phases.specs.Phases.{Mappings, lacks_inodes, lacks_nothing}
 use Rattle.check_phases.specs.Session.{check_events}
 use Rattle.check_phases.specs.declared.part.Part.{Part}
 use Rattle.check_phases.specs.declared.tally.Tally.{Tally}
-use Rattle.fs_derive.specs.Session.{unit_order}
+use Rattle.fs_state.specs.Session.{unit_order}
 use Rattle.fs_model.specs.declared.entry.Entry.{Entry}
 use Rattle.fs_model.specs.declared.unit.Unit.{Unit as ScrubUnit}
 use Rattle.fs_model.specs.declared.unit.Unit.TheVariants as units

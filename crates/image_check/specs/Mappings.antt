@@ -6,7 +6,7 @@ use Rattle.check_phases.specs.declared.part.Part.{Part}
 use Rattle.check_phases.specs.declared.tally.Tally.{Tally}
 use Rattle.fork_pass.specs.Passed.{units_at}
 use Rattle.fork_pass.specs.Sets.{pieces_at}
-use Rattle.fs_derive.specs.Session.{Place}
+use Rattle.fs_state.specs.Session.{Place}
 use Rattle.fs_model.specs.declared.unit.Unit.TheVariants as units
 use Rattle.fs_state.specs.Kinds.{Image}
 use Rattle.fs_state.specs.State.{State}

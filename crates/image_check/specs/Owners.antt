@@ -3,7 +3,7 @@ use Rattle.std.specs.Prelude.{◌≡◌, Option, Some, None}
 use Rattle.std.specs.Global.{Vec}
 use Rattle.check_phases.specs.Session.{inode_fallen}
 use Rattle.fork_pass.specs.Passed.{AreForkClaims}
-use Rattle.fs_derive.specs.Contradiction.{first_bad_fork}
+use Rattle.fs_state.specs.Contradiction.{first_bad_fork}
 use Rattle.fs_model.specs.declared.claim.Evidence.{Evidence}
 use Rattle.fs_state.specs.State.{State}
 use Rattle.unit_plan.specs.declared.claims.ClaimSet.{ClaimSet}

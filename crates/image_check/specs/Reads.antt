@@ -2,7 +2,7 @@
 use Rattle.std.specs.Prelude.{ℕ, ◌+◌, ◌==◌, if◌then◌else◌, List}
 use Rattle.check_phases.specs.Kept.{most_in}
 use Rattle.fork_pass.specs.Counted.{forks_most}
-use Rattle.fs_derive.specs.Chunks.{chunks}
+use Rattle.fs_state.specs.Chunks.{chunks}
 use Rattle.fs_model.specs.declared.unit.Unit.{Unit as ScrubUnit}
 use Rattle.fs_model.specs.declared.unit.Unit.TheVariants as units
 use Rattle.fs_state.specs.Kinds.{Image}

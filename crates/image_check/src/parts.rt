@@ -2,7 +2,7 @@ ghost use Rattle.std.specs.Prelude.{◌≡◌, ◌≤◌, Some, None, IfErr};
 ghost use Rattle.check_phases.specs.Checks.{ChecksUnit};
 ghost use Rattle.check_phases.specs.Parts.{AddsPart, AddsParts};
 ghost use Rattle.check_phases.specs.Phases.{lacks_nothing};
-ghost use Rattle.fs_derive.specs.Contradiction.{first_bad_fork};
+ghost use Rattle.fs_state.specs.Contradiction.{first_bad_fork};
 ghost use Rattle.fs_model.specs.declared.unit.Unit.TheVariants as units;
 ghost use Rattle.fs_state.specs.State.{State};
 ghost use Rattle.image_check.specs.Mappings.{ChecksPart};

@@ -19,9 +19,9 @@ use Rattle.geom.specs.Layout.{group_len_of, inode_at}
 use Rattle.ino_recs.specs.declared.chunk.InoRec.{InoRec}
 use Rattle.fs_state.specs.Apart.{is_chunk, is_listed, unit_verifies, block_verifies, verifies}
 use Rattle.fs_state.specs.State.{State, CoreState, Broken, Whole}
-use Rattle.fs_derive.specs.Chunks.{chunks, inode_in}
-use Rattle.fs_derive.specs.Derive.{chunk_record, ino_of, is_free, over_free}
-use Rattle.fs_derive.specs.Lists.{numbers}
+use Rattle.fs_state.specs.Chunks.{chunks, inode_in}
+use Rattle.fs_state.specs.Derive.{chunk_record, ino_of, is_free, over_free}
+use Rattle.fs_state.specs.Lists.{numbers}
 use Rattle.index_derive.specs.declared.inodes.UnitCores.{UnitCores}
 use Rattle.index_derive.specs.Inodes.{AreModes, AreUnits, free_bits, is_free_at, is_zero, mask_in, mask_of, mode_of, record_of, records_from, records_of}
 

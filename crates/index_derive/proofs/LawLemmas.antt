@@ -9,9 +9,9 @@ use Rattle.sblock.specs.Lists.{Rises}
 use Rattle.rmap_recs.proofs.RisingLemmas.{nothing_in, in_front, in_rest, in_either, filtered, kept_by_filter, filter_rises, one_rising, Rises-map, mapped, kept_by_map}
 use Rattle.fs_state.specs.Apart.{is_chunk}
 use Rattle.fs_state.specs.State.{State}
-use Rattle.fs_derive.specs.Chunks.{chunks}
-use Rattle.fs_derive.specs.Derive.{chunk_record, ino_of, fino_of}
-use Rattle.fs_derive.specs.Lists.{numbers}
+use Rattle.fs_state.specs.Chunks.{chunks}
+use Rattle.fs_state.specs.Derive.{chunk_record, ino_of, fino_of}
+use Rattle.fs_state.specs.Lists.{numbers}
 use Rattle.index_derive.specs.Laws.{AreChunkRecords, AreFreeRecords, IsOfChunk, is_before}
 
 in_numbers : (a n u : ℕ) → Contains (numbers a n) u → (a ≤ u) × (u < a + n)

@@ -15,7 +15,7 @@ use Rattle.rmap_recs.proofs.RunLemmas.{maximal_runs, only_runs}
 use Rattle.rmap_recs.proofs.SearchLemmas.{equal_from_same, same_self}
 use Rattle.run_edits.specs.EditLaws.{AreUntied}
 use Rattle.fs_state.specs.State.{State}
-use Rattle.fs_derive.specs.Own.{comes_before, own, put_once, rmap_of, set_of}
+use Rattle.fs_state.specs.Own.{comes_before, own, put_once, rmap_of, set_of}
 use Rattle.index_derive.specs.Owners.{AreOrderly, claimed_tuples}
 
 -- ---- the order of tuples

@@ -6,9 +6,9 @@ use Rattle.geom.specs.Layout.{group_len_of}
 use Rattle.ino_recs.specs.declared.chunk.InoRec.{InoRec}
 use Rattle.fs_state.specs.Apart.{is_listed, unit_verifies}
 use Rattle.fs_state.specs.State.{State, CoreState, Broken, Whole}
-use Rattle.fs_derive.specs.Chunks.{inode_in}
-use Rattle.fs_derive.specs.Derive.{over_free}
-use Rattle.fs_derive.specs.Lists.{numbers}
+use Rattle.fs_state.specs.Chunks.{inode_in}
+use Rattle.fs_state.specs.Derive.{over_free}
+use Rattle.fs_state.specs.Lists.{numbers}
 use Rattle.index_derive.specs.declared.inodes.UnitCores.{UnitCores}
 
 -- ---- the free inodes of a unit

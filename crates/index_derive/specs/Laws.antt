@@ -7,8 +7,8 @@ use Rattle.rmap_recs.specs.declared.records.RmapRec.{RmapRec}
 use Rattle.sblock.specs.Lists.{Rises}
 use Rattle.fs_state.specs.Apart.{is_chunk}
 use Rattle.fs_state.specs.State.{State}
-use Rattle.fs_derive.specs.Derive.{chunk_record, ino_of, fino_of}
-use Rattle.fs_derive.specs.Own.{rmap_of}
+use Rattle.fs_state.specs.Derive.{chunk_record, ino_of, fino_of}
+use Rattle.fs_state.specs.Own.{rmap_of}
 use Rattle.index_derive.specs.Owners.{AreOrderly, claimed_tuples}
 use Rattle.std.specs.Prelude.{nat_lt, Bool}
 

@@ -6,8 +6,8 @@ use Rattle.rmap_recs.specs.declared.tuples.Tuple.{Tuple}
 use Rattle.run_edits.specs.EditLaws.{AreUntied}
 use Rattle.run_edits.specs.Pieces.{AreTuplesOf}
 use Rattle.fs_state.specs.State.{State}
-use Rattle.fs_derive.specs.Claims.{claims}
-use Rattle.fs_derive.specs.Own.{tuple_of}
+use Rattle.fs_state.specs.Claims.{claims}
+use Rattle.fs_state.specs.Own.{tuple_of}
 
 -- who claims which block of the group, at which offset and with which flags
 abbrev pub claimed_tuples : State → ℕ → List Tuple

@@ -1,5 +1,5 @@
 ghost use Rattle.std.specs.Prelude.{◌≡◌, ℕ, ◌+◌, ◌*◌, ◌^◌, ◌<◌, ◌++◌, All, IfOk, OnOk, filter, length, nat_lt, ◌==◌, if◌then◌else◌};
-ghost use Rattle.fs_derive.specs.Derive.{ino_of, fino_of};
+ghost use Rattle.fs_state.specs.Derive.{ino_of, fino_of};
 ghost use Rattle.fs_state.specs.State.{State};
 ghost use Rattle.index_derive.specs.Inodes.{AreModes, AreUnits, mask_in, mask_of, record_of, records_from, records_of};
 

@@ -1,5 +1,5 @@
 ghost use Rattle.std.specs.Prelude.{◌≡◌, ℕ, IfOk, length};
-ghost use Rattle.fs_derive.specs.Own.{rmap_of};
+ghost use Rattle.fs_state.specs.Own.{rmap_of};
 ghost use Rattle.fs_state.specs.State.{State};
 ghost use Rattle.run_edits.specs.Pieces.{ArePieces, joined_pieces};
 ghost use Rattle.index_derive.specs.Owners.{AreClaimed};

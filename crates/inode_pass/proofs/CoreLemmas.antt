@@ -5,8 +5,8 @@ use Rattle.std.proofs.lemmas.List.{append-nil}
 use Rattle.std.proofs.Math.Seq.{drop-cons}
 use Rattle.dinode_core.specs.Core.{core_fault, core_of}
 use Rattle.dinode_core.specs.declared.inode.CoreFault.{CoreFault}
-use Rattle.fs_derive.specs.Contradiction.{bad_core}
-use Rattle.fs_derive.specs.Lists.{numbers, first_of_all}
+use Rattle.fs_state.specs.Contradiction.{bad_core}
+use Rattle.fs_state.specs.Lists.{numbers, first_of_all}
 use Rattle.fs_model.specs.declared.claim.Evidence.{Evidence}
 use Rattle.fs_model.specs.declared.claim.Evidence.TheVariants.{BadChunk}
 use Rattle.fs_state.specs.Inodes.{core_in, slot_in}

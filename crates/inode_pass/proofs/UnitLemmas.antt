@@ -4,9 +4,9 @@ use Rattle.std.specs.Prelude.{slice_index_or}
 use Rattle.std.proofs.lemmas.List.{append-nil}
 use Rattle.std.proofs.Math.Seq.{drop-cons}
 use Rattle.dinode_core.specs.declared.inode.CoreFault.{CoreFault}
-use Rattle.fs_derive.specs.Chunks.{inode_in}
-use Rattle.fs_derive.specs.Contradiction.{bad_core, bad_in_unit}
-use Rattle.fs_derive.specs.Lists.{numbers, first_of_all}
+use Rattle.fs_state.specs.Chunks.{inode_in}
+use Rattle.fs_state.specs.Contradiction.{bad_core, bad_in_unit}
+use Rattle.fs_state.specs.Lists.{numbers, first_of_all}
 use Rattle.fs_state.specs.Inodes.{core_in, slot_in}
 use Rattle.fs_state.specs.Kinds.{Image}
 use Rattle.fs_state.specs.Read.{core_of_ino, opened}

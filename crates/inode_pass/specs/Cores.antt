@@ -1,7 +1,7 @@
 -- What the cores of a group's blocks say, one after the other.
 use Rattle.std.specs.Prelude.{ℕ, ◌+◌, ◌*◌, ◌/◌, List, [], ◌∷◌, map, flat_map, Option, Some, None, Result, Ok, Err}
 use Rattle.dinode_core.specs.declared.inode.CoreFault.{CoreFault}
-use Rattle.fs_derive.specs.Lists.{numbers}
+use Rattle.fs_state.specs.Lists.{numbers}
 use Rattle.fs_model.specs.declared.claim.Evidence.{Evidence}
 use Rattle.fs_model.specs.declared.claim.Evidence.TheVariants.{BadChunk}
 use Rattle.fs_state.specs.Inodes.{core_in, slot_in}

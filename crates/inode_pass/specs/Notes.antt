@@ -8,7 +8,7 @@ use Rattle.dinode_core.specs.declared.inode.Core3.{Core3}
 use Rattle.dinode_core.specs.declared.inode.CoreFault.{CoreFault}
 use Rattle.dinode_core.specs.declared.mapping.Fork.{Fork}
 use Rattle.dinode_core.specs.declared.mapping.Fork.TheVariants.{Data, Attr}
-use Rattle.fs_derive.specs.Lists.{numbers}
+use Rattle.fs_state.specs.Lists.{numbers}
 use Rattle.fs_state.specs.Inodes.{slot_in}
 use Rattle.fs_state.specs.Kinds.{Image}
 use Rattle.geom.specs.Layout.{Layout, device_block_of, group_len_of, inode_at}

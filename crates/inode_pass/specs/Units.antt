@@ -1,7 +1,7 @@
 -- What a pass over the cores of a group's units finds, by the state that the image stands for right after it was opened.
 use Rattle.std.specs.Prelude.{◌≡◌, ℕ, ◌+◌, List, [], ◌∷◌, ◌++◌, map}
-use Rattle.fs_derive.specs.Contradiction.{bad_in_unit}
-use Rattle.fs_derive.specs.Lists.{numbers}
+use Rattle.fs_state.specs.Contradiction.{bad_in_unit}
+use Rattle.fs_state.specs.Lists.{numbers}
 use Rattle.fs_state.specs.Kinds.{Image}
 use Rattle.fs_state.specs.Read.{state_of, opened}
 use Rattle.fs_state.specs.State.{State}

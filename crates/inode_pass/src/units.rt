@@ -5,7 +5,7 @@ ghost use Rattle.blk_device.specs.Reading.{OnlyRead};
 ghost use Rattle.blk_device.specs.declared.device.Region.TheVariants.{Image};
 ghost use Rattle.geom.specs.Layout.{group_len_of};
 ghost use Rattle.geom.specs.Places.{layout};
-ghost use Rattle.fs_derive.specs.Lists.{numbers};
+ghost use Rattle.fs_state.specs.Lists.{numbers};
 ghost use Rattle.inode_pass.specs.Notes.{AreFit, notes_of, unit_notes};
 ghost use Rattle.inode_pass.specs.Stops.{is_failed};
 ghost use Rattle.inode_pass.specs.Units.{AreSeen, unit_count, unit_numbers, units_in};

@@ -4,10 +4,10 @@ use Rattle.std.proofs.lemmas.Bool.{cases_Bool, false≢true, or_left, true≢fal
 use Rattle.fs_change.specs.Marks.{Due, dues}
 use Rattle.fs_change.specs.Parts.{is_sick}
 use Rattle.fs_change.specs.Step.{Step}
-use Rattle.fs_derive.specs.Faults.{kind_of_fault}
-use Rattle.fs_derive.specs.Kinds.{unit_of}
-use Rattle.fs_derive.specs.Session.{first_fallen, is_at, is_passed, stands, unit_order, verdict_places}
-use Rattle.fs_derive.specs.declared.plan.Plan.{Plan}
+use Rattle.fs_state.specs.Faults.{kind_of_fault}
+use Rattle.fs_state.specs.Records.{unit_of}
+use Rattle.fs_state.specs.Session.{first_fallen, is_at, is_passed, stands, unit_order, verdict_places}
+use Rattle.fs_state.specs.declared.plan.Plan.{Plan}
 use Rattle.fs_model.specs.declared.entry.Entry.{Entry}
 use Rattle.fs_model.specs.declared.entry.Entry.TheVariants as entries
 use Rattle.fs_model.specs.declared.unit.Trust.TheVariants.{Sick}

@@ -5,9 +5,9 @@ use Rattle.std.specs.Prelude.{not}
 use Rattle.std.proofs.lemmas.Bool.{cases_Bool, false≢true, true≢false}
 use Rattle.fs_change.specs.Edited.{group_of_entry}
 use Rattle.fs_change.specs.Marks.{Due, IsDue, dues, once_each, owners_due, why_left}
-use Rattle.fs_derive.specs.Kinds.{unit_of}
-use Rattle.fs_derive.specs.Session.{is_at, stands}
-use Rattle.fs_derive.specs.declared.plan.Plan.{Plan}
+use Rattle.fs_state.specs.Records.{unit_of}
+use Rattle.fs_state.specs.Session.{is_at, stands}
+use Rattle.fs_state.specs.declared.plan.Plan.{Plan}
 use Rattle.fs_model.specs.declared.entry.Entry.{Entry}
 use Rattle.fs_model.specs.declared.entry.Entry.TheVariants as entries
 use Rattle.fs_said.specs.Said.{SaysOn, Told, told_after}

@@ -4,9 +4,9 @@ use Rattle.std.specs.Prelude.{not}
 use Rattle.std.specs.List.{list_any}
 use Rattle.std.proofs.lemmas.Bool.{and_from, and_left, cases_Bool, false_from_ne_true, false≢true, or_from, or_left, or_right, not_from_false, true≢false}
 use Rattle.fs_change.specs.Edited.{group_of_entry}
-use Rattle.fs_derive.specs.Faults.{kind_of_fault}
-use Rattle.fs_derive.specs.Kinds.{unit_of}
-use Rattle.fs_derive.specs.Session.{is_at, is_passed, is_same_unit, stands}
+use Rattle.fs_state.specs.Faults.{kind_of_fault}
+use Rattle.fs_state.specs.Records.{unit_of}
+use Rattle.fs_state.specs.Session.{is_at, is_passed, is_same_unit, stands}
 use Rattle.fs_model.specs.declared.entry.Entry.{Entry}
 use Rattle.fs_model.specs.declared.entry.Entry.TheVariants as entries
 use Rattle.fs_model.specs.declared.unit.Unit.{Unit as ScrubUnit}

@@ -1,8 +1,8 @@
 -- What was ready has the units judged that it needs.
 use Rattle.std.proofs.Common.{◌≡◌, ℕ, ◌<◌, true, List, [], ◌∷◌, map, refl, inl, inr, Option, Some, None, is_none, arith}
 use Rattle.std.proofs.lemmas.Bool.{false≢true, or_cases}
-use Rattle.fs_derive.specs.Lists.{numbers}
-use Rattle.fs_derive.specs.Session.{Place, first_fallen, first_unready, needed}
+use Rattle.fs_state.specs.Lists.{numbers}
+use Rattle.fs_state.specs.Session.{Place, first_fallen, first_unready, needed}
 use Rattle.fs_model.specs.declared.entry.Entry.{Entry}
 use Rattle.fs_model.specs.declared.entry.Entry.TheVariants as entries
 use Rattle.fs_model.specs.declared.unit.Unit.{Unit as ScrubUnit}

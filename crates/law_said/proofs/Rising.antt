@@ -3,10 +3,10 @@ use Rattle.std.proofs.Common.{◌≡◌, ℕ, List, [], ◌∷◌, refl, Option,
 use Rattle.derive_defs.proofs.ByCountLemmas.{by_count_if_only}
 use Rattle.derive_defs.proofs.SharedLemmas.{shared_rise}
 use Rattle.derive_defs.proofs.SpaceLemmas.{free_rise}
-use Rattle.fs_derive.specs.Derive.{bno_of, cnt_of, derive, fino_of, ino_of, mappings, refc_of}
-use Rattle.fs_derive.specs.Kinds.{kinds_of}
-use Rattle.fs_derive.specs.Laws.{DoRise, EachTree}
-use Rattle.fs_derive.specs.Own.{own, rmap_of}
+use Rattle.fs_state.specs.Derive.{bno_of, cnt_of, derive, fino_of, ino_of, mappings, refc_of}
+use Rattle.fs_state.specs.Records.{kinds_of}
+use Rattle.fs_state.specs.Laws.{DoRise, EachTree}
+use Rattle.fs_state.specs.Own.{own, rmap_of}
 use Rattle.fs_model.specs.declared.unit.Unit.TheVariants as units
 use Rattle.fs_state.proofs.Trees.{lawful_of}
 use Rattle.fs_state.specs.Kinds.{Image, RecOf, form_of, heads_of, level_of, root_of}

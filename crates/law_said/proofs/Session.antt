@@ -7,13 +7,13 @@ use Rattle.fs_change.specs.Edited.{group_of_entry}
 use Rattle.fs_change.specs.Forget.{Forget, found_in}
 use Rattle.fs_change.specs.Marks.{Due, dues}
 use Rattle.fs_change.specs.Step.{Step}
-use Rattle.fs_derive.specs.Derive.{derive}
-use Rattle.fs_derive.specs.Faults.{faults}
-use Rattle.fs_derive.specs.Kinds.{unit_of}
-use Rattle.fs_derive.specs.Laws.{IsGood, IsGoodTree}
-use Rattle.fs_derive.specs.Session.{first_fallen, stands, unit_order, verdict_places}
-use Rattle.fs_derive.specs.declared.plan.Plan.{Plan}
-use Rattle.fs_derive.specs.declared.plan.Plan.TheVariants.{Rebuild}
+use Rattle.fs_state.specs.Derive.{derive}
+use Rattle.fs_state.specs.Faults.{faults}
+use Rattle.fs_state.specs.Records.{unit_of}
+use Rattle.fs_state.specs.Laws.{IsGood, IsGoodTree}
+use Rattle.fs_state.specs.Session.{first_fallen, stands, unit_order, verdict_places}
+use Rattle.fs_state.specs.declared.plan.Plan.{Plan}
+use Rattle.fs_state.specs.declared.plan.Plan.TheVariants.{Rebuild}
 use Rattle.fs_model.specs.declared.entry.Entry.{Entry}
 use Rattle.fs_model.specs.declared.entry.Entry.TheVariants as entries
 use Rattle.fs_model.specs.declared.unit.Unit.{Unit as ScrubUnit}

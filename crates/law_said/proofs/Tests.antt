@@ -3,7 +3,7 @@ use Rattle.std.proofs.Common.{◌≡◌, ℕ, ◌++◌, ◌==◌, ◌&&◌, Bool
 use Rattle.std.specs.Prelude.{if◌then◌else◌}
 use Rattle.std.proofs.lemmas.Bool.{and_parts, false≢true, true≢false}
 use Rattle.std.proofs.lemmas.List.{reverse-append}
-use Rattle.fs_derive.specs.Session.{is_at, is_same_unit}
+use Rattle.fs_state.specs.Session.{is_at, is_same_unit}
 use Rattle.fs_model.specs.declared.entry.Entry.{Entry}
 use Rattle.fs_model.specs.declared.unit.Unit.{Unit as ScrubUnit}
 use Rattle.fs_model.specs.declared.unit.Unit.TheVariants as units

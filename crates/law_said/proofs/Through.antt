@@ -1,7 +1,7 @@
 -- Two parts in a row lead through what each of them leads through.
 use Rattle.std.proofs.Common.{List, [], ◌∷◌, ◌++◌, subst}
 use Rattle.fs_change.specs.Marks.{Due, dues}
-use Rattle.fs_derive.specs.declared.plan.Plan.{Plan}
+use Rattle.fs_state.specs.declared.plan.Plan.{Plan}
 use Rattle.fs_model.specs.declared.entry.Entry.{Entry}
 use Rattle.fs_said.specs.Said.{Told, told_after}
 use Rattle.fs_state.specs.State.{State}

@@ -1,10 +1,10 @@
 -- A verdict that is said to be good is true.
 use Rattle.std.proofs.Common.{◌≡◌, ℕ, [], ◌∷◌, refl, Option, Some, None}
 use Rattle.std.specs.Option.{option_or}
-use Rattle.fs_derive.specs.Claims.{claims}
-use Rattle.fs_derive.specs.Contradiction.{evidence, first_bad_fork, first_contradiction, first_later, first_overlap}
-use Rattle.fs_derive.specs.Laws.{IsGood, NoFaultsExactly}
-use Rattle.fs_derive.specs.Lists.{first_of_all}
+use Rattle.fs_state.specs.Claims.{claims}
+use Rattle.fs_state.specs.Contradiction.{evidence, first_bad_fork, first_contradiction, first_later, first_overlap}
+use Rattle.fs_state.specs.Laws.{IsGood, NoFaultsExactly}
+use Rattle.fs_state.specs.Lists.{first_of_all}
 use Rattle.fs_model.specs.declared.claim.Evidence.{Evidence}
 use Rattle.fs_model.specs.declared.unit.Unit.{Unit as ScrubUnit}
 use Rattle.fs_model.specs.declared.unit.Unit.TheVariants as units

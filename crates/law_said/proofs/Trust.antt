@@ -12,12 +12,12 @@ use Rattle.fs_change.specs.Parts.{edit, in_group, in_trees, records_in, set_bloc
 use Rattle.fs_change.specs.Records.{follow_inode, give_mapping, give_span, is_unwritten_at, put_chunk, set_count, take_mapping, take_span, turn_inode}
 use Rattle.fs_change.specs.Step.{Step}
 use Rattle.fs_change.specs.Switch.{derived_in, exact_counters, hold, join_limbo, moved, owned_by, switched, unit_owner}
-use Rattle.fs_derive.specs.Derive.{derive}
-use Rattle.fs_derive.specs.Faults.{kind_of_fault}
-use Rattle.fs_derive.specs.Kinds.{kinds_of, unit_of}
-use Rattle.fs_derive.specs.Laws.{EachTree}
-use Rattle.fs_derive.specs.Lists.{numbers}
-use Rattle.fs_derive.specs.Session.{is_at, is_same_unit}
+use Rattle.fs_state.specs.Derive.{derive}
+use Rattle.fs_state.specs.Faults.{kind_of_fault}
+use Rattle.fs_state.specs.Records.{kinds_of, unit_of}
+use Rattle.fs_state.specs.Laws.{EachTree}
+use Rattle.fs_state.specs.Lists.{numbers}
+use Rattle.fs_state.specs.Session.{is_at, is_same_unit}
 use Rattle.fs_model.specs.declared.entry.Entry.{Entry}
 use Rattle.fs_model.specs.declared.entry.Entry.TheVariants as entries
 use Rattle.fs_model.specs.declared.entry.Extent.{Extent}

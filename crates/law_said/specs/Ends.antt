@@ -3,10 +3,10 @@ use Rattle.std.specs.Prelude.{◌≡◌, ℕ, ◌<◌, true, false, List, [], �
 use Rattle.std.specs.List.{list_all}
 use Rattle.fs_change.specs.Forget.{Forget, found_in}
 use Rattle.fs_change.specs.Parts.{sick_in}
-use Rattle.fs_derive.specs.Faults.{faults}
-use Rattle.fs_derive.specs.Session.{Session, first_fallen, is_passed, unit_order}
-use Rattle.fs_derive.specs.declared.plan.Plan.{Plan}
-use Rattle.fs_derive.specs.declared.plan.Plan.TheVariants.{Rebuild}
+use Rattle.fs_state.specs.Faults.{faults}
+use Rattle.fs_state.specs.Session.{Session, first_fallen, is_passed, unit_order}
+use Rattle.fs_state.specs.declared.plan.Plan.{Plan}
+use Rattle.fs_state.specs.declared.plan.Plan.TheVariants.{Rebuild}
 use Rattle.fs_model.specs.declared.entry.Entry.{Entry}
 use Rattle.fs_model.specs.declared.entry.Entry.TheVariants as entries
 use Rattle.fs_model.specs.declared.unit.Unit.{Unit as ScrubUnit}

@@ -1,6 +1,6 @@
 -- Journals of a repair, in which no unit is begun again behind its verdict (Online Fsck Design, "Metadata Repair").
 use Rattle.std.specs.Prelude.{◌≡◌, ℕ, ◌||◌, nat_lt, Bool, true, false, List, [], ◌∷◌}
-use Rattle.fs_derive.specs.Session.{is_at}
+use Rattle.fs_state.specs.Session.{is_at}
 use Rattle.fs_model.specs.declared.entry.Entry.{Entry}
 use Rattle.fs_model.specs.declared.entry.Entry.TheVariants as entries
 use Rattle.fs_model.specs.declared.unit.Unit.{Unit as ScrubUnit}

@@ -1,7 +1,7 @@
 -- Which states a journal leads through.
 use Rattle.std.specs.Prelude.{◌≡◌, List, [], ◌∷◌, ◌++◌}
 use Rattle.fs_change.specs.Marks.{Due, dues}
-use Rattle.fs_derive.specs.declared.plan.Plan.{Plan}
+use Rattle.fs_state.specs.declared.plan.Plan.{Plan}
 use Rattle.fs_model.specs.declared.entry.Entry.{Entry}
 use Rattle.fs_said.specs.Said.{SaysOn, Told, told_after}
 use Rattle.fs_state.specs.Kinds.{Image}

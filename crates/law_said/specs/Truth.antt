@@ -2,10 +2,10 @@
 -- trusted (Online Fsck Design, "Metadata Scrubbing").
 use Rattle.std.specs.Prelude.{◌≡◌, ℕ, true, List, ◌++◌, reverse}
 use Rattle.fs_change.specs.Marks.{Due}
-use Rattle.fs_derive.specs.Kinds.{kinds_of}
-use Rattle.fs_derive.specs.Laws.{DoRise, EachTree}
-use Rattle.fs_derive.specs.Session.{stands}
-use Rattle.fs_derive.specs.declared.plan.Plan.{Plan}
+use Rattle.fs_state.specs.Records.{kinds_of}
+use Rattle.fs_state.specs.Laws.{DoRise, EachTree}
+use Rattle.fs_state.specs.Session.{stands}
+use Rattle.fs_state.specs.declared.plan.Plan.{Plan}
 use Rattle.fs_model.specs.declared.entry.Entry.{Entry}
 use Rattle.fs_model.specs.declared.entry.Entry.TheVariants as entries
 use Rattle.fs_model.specs.declared.unit.Unit.{Unit as ScrubUnit}

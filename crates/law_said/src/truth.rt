@@ -1,6 +1,6 @@
 ghost use Rattle.law_said.specs.Truth.{ImagesRise, PastIsJournal, SaidIsTrue, SaidOfImages, StandingIsTrusted};
 
-use fs_derive::no_faults_exactly;
+use fs_state::no_faults_exactly;
 use law_repairs::order_laws::{group_in_order, owners_in_order};
 
 /// A law: a verdict that is said is true as the laws of repairs ask it: a good one of a unit

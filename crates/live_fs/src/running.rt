@@ -22,7 +22,7 @@ use blk_device::Device;
 use check_watch::Watch;
 use core_calls::ScrubFault;
 use core_parts::{MOST_ENTRIES, Parts};
-use fs_derive::Plan;
+use fs_state::Plan;
 use fsck_core::{any_sick, into_device};
 use geom::Geometry;
 use quiet_repair::{Repair, Repaired, no_entry, open_quiet};

@@ -11,7 +11,7 @@ use crate::shared::Shared;
 use blk_device::Device;
 use check_watch::{NoWatch, Watch};
 use core_calls::{Answer, Ask, ScrubFault};
-use fs_derive::Plan;
+use fs_state::Plan;
 use quiet_repair::{take_answer, tell_passed, tell_started};
 use scrub_order::Order;
 use std::alloc::Global;

@@ -11,7 +11,7 @@ use crate::scripts::read_named;
 use crate::words::Names;
 use blk_device::Device;
 use check_watch::Watch;
-use fs_derive::Plan;
+use fs_state::Plan;
 use image_hosts::{OpenFault, Purpose, ScriptHost};
 use live_fs::{Gate, Work, run_device};
 use quiet_repair::Repair;

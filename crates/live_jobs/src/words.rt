@@ -4,7 +4,7 @@ ghost use Rattle.live_jobs.specs.Words.{IsFor};
 ghost use Rattle.xscrub.specs.Command.{command_of, job_in};
 
 use command_line::{Job, Request, parse};
-use fs_derive::Plan;
+use fs_state::Plan;
 use std::alloc::{AllocError, Global};
 
 /// What the words ask of the jobs that let writers run: a scrub of an image beside a script's writers, a

@@ -7,13 +7,13 @@ use Rattle.std.proofs.lemmas.List.{append-nil}
 use Rattle.std.proofs.lemmas.List.Sorted.{All-permutation, Contains-permutation, IsPermutation-append_comm, IsPermutation-append_right, IsPermutation-map, IsPermutation-sym, IsPermutation-trans}
 use Rattle.ag_headers.specs.declared.agf.Agf.{Agf}
 use Rattle.claim_laws.specs.Whole.{ForksAreGood, MappingsOfGroup, OverlapOfGroup}
-use Rattle.fs_derive.specs.Chunks.{inodes}
-use Rattle.fs_derive.specs.Claims.{claims}
-use Rattle.fs_derive.specs.Contradiction.{evidence, first_bad_fork, first_contradiction, first_later, first_overlap, later_in}
-use Rattle.fs_derive.specs.Derive.{derive}
-use Rattle.fs_derive.specs.Faults.{blocks_counted, counter_fault, faults, faults_of_counter, faults_of_kind, index_faults, wanted}
-use Rattle.fs_derive.specs.Lists.{first_of_all}
-use Rattle.fs_derive.specs.Own.{rmap_of}
+use Rattle.fs_state.specs.Chunks.{inodes}
+use Rattle.fs_state.specs.Claims.{claims}
+use Rattle.fs_state.specs.Contradiction.{evidence, first_bad_fork, first_contradiction, first_later, first_overlap, later_in}
+use Rattle.fs_state.specs.Derive.{derive}
+use Rattle.fs_state.specs.Faults.{blocks_counted, counter_fault, faults, faults_of_counter, faults_of_kind, index_faults, wanted}
+use Rattle.fs_state.specs.Lists.{first_of_all}
+use Rattle.fs_state.specs.Own.{rmap_of}
 use Rattle.fs_model.specs.declared.claim.Evidence.{Evidence}
 use Rattle.fs_model.specs.declared.fault.Counter.TheVariants.{RmapBlocks}
 use Rattle.fs_model.specs.declared.fault.Fault.{Fault}

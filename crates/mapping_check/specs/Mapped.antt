@@ -2,10 +2,10 @@
 use Rattle.std.specs.Prelude.{◌≡◌, ℕ, true, List, ◌++◌, None}
 use Rattle.std.specs.List.Sorted.{IsPermutation}
 use Rattle.ag_headers.specs.declared.agf.Agf.{Agf}
-use Rattle.fs_derive.specs.Chunks.{chunks, inodes}
-use Rattle.fs_derive.specs.Claims.{claims}
-use Rattle.fs_derive.specs.Contradiction.{first_bad_fork, first_overlap}
-use Rattle.fs_derive.specs.Faults.{counter_fault, faults}
+use Rattle.fs_state.specs.Chunks.{chunks, inodes}
+use Rattle.fs_state.specs.Claims.{claims}
+use Rattle.fs_state.specs.Contradiction.{first_bad_fork, first_overlap}
+use Rattle.fs_state.specs.Faults.{counter_fault, faults}
 use Rattle.fs_model.specs.declared.fault.Counter.TheVariants.{RmapBlocks}
 use Rattle.fs_model.specs.declared.fault.Fault.{Fault}
 use Rattle.fs_model.specs.declared.unit.Unit.TheVariants as units

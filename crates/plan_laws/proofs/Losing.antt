@@ -7,9 +7,9 @@ use Rattle.std.specs.List.{list_any}
 use Rattle.std.proofs.lemmas.Bool.{cases_lt, eq-eqb, ne_eqb, lt-ltb, le-ltb}
 use Rattle.fs_change.specs.Parts.{records_in}
 use Rattle.fs_change.specs.Switch.{gives_to, lost_blocks, readable_blocks, unclaimed, unit_owner, without_trees}
-use Rattle.fs_derive.specs.Claims.{claims}
-use Rattle.fs_derive.specs.Derive.{mappings}
-use Rattle.fs_derive.specs.Lists.{numbers}
+use Rattle.fs_state.specs.Claims.{claims}
+use Rattle.fs_state.specs.Derive.{mappings}
+use Rattle.fs_state.specs.Lists.{numbers}
 use Rattle.fs_model.specs.declared.unit.Unit.{Unit as ScrubUnit}
 use Rattle.fs_model.specs.declared.unit.Unit.TheVariants as units
 use Rattle.fs_state.specs.Apart.{is_free, listed_free}

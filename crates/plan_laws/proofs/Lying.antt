@@ -4,9 +4,9 @@ use Rattle.std.specs.Prelude.{◌==◌, ◌&&◌, ◌⊎◌, nat_lt, nat_le, if�
 use Rattle.std.specs.List.{filter, list_any}
 use Rattle.std.proofs.lemmas.Bool.{and_from, cases_lt, cases_order, false_from_ne_true, false≢true, le-leb, lt-ltb}
 use Rattle.std.proofs.lemmas.List.Sorted.{IsPermutation-refl}
-use Rattle.fs_derive.specs.Claims.{Claimed}
-use Rattle.fs_derive.specs.Contradiction.{is_written_data, overlap_in}
-use Rattle.fs_derive.specs.Lists.{first_of_all, numbers}
+use Rattle.fs_state.specs.Claims.{Claimed}
+use Rattle.fs_state.specs.Contradiction.{is_written_data, overlap_in}
+use Rattle.fs_state.specs.Lists.{first_of_all, numbers}
 use Rattle.fs_model.specs.declared.claim.Evidence.{Evidence}
 use Rattle.fs_model.specs.declared.claim.Evidence.TheVariants.{Overlap}
 use Rattle.rmap_recs.specs.Runs.{tuple_at}

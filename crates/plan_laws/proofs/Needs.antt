@@ -11,7 +11,7 @@ use Rattle.bulk_load.specs.Shapes.{HasLevel, IsShape, leaves_for, start, width}
 use Rattle.bulk_load.proofs.ShapeLemmas.{enough, items_next, leaf_room, node_room, rises, six_levels, some_wide, start_none, start_on, start_up}
 use Rattle.sblock.specs.Kinds.{leaf_most_of, node_most_of}
 use Rattle.fs_change.specs.Switch.{kind_need, need, need_of}
-use Rattle.fs_derive.specs.Lists.{numbers}
+use Rattle.fs_state.specs.Lists.{numbers}
 use Rattle.fs_model.specs.declared.unit.Unit.{Unit as ScrubUnit}
 use Rattle.fs_model.specs.declared.unit.Unit.TheVariants as units
 use Rattle.fs_state.specs.State.{State}

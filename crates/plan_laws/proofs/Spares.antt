@@ -6,9 +6,9 @@ use Rattle.std.proofs.lemmas.Bool.{cases_lt, false≢true, lt-ltb, le-ltb, le-le
 use Rattle.derive_defs.specs.Mappings.{covers}
 use Rattle.fs_change.specs.Choice.{is_guarded, is_spare, is_unowned, spare_block}
 use Rattle.fs_change.specs.Parts.{is_sick as is_sick_change}
-use Rattle.fs_derive.specs.Claims.{claims, metadata_claims}
-use Rattle.fs_derive.specs.Derive.{bno_of, mappings}
-use Rattle.fs_derive.specs.Lists.{numbers}
+use Rattle.fs_state.specs.Claims.{claims, metadata_claims}
+use Rattle.fs_state.specs.Derive.{bno_of, mappings}
+use Rattle.fs_state.specs.Lists.{numbers}
 use Rattle.fs_model.specs.declared.unit.Trust.{Trust}
 use Rattle.fs_model.specs.declared.unit.Trust.TheVariants.{Unknown, Good, Sick}
 use Rattle.fs_model.specs.declared.unit.Unit.TheVariants as units

@@ -2,7 +2,7 @@
 use Rattle.std.specs.Prelude.{◌≡◌, ◌↔◌, ◌<◌, ◌≤◌, ◌^◌, ℕ, Option, IfSome, length}
 use Rattle.fs_change.specs.Choice.{is_spare, spare_block}
 use Rattle.fs_change.specs.Switch.{need, need_of, prepared}
-use Rattle.fs_derive.specs.Derive.{derive}
+use Rattle.fs_state.specs.Derive.{derive}
 use Rattle.fs_model.specs.declared.unit.Unit.{Unit as ScrubUnit}
 use Rattle.fs_model.specs.declared.unit.Unit.TheVariants as units
 use Rattle.fs_state.specs.State.{State}

@@ -2,8 +2,8 @@
 use Rattle.std.specs.Prelude.{◌≡◌, ◌==◌, ℕ, Bool, true, false, List, []}
 use Rattle.std.specs.List.{list_any}
 use Rattle.fs_change.specs.Switch.{lost_blocks, unit_owner, without_trees}
-use Rattle.fs_derive.specs.Claims.{claims}
-use Rattle.fs_derive.specs.Derive.{mappings}
+use Rattle.fs_state.specs.Claims.{claims}
+use Rattle.fs_state.specs.Derive.{mappings}
 use Rattle.fs_model.specs.declared.unit.Unit.{Unit as ScrubUnit}
 use Rattle.fs_model.specs.declared.unit.Unit.TheVariants as units
 use Rattle.fs_state.specs.Apart.{listed_free}

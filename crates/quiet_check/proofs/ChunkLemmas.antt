@@ -5,10 +5,10 @@ use Rattle.std.specs.List.{filter, list_any}
 use Rattle.std.specs.Option.{is_some}
 use Rattle.std.proofs.lemmas.Bool.{eqb-true, lt-ltb, false≢true}
 use Rattle.byte_fields.specs.Below.{all_below}
-use Rattle.fs_derive.specs.Chunks.{chunks}
-use Rattle.fs_derive.specs.Contradiction.{bad_chunk, bad_in_unit}
-use Rattle.fs_derive.specs.Derive.{over_free}
-use Rattle.fs_derive.specs.Lists.{first_of_all, numbers}
+use Rattle.fs_state.specs.Chunks.{chunks}
+use Rattle.fs_state.specs.Contradiction.{bad_chunk, bad_in_unit}
+use Rattle.fs_state.specs.Derive.{over_free}
+use Rattle.fs_state.specs.Lists.{first_of_all, numbers}
 use Rattle.fs_model.specs.declared.claim.Evidence.{Evidence}
 use Rattle.fs_state.specs.Apart.{has_unit, ino_lists, is_chunk, is_listed, rmap_lists, unit_verifies}
 use Rattle.fs_state.specs.Kinds.{Image}

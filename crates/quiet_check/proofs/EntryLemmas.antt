@@ -1,8 +1,8 @@
 -- What was found of a unit, as entries, is what the state decides.
 use Rattle.std.proofs.Common.{◌≡◌, ℕ, List, [], ◌++◌, Option, refl, ap, sym, ◌∙◌}
-use Rattle.fs_derive.specs.Contradiction.{evidence}
-use Rattle.fs_derive.specs.Faults.{faults}
-use Rattle.fs_derive.specs.Session.{first_unready, needed}
+use Rattle.fs_state.specs.Contradiction.{evidence}
+use Rattle.fs_state.specs.Faults.{faults}
+use Rattle.fs_state.specs.Session.{first_unready, needed}
 use Rattle.fs_model.specs.declared.claim.Evidence.{Evidence}
 use Rattle.fs_model.specs.declared.entry.Entry.{Entry}
 use Rattle.fs_model.specs.declared.fault.Fault.{Fault}

@@ -4,8 +4,8 @@ use Rattle.std.specs.Prelude.{◌==◌, nat_lt, not, sum_by, if◌then◌else◌
 use Rattle.std.specs.List.{filter}
 use Rattle.std.proofs.lemmas.Bool.Decides.{nat_tests}
 use Rattle.ag_headers.specs.declared.agi.Agi.{Agi}
-use Rattle.fs_derive.specs.Faults.{counter_fault}
-use Rattle.fs_derive.specs.Lists.{only_if}
+use Rattle.fs_state.specs.Faults.{counter_fault}
+use Rattle.fs_state.specs.Lists.{only_if}
 use Rattle.fs_model.specs.declared.fault.Counter.{Counter}
 use Rattle.fs_model.specs.declared.fault.Counter.TheVariants.{Count, Freecount, Iblocks, Fblocks}
 use Rattle.fs_model.specs.declared.fault.Fault.{Fault}

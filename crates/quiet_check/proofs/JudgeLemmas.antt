@@ -6,12 +6,12 @@ use Rattle.std.proofs.lemmas.Bool.{lt-ltb}
 use Rattle.std.proofs.lemmas.List.{append-nil}
 use Rattle.std.proofs.lemmas.List.Elements.{All-cons, All-nil}
 use Rattle.std.proofs.lemmas.List.Sums.{sum_by-cons}
-use Rattle.fs_derive.specs.Chunks.{chunks, inode_in}
-use Rattle.fs_derive.specs.Derive.{chunk_record, derive, fino_of, ino_of, is_free}
-use Rattle.fs_derive.specs.Faults.{blocks_counted, counter_fault, faults, faults_of_counter, faults_of_kind, index_faults, wanted}
-use Rattle.fs_derive.specs.Claims.{metadata_claims}
-use Rattle.fs_derive.specs.Contradiction.{bad_block, bad_chunk, bad_tree, evidence, first_contradiction, first_later, first_overlap, later_in}
-use Rattle.fs_derive.specs.Lists.{first_of_all, numbers}
+use Rattle.fs_state.specs.Chunks.{chunks, inode_in}
+use Rattle.fs_state.specs.Derive.{chunk_record, derive, fino_of, ino_of, is_free}
+use Rattle.fs_state.specs.Faults.{blocks_counted, counter_fault, faults, faults_of_counter, faults_of_kind, index_faults, wanted}
+use Rattle.fs_state.specs.Claims.{metadata_claims}
+use Rattle.fs_state.specs.Contradiction.{bad_block, bad_chunk, bad_tree, evidence, first_contradiction, first_later, first_overlap, later_in}
+use Rattle.fs_state.specs.Lists.{first_of_all, numbers}
 use Rattle.fs_model.specs.declared.claim.Evidence.{Evidence}
 use Rattle.fs_model.specs.declared.fault.Fault.{Fault}
 use Rattle.fs_model.specs.declared.fault.Counter.TheVariants.{Count, Freecount, Iblocks, Fblocks}

@@ -7,11 +7,11 @@ use Rattle.ag_headers.specs.declared.agf.Agf.{Agf}
 use Rattle.derive_defs.specs.ByCount.{greatest, ordered_by_count}
 use Rattle.derive_defs.specs.Free.{block_count, free_space}
 use Rattle.derive_defs.specs.Shared.{shared_space}
-use Rattle.fs_derive.specs.Contradiction.{evidence, first_contradiction, first_later, later_in}
-use Rattle.fs_derive.specs.Derive.{bno_of, cnt_of, derive, refc_of}
-use Rattle.fs_derive.specs.Faults.{blocks_counted, faults, faults_of_counter, faults_of_kind, wanted}
-use Rattle.fs_derive.specs.Faults.{beside_roots as beside_in, counter_fault as counter_in, index_faults as index_in}
-use Rattle.fs_derive.specs.Lists.{first_of_all}
+use Rattle.fs_state.specs.Contradiction.{evidence, first_contradiction, first_later, later_in}
+use Rattle.fs_state.specs.Derive.{bno_of, cnt_of, derive, refc_of}
+use Rattle.fs_state.specs.Faults.{blocks_counted, faults, faults_of_counter, faults_of_kind, wanted}
+use Rattle.fs_state.specs.Faults.{beside_roots as beside_in, counter_fault as counter_in, index_faults as index_in}
+use Rattle.fs_state.specs.Lists.{first_of_all}
 use Rattle.fs_model.specs.declared.claim.Evidence.{Evidence}
 use Rattle.fs_model.specs.declared.fault.Counter.{Counter}
 use Rattle.fs_model.specs.declared.fault.Counter.TheVariants.{Freeblks, Longest, Btreeblks, RefcountBlocks}

@@ -1,8 +1,8 @@
 -- How many blocks are read at most to judge a unit of a group.
 use Rattle.std.specs.Prelude.{ℕ, ◌+◌, [], ◌∷◌, Option, Some, None}
 use Rattle.ag_headers.specs.declared.agf.Agf.{Agf}
-use Rattle.fs_derive.specs.Contradiction.{bad_tree, first_later}
-use Rattle.fs_derive.specs.Lists.{first_of_all}
+use Rattle.fs_state.specs.Contradiction.{bad_tree, first_later}
+use Rattle.fs_state.specs.Lists.{first_of_all}
 use Rattle.fs_model.specs.declared.claim.Evidence.{Evidence}
 use Rattle.fs_model.specs.declared.unit.Unit.TheVariants as units
 use Rattle.fs_state.specs.Kinds.{Image}

@@ -1,7 +1,7 @@
 -- Where the inode btrees and their counters differ from what the chunks give, as the code has it.
 use Rattle.std.specs.Prelude.{ℕ, ◌%◌, ◌^◌, nat_lt, Bool, List, [], ◌∷◌, ◌++◌, filter, length, sum_by, Option, Some, None, if◌then◌else◌}
 use Rattle.ag_headers.specs.declared.agi.Agi.{Agi}
-use Rattle.fs_derive.specs.Faults.{counter_fault}
+use Rattle.fs_state.specs.Faults.{counter_fault}
 use Rattle.fs_model.specs.declared.fault.Counter.TheVariants.{Count, Freecount, Iblocks, Fblocks}
 use Rattle.fs_model.specs.declared.fault.Fault.{Fault}
 use Rattle.fs_model.specs.declared.fault.Fault.TheVariants as faulty

@@ -1,9 +1,9 @@
 -- What the check of a unit is: its faults, or the first evidence for which it can't be judged.
 use Rattle.std.specs.Prelude.{◌≡◌, ℕ, ◌/◌, List, [], ◌∷◌, map, Option, Some, None}
-use Rattle.fs_derive.specs.Claims.{metadata_claims}
-use Rattle.fs_derive.specs.Contradiction.{bad_chunk, evidence, first_overlap}
-use Rattle.fs_derive.specs.Faults.{faults}
-use Rattle.fs_derive.specs.Lists.{first_of_all}
+use Rattle.fs_state.specs.Claims.{metadata_claims}
+use Rattle.fs_state.specs.Contradiction.{bad_chunk, evidence, first_overlap}
+use Rattle.fs_state.specs.Faults.{faults}
+use Rattle.fs_state.specs.Lists.{first_of_all}
 use Rattle.fs_model.specs.declared.claim.Evidence.{Evidence}
 use Rattle.fs_model.specs.declared.fault.Fault.{Fault}
 use Rattle.fs_model.specs.declared.unit.Unit.{Unit as ScrubUnit}

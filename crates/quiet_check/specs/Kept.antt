@@ -1,8 +1,8 @@
 -- What is kept of a group's inodes beside what the check of them found: the group's chunks, and what their cores show of
 -- the forks; nothing where the inodes can't be judged.
 use Rattle.std.specs.Prelude.{◌≡◌, ℕ, ◌+◌, ◌*◌, ◌<◌, All, List, [], Option, Some, None}
-use Rattle.fs_derive.specs.Chunks.{chunks}
-use Rattle.fs_derive.specs.Contradiction.{evidence}
+use Rattle.fs_state.specs.Chunks.{chunks}
+use Rattle.fs_state.specs.Contradiction.{evidence}
 use Rattle.fs_model.specs.declared.claim.Evidence.{Evidence}
 use Rattle.fs_model.specs.declared.unit.Unit.TheVariants as units
 use Rattle.fs_state.specs.Kinds.{Image, heads_of}

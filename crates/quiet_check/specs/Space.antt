@@ -1,8 +1,8 @@
 -- What the trees of a group's free space and reference counts say against their derivation, and how both are judged.
 use Rattle.std.specs.Prelude.{◌≡◌, ℕ, List, [], ◌∷◌, length, Option, None, Ok, Err}
 use Rattle.ag_headers.specs.declared.agf.Agf.{Agf}
-use Rattle.fs_derive.specs.Contradiction.{later_fault}
-use Rattle.fs_derive.specs.Lists.{first_of_all}
+use Rattle.fs_state.specs.Contradiction.{later_fault}
+use Rattle.fs_state.specs.Lists.{first_of_all}
 use Rattle.fs_model.specs.declared.claim.Evidence.{Evidence}
 use Rattle.fs_model.specs.declared.unit.Unit.TheVariants as units
 use Rattle.fs_state.specs.Kinds.{Image, heads_of}

@@ -1,7 +1,7 @@
 -- The units of a group that its btrees list, as the code has them.
 use Rattle.std.specs.Prelude.{◌≡◌, ℕ, ◌/◌, [], ◌∷◌, Option, None, if◌then◌else◌}
-use Rattle.fs_derive.specs.Contradiction.{bad_block, later_in}
-use Rattle.fs_derive.specs.Lists.{first_of_all}
+use Rattle.fs_state.specs.Contradiction.{bad_block, later_in}
+use Rattle.fs_state.specs.Lists.{first_of_all}
 use Rattle.fs_model.specs.declared.claim.Evidence.{Evidence}
 use Rattle.fs_state.specs.State.{is_readable, recs_of}
 use Rattle.index_derive.specs.Units.{is_listed_by}

@@ -1,5 +1,5 @@
 ghost use Rattle.std.specs.Prelude.{◌≡◌, ◌++◌, None, IfOk, OnOk, if◌then◌else◌, map};
-ghost use Rattle.fs_derive.specs.Lists.{first_of_all};
+ghost use Rattle.fs_state.specs.Lists.{first_of_all};
 ghost use Rattle.quiet_check.specs.Chunks.{bad_where, chunk_from, chunk_numbers};
 ghost use Rattle.run_sets.specs.Runs.{AreMaximal};
 

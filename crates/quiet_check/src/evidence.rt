@@ -1,5 +1,5 @@
 ghost use Rattle.std.specs.Prelude.{◌≡◌, None, if◌then◌else◌};
-ghost use Rattle.fs_derive.specs.Contradiction.{bad_block, later_fault as later_fault_of, later_in as later_of};
+ghost use Rattle.fs_state.specs.Contradiction.{bad_block, later_fault as later_fault_of, later_in as later_of};
 ghost use Rattle.fs_state.specs.State.{is_readable};
 ghost use Rattle.group_trees.specs.Trees.{reading_of};
 ghost use Rattle.quiet_check.specs.Units.{evidence_in};

@@ -1,5 +1,5 @@
 ghost use Rattle.std.specs.Prelude.{◌≡◌, ◌%◌, ◌^◌, ◌++◌, IfOk, OnOk, sum_by};
-ghost use Rattle.fs_derive.specs.Faults.{counter_fault};
+ghost use Rattle.fs_state.specs.Faults.{counter_fault};
 ghost use Rattle.ino_recs.specs.Chunks.{fino_form, ino_form};
 ghost use Rattle.quiet_check.specs.Faults.{blocks_kept, counter_faults, faults_in, inode_faults as inode_faults_of};
 ghost use Rattle.group_trees.specs.Trees.{RisesIfRead, reading_of};

@@ -13,7 +13,7 @@ use byte_fields::Steps;
 use check_watch::Watch;
 use core_calls::{Answer, Ask, Phase, ScrubFault};
 use core_parts::Parts;
-use fs_derive::Plan;
+use fs_state::Plan;
 use fsck_core::act;
 use scrub_order::Order;
 use std::alloc::Global;

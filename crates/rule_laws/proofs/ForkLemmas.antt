@@ -8,7 +8,7 @@ use Rattle.std.proofs.lemmas.Bool.Decides.{nat_tests}
 use Rattle.dinode_core.specs.declared.mapping.Mapping.{Mapping}
 use Rattle.fork_change.specs.Lists as rule
 use Rattle.fork_change.specs.Lists.{added, taken}
-use Rattle.fs_derive.specs.Lists.{only_if}
+use Rattle.fs_state.specs.Lists.{only_if}
 use Rattle.fs_change.specs.Records as step
 use Rattle.fs_change.specs.Records.{add_mapping, take_piece}
 use Rattle.rule_laws.specs.Forks.{AreInOrder, AreApart, AddsAlike, ConvertsAlike, TakesAlike, OccupiedAlike, PieceAlike}

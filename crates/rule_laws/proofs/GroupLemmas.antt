@@ -21,7 +21,7 @@ use Rattle.free_space.specs.Choice as choices
 use Rattle.free_space.specs.declared.choice.GroupSpace.{GroupSpace}
 use Rattle.free_space.specs.declared.choice.NoRun.{NoRun}
 use Rattle.intent_drain.specs.Chains.{chain_at, count_in, owed_by}
-use Rattle.fs_derive.specs.Lists.{numbers}
+use Rattle.fs_state.specs.Lists.{numbers}
 use Rattle.fs_change.specs.Chains.{is_quiet, pending}
 use Rattle.fs_change.specs.Choice.{chosen_of, extent, first_in, fitting, front_in, is_usable, last_of, space_kinds}
 use Rattle.fs_change.specs.Parts.{records_in, sick_in}

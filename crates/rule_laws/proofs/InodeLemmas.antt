@@ -10,7 +10,7 @@ use Rattle.ino_recs.specs.declared.chunk.InoRec.{InoRec}
 use Rattle.inode_table.specs.Cores.{fresh_file, free_core, given_back}
 use Rattle.inode_table.specs.Masks.{fino_of}
 use Rattle.inode_table.proofs.MaskLemmas.{sum_more}
-use Rattle.fs_derive.specs.Lists.{numbers}
+use Rattle.fs_state.specs.Lists.{numbers}
 use Rattle.fs_change.specs.Choice.{is_bit}
 use Rattle.fs_change.specs.Records.{follow_inode, has_inode, put_all, put_chunk, turn_inode, turned}
 use Rattle.rule_laws.specs.Inodes.{CoresAlike, FindsLowest, FindsNone, GivesInode, MakesAlike, TakesInode, TurnsAlike, with_listed}

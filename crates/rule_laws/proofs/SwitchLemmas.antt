@@ -21,10 +21,10 @@ use Rattle.sblock.specs.declared.kind.Kind.{Kind}
 use Rattle.sblock.specs.declared.kind.Kind.TheVariants as kinds
 use Rattle.fs_state.specs.Kinds.{RecOf}
 use Rattle.fs_state.specs.State.{State, Group}
-use Rattle.fs_derive.specs.Derive.{bno_of, cnt_of, derive}
-use Rattle.fs_derive.specs.Faults.{wanted}
-use Rattle.fs_derive.specs.Faults as faults
-use Rattle.fs_derive.specs.Kinds.{kinds_of}
+use Rattle.fs_state.specs.Derive.{bno_of, cnt_of, derive}
+use Rattle.fs_state.specs.Faults.{wanted}
+use Rattle.fs_state.specs.Faults as faults
+use Rattle.fs_state.specs.Records.{kinds_of}
 use Rattle.fs_change.proofs.Owed.{same_at}
 use Rattle.fs_change.specs.Changes.{last_count}
 use Rattle.fs_change.specs.Parts.{in_trees}

@@ -16,8 +16,8 @@ use Rattle.sblock.specs.declared.kind.Kind.TheVariants as kinds
 use Rattle.span_recs.specs.declared.span.SpanRec.{SpanRec}
 use Rattle.fs_state.specs.Read.{counter_in}
 use Rattle.fs_state.specs.State.{State}
-use Rattle.fs_derive.specs.Derive.{cnt_of, ino_of}
-use Rattle.fs_derive.specs.Faults.{blocks_counted}
+use Rattle.fs_state.specs.Derive.{cnt_of, ino_of}
+use Rattle.fs_state.specs.Faults.{blocks_counted}
 use Rattle.fs_change.specs.Switch.{derived_in, moved, switched}
 
 -- ---- totals of records

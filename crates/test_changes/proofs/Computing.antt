@@ -3,12 +3,12 @@ use Rattle.byte_fields.specs.Below.{all_below}
 use Rattle.bulk_load.specs.Shapes.{width, start, leaves_for}
 use Rattle.derive_defs.specs.ByCount.{ordered_by_count}
 use Rattle.derive_defs.specs.Free.{is_free, free_space}
-use Rattle.fs_derive.specs.Chunks.{chunks, inodes_in, inodes}
-use Rattle.fs_derive.specs.Claims.{metadata_claims, fork_claims, claims}
-use Rattle.fs_derive.specs.Contradiction.{first_later, bad_tree, bad_chunk, is_written_data, first_overlap, first_contradiction, first_bad_fork, evidence}
-use Rattle.fs_derive.specs.Derive.{ino_of, fino_of, bno_of, cnt_of, refc_of, derive}
-use Rattle.fs_derive.specs.Faults.{wanted, faults}
-use Rattle.fs_derive.specs.Own.{comes_before, own, rmap_of}
+use Rattle.fs_state.specs.Chunks.{chunks, inodes_in, inodes}
+use Rattle.fs_state.specs.Claims.{metadata_claims, fork_claims, claims}
+use Rattle.fs_state.specs.Contradiction.{first_later, bad_tree, bad_chunk, is_written_data, first_overlap, first_contradiction, first_bad_fork, evidence}
+use Rattle.fs_state.specs.Derive.{ino_of, fino_of, bno_of, cnt_of, refc_of, derive}
+use Rattle.fs_state.specs.Faults.{wanted, faults}
+use Rattle.fs_state.specs.Own.{comes_before, own, rmap_of}
 use Rattle.fs_state.specs.Apart.{ino_lists, rmap_lists, block_verifies, unit_verifies, has_unit, is_listed, is_chunk, is_inode, is_free as in_spans}
 use Rattle.fs_state.specs.Kinds.{form_of}
 use Rattle.geom.specs.Numbers.{split}

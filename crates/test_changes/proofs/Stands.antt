@@ -20,11 +20,11 @@ use Rattle.fs_state.specs.Group.{is_among}
 use Rattle.fs_state.specs.State.{State, Group, blocks_in}
 use Rattle.fs_state.specs.declared.intent.Intent.{Intent}
 use Rattle.fs_state.specs.declared.intent.IntentKind.TheVariants.{Free}
-use Rattle.fs_derive.specs.Contradiction.{evidence}
-use Rattle.fs_derive.specs.Derive.{is_free}
-use Rattle.fs_derive.specs.Faults.{kind_of_fault}
-use Rattle.fs_derive.specs.Kinds.{unit_of, kinds_of}
-use Rattle.fs_derive.specs.Lists.{numbers}
+use Rattle.fs_state.specs.Contradiction.{evidence}
+use Rattle.fs_state.specs.Derive.{is_free}
+use Rattle.fs_state.specs.Faults.{kind_of_fault}
+use Rattle.fs_state.specs.Records.{unit_of, kinds_of}
+use Rattle.fs_state.specs.Lists.{numbers}
 use Rattle.fs_change.proofs.Stays.{decided_stands, stays}
 use Rattle.fs_change.specs.Chains.{gives, takes, pending, is_quiet}
 use Rattle.fs_change.specs.Changes.{rmap_done, ref_done, freed, reserved, owner_of_run, reaped, marked, judged, data_of}

@@ -7,7 +7,7 @@ use Rattle.fs_model.specs.declared.unit.Unit.TheVariants as units
 use Rattle.sblock.specs.declared.kind.Kind.{Kind}
 use Rattle.sblock.specs.declared.kind.Kind.TheVariants.{Bno, Cnt, Rmap, Ino, Fino}
 use Rattle.fs_state.specs.State.{State, Group}
-use Rattle.fs_derive.specs.Lists.{numbers}
+use Rattle.fs_state.specs.Lists.{numbers}
 use Rattle.fs_change.specs.Changes.{taken}
 use Rattle.fs_change.specs.Choice.{chosen, chunk_run, extent}
 use Rattle.fs_change.specs.Loose.{Loosely, MovesBlocks, count_used, is_limbo_due, used_blocks}

@@ -15,10 +15,10 @@ use Rattle.fs_model.specs.declared.verdict.Verdict.TheVariants.{Good, Rebuilt, G
 use Rattle.sblock.specs.declared.block.BlockFault.TheVariants.{Checksum}
 use Rattle.sblock.specs.declared.kind.Kind.TheVariants.{Bno, Cnt, Rmap, Refc}
 use Rattle.fs_state.specs.State.{State, Readable, Unreadable}
-use Rattle.fs_derive.specs.Contradiction.{evidence}
-use Rattle.fs_derive.specs.Faults.{faults}
-use Rattle.fs_derive.specs.Laws.{EachTree}
-use Rattle.fs_derive.specs.Kinds.{all_kinds}
+use Rattle.fs_state.specs.Contradiction.{evidence}
+use Rattle.fs_state.specs.Faults.{faults}
+use Rattle.fs_state.specs.Laws.{EachTree}
+use Rattle.fs_state.specs.Records.{all_kinds}
 use Rattle.fs_change.specs.Changes.{marked, judged, reserved, reaped}
 use Rattle.fs_change.specs.Choice.{extent, spare_block}
 use Rattle.fs_change.specs.Forget.{Forget, forgotten}

@@ -13,7 +13,7 @@ use Rattle.fs_model.specs.declared.unit.Trust.TheVariants.{Sick}
 use Rattle.fs_model.specs.declared.unit.Unit.TheVariants as units
 use Rattle.sblock.specs.declared.kind.Kind.TheVariants.{Bno, Cnt, Rmap, Refc, Ino}
 use Rattle.fs_state.specs.State.{State}
-use Rattle.fs_derive.specs.Faults.{faults}
+use Rattle.fs_state.specs.Faults.{faults}
 use Rattle.fs_change.specs.Chains.{settled_forks, settled_own, is_quiet}
 use Rattle.fs_change.specs.Changes.{mapped, unmapped, converted, shared, rmap_done, ref_done, freed, taken, marked, data_of, give_owner}
 use Rattle.fs_change.specs.Choice.{extent}

@@ -11,10 +11,10 @@ use Rattle.fs_model.specs.declared.unit.Trust.TheVariants.{Unknown, Sick}
 use Rattle.fs_model.specs.declared.unit.Unit.TheVariants as units
 use Rattle.sblock.specs.declared.kind.Kind.TheVariants.{Bno, Cnt, Rmap, Ino}
 use Rattle.fs_state.specs.State.{State, Group}
-use Rattle.fs_derive.specs.Derive.{bno_of, cnt_of}
-use Rattle.fs_derive.specs.Faults.{faults}
-use Rattle.fs_derive.specs.Lists.{numbers}
-use Rattle.fs_derive.specs.Own.{rmap_of}
+use Rattle.fs_state.specs.Derive.{bno_of, cnt_of}
+use Rattle.fs_state.specs.Faults.{faults}
+use Rattle.fs_state.specs.Lists.{numbers}
+use Rattle.fs_state.specs.Own.{rmap_of}
 use Rattle.fs_change.specs.Changes.{mapped, taken, refilled, trimmed, reserved, rmap_done, marked}
 use Rattle.fs_change.specs.Choice.{extent, spare_block}
 use Rattle.fs_change.specs.Forget.{forgotten}

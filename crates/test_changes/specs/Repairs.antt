@@ -10,8 +10,8 @@ use Rattle.sblock.specs.declared.block.BlockFault.TheVariants.{Checksum}
 use Rattle.sblock.specs.declared.kind.Kind.{Kind}
 use Rattle.sblock.specs.declared.kind.Kind.TheVariants.{Bno, Cnt, Rmap, Refc, Ino, Fino}
 use Rattle.fs_state.specs.State.{State}
-use Rattle.fs_derive.specs.Faults.{faults}
-use Rattle.fs_derive.specs.Lists.{numbers}
+use Rattle.fs_state.specs.Faults.{faults}
+use Rattle.fs_state.specs.Lists.{numbers}
 use Rattle.fs_change.specs.Changes.{marked, judged, reserved, reaped}
 use Rattle.fs_change.specs.Choice.{extent, spare_block}
 use Rattle.fs_change.specs.Loose.{tree_blocks}

@@ -7,8 +7,8 @@ use Rattle.fs_model.specs.declared.unit.Unit.TheVariants as units
 use Rattle.fs_model.specs.declared.verdict.Verdict.TheVariants.{Rebuilt}
 use Rattle.sblock.specs.declared.kind.Kind.TheVariants.{Rmap}
 use Rattle.fs_state.specs.State.{State}
-use Rattle.fs_derive.specs.Faults.{faults}
-use Rattle.fs_derive.specs.Lists.{numbers}
+use Rattle.fs_state.specs.Faults.{faults}
+use Rattle.fs_state.specs.Lists.{numbers}
 use Rattle.fs_change.specs.Chains.{settled_forks, is_quiet}
 use Rattle.fs_change.specs.Changes.{mapped, taken, judged, reserved}
 use Rattle.fs_change.specs.Parts.{records_in}

@@ -10,13 +10,13 @@ use Rattle.fs_change.specs.Choice.{is_guarded, is_spare, spare_block}
 use Rattle.fs_change.specs.Edited.{leaves_faults}
 use Rattle.fs_change.specs.Records.{take_span, give_span, give_mapping, take_mapping}
 use Rattle.fs_change.specs.Switch.{need_of, without_trees, lost_blocks, prepared, need, limbo_of, moved, switched}
-use Rattle.fs_derive.specs.Chunks.{chunks, inodes_in, inodes}
-use Rattle.fs_derive.specs.Claims.{metadata_claims, fork_claims, claims}
-use Rattle.fs_derive.specs.Contradiction.{first_later, bad_tree, bad_chunk, is_written_data, first_overlap, first_contradiction, first_bad_fork, evidence}
-use Rattle.fs_derive.specs.Derive.{ino_of, fino_of, bno_of, cnt_of, refc_of, derive}
-use Rattle.fs_derive.specs.Faults.{wanted, faults}
-use Rattle.fs_derive.specs.Own.{comes_before, own, rmap_of}
-use Rattle.fs_derive.specs.Session.{unit_order, verdict_places, first_unready, needed, stands}
+use Rattle.fs_state.specs.Chunks.{chunks, inodes_in, inodes}
+use Rattle.fs_state.specs.Claims.{metadata_claims, fork_claims, claims}
+use Rattle.fs_state.specs.Contradiction.{first_later, bad_tree, bad_chunk, is_written_data, first_overlap, first_contradiction, first_bad_fork, evidence}
+use Rattle.fs_state.specs.Derive.{ino_of, fino_of, bno_of, cnt_of, refc_of, derive}
+use Rattle.fs_state.specs.Faults.{wanted, faults}
+use Rattle.fs_state.specs.Own.{comes_before, own, rmap_of}
+use Rattle.fs_state.specs.Session.{unit_order, verdict_places, first_unready, needed, stands}
 use Rattle.fs_said.specs.Said.{was_ready}
 use Rattle.fs_state.specs.Apart.{ino_lists, rmap_lists, block_verifies, unit_verifies, has_unit, is_listed, is_chunk, is_inode, is_free as in_spans}
 use Rattle.fs_state.specs.Kinds.{form_of}

@@ -13,10 +13,10 @@ use Rattle.fs_model.specs.declared.verdict.Verdict.{Verdict}
 use Rattle.sblock.specs.declared.kind.Kind.TheVariants.{Rmap}
 use Rattle.sblock.specs.declared.kind.Kind.{Kind}
 use Rattle.fs_state.specs.State.{State, Group, blocks_in}
-use Rattle.fs_derive.specs.Contradiction.{evidence}
-use Rattle.fs_derive.specs.Faults.{kind_of_fault}
-use Rattle.fs_derive.specs.Kinds.{unit_of, kinds_of}
-use Rattle.fs_derive.specs.Lists.{numbers}
+use Rattle.fs_state.specs.Contradiction.{evidence}
+use Rattle.fs_state.specs.Faults.{kind_of_fault}
+use Rattle.fs_state.specs.Records.{unit_of, kinds_of}
+use Rattle.fs_state.specs.Lists.{numbers}
 use Rattle.fs_change.proofs.Stays.{decided_stands}
 use Rattle.fs_change.specs.Chains.{is_quiet}
 use Rattle.fs_change.specs.Changes.{reserved, owner_of_run, reaped, marked, judged}

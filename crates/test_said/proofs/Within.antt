@@ -4,9 +4,9 @@ use Rattle.std.specs.Prelude.{◌&&◌, nat_le, flat_map}
 use Rattle.std.proofs.lemmas.Bool.{and_parts, leb-true}
 use Rattle.derive_defs.specs.Mappings.{EndWithin}
 use Rattle.derive_defs.specs.Shared.{sharers, refc_of as record_of}
-use Rattle.fs_derive.proofs.SharedWithin.{shared_within}
-use Rattle.fs_derive.specs.Derive.{mappings, refc_of, derive}
-use Rattle.fs_derive.specs.Faults.{index_faults, faults_of_counter, faults}
+use Rattle.fs_state.proofs.SharedWithin.{shared_within}
+use Rattle.fs_state.specs.Derive.{mappings, refc_of, derive}
+use Rattle.fs_state.specs.Faults.{index_faults, faults_of_counter, faults}
 use Rattle.fs_model.specs.declared.fault.Counter.TheVariants.{RefcountBlocks}
 use Rattle.fs_model.specs.declared.fault.Fault.{Fault}
 use Rattle.fs_model.specs.declared.unit.Unit.TheVariants as units

@@ -2,10 +2,10 @@
 use Rattle.std.specs.Prelude.{◌≡◌, ℕ, false, List, [], ◌∷◌, reverse, None}
 use Rattle.fs_change.specs.Choice.{extent}
 use Rattle.fs_change.specs.Forget.{forgotten}
-use Rattle.fs_derive.specs.Faults.{faults}
-use Rattle.fs_derive.specs.Session.{Session, first_fallen, unit_order}
-use Rattle.fs_derive.specs.declared.plan.Plan.{Plan}
-use Rattle.fs_derive.specs.declared.plan.Plan.TheVariants.{Check, Repair}
+use Rattle.fs_state.specs.Faults.{faults}
+use Rattle.fs_state.specs.Session.{Session, first_fallen, unit_order}
+use Rattle.fs_state.specs.declared.plan.Plan.{Plan}
+use Rattle.fs_state.specs.declared.plan.Plan.TheVariants.{Check, Repair}
 use Rattle.fs_model.specs.declared.claim.Claim.TheVariants.{Heads, Data}
 use Rattle.fs_model.specs.declared.claim.Evidence.TheVariants.{Overlap}
 use Rattle.fs_model.specs.declared.entry.Entry.{Entry}

@@ -1,9 +1,9 @@
 -- Entries that don't tell the truth, behind entries that do.
 use Rattle.std.specs.Prelude.{ℕ, false, List, [], ◌∷◌, ⊤}
 use Rattle.fs_change.specs.Changes.{judged, marked, reserved}
-use Rattle.fs_derive.specs.Faults.{kind_of_fault}
-use Rattle.fs_derive.specs.declared.plan.Plan.{Plan}
-use Rattle.fs_derive.specs.declared.plan.Plan.TheVariants.{Check, Repair, Rebuild}
+use Rattle.fs_state.specs.Faults.{kind_of_fault}
+use Rattle.fs_state.specs.declared.plan.Plan.{Plan}
+use Rattle.fs_state.specs.declared.plan.Plan.TheVariants.{Check, Repair, Rebuild}
 use Rattle.fs_model.specs.declared.claim.Claim.TheVariants.{Heads, Data}
 use Rattle.fs_model.specs.declared.claim.Evidence.TheVariants.{Overlap}
 use Rattle.fs_model.specs.declared.entry.Entry.{Entry}

@@ -18,7 +18,7 @@ use Rattle.span_recs.specs.declared.refcount.RefcRec.{RefcRec}
 use Rattle.span_recs.specs.declared.span.SpanRec.{SpanRec}
 use Rattle.fs_state.specs.Kinds.{RecOf}
 use Rattle.fs_state.specs.State.{State, Group, Index, Readable, Unreadable, CoreState, Broken, Whole, ForkList}
-use Rattle.fs_derive.specs.Lists.{numbers}
+use Rattle.fs_state.specs.Lists.{numbers}
 
 -- ---- records
 

@@ -25,12 +25,12 @@ use Rattle.rmap_recs.specs.declared.records.RmapRec.{RmapRec}
 use Rattle.sblock.specs.declared.block.BlockFault.TheVariants.{Checksum, Level, Sibling, Range, Later as LaterForm}
 use Rattle.sblock.specs.declared.kind.Kind.TheVariants.{Bno, Rmap, Refc, Ino, Fino}
 use Rattle.fs_state.specs.State.{State, Group, Index, Broken, ForkList}
-use Rattle.fs_derive.specs.Contradiction.{evidence}
-use Rattle.fs_derive.specs.Faults.{faults}
-use Rattle.fs_derive.specs.Lists.{numbers}
-use Rattle.fs_derive.specs.Session.{Session, unit_order}
-use Rattle.fs_derive.specs.declared.plan.Plan.{Plan}
-use Rattle.fs_derive.specs.declared.plan.Plan.TheVariants.{Check, Repair, Rebuild}
+use Rattle.fs_state.specs.Contradiction.{evidence}
+use Rattle.fs_state.specs.Faults.{faults}
+use Rattle.fs_state.specs.Lists.{numbers}
+use Rattle.fs_state.specs.Session.{Session, unit_order}
+use Rattle.fs_state.specs.declared.plan.Plan.{Plan}
+use Rattle.fs_state.specs.declared.plan.Plan.TheVariants.{Check, Repair, Rebuild}
 use Rattle.test_states.specs.Images.{Trees, image, image_a, group_with, fresh_with, file_with, fork_with, forks_of, of_fork, no_forks, trees_a, trees_with_file, tree_of, bad, counters_with, span, shared, mapped, chunk, mapping, fs, log, ag, inobt, inodes, refc, mask, free_a, mappings_a, cores_to}
 
 -- a unit with these faults, and nothing that contradicts its derivation

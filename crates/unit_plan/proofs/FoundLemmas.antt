@@ -10,9 +10,9 @@ use Rattle.fs_model.specs.declared.claim.Evidence.{Evidence}
 use Rattle.fs_model.specs.declared.claim.Evidence.TheVariants.{Overlap}
 use Rattle.run_sets.specs.Runs.{is_within}
 use Rattle.rmap_recs.specs.Words.{is_unwritten}
-use Rattle.fs_derive.specs.Claims.{Claimed, unwritten}
-use Rattle.fs_derive.specs.Contradiction.{is_data, is_written_data, overlap_in}
-use Rattle.fs_derive.specs.Lists.{numbers, first_of_all}
+use Rattle.fs_state.specs.Claims.{Claimed, unwritten}
+use Rattle.fs_state.specs.Contradiction.{is_data, is_written_data, overlap_in}
+use Rattle.fs_state.specs.Lists.{numbers, first_of_all}
 use Rattle.unit_plan.specs.declared.order.Firsts.{Firsts}
 use Rattle.unit_plan.specs.declared.order.Firsts.TheVariants.{Nothing, One, Two}
 use Rattle.unit_plan.specs.declared.piece.Among.{Among}

@@ -9,9 +9,9 @@ use Rattle.fs_model.specs.declared.claim.Claim.{Claim}
 use Rattle.fs_model.specs.declared.claim.Evidence.{Evidence}
 use Rattle.fs_model.specs.declared.claim.Evidence.TheVariants.{Overlap}
 use Rattle.geom.specs.Layout.{group_len_of}
-use Rattle.fs_derive.specs.Claims.{Claimed}
-use Rattle.fs_derive.specs.Contradiction.{is_written_data, overlap_in, overlap_among, first_overlap}
-use Rattle.fs_derive.specs.Lists.{numbers, first_of_all}
+use Rattle.fs_state.specs.Claims.{Claimed}
+use Rattle.fs_state.specs.Contradiction.{is_written_data, overlap_in, overlap_among, first_overlap}
+use Rattle.fs_state.specs.Lists.{numbers, first_of_all}
 use Rattle.unit_plan.specs.declared.piece.Among.{Among}
 use Rattle.unit_plan.specs.declared.piece.Piece.{Piece}
 use Rattle.derive_defs.specs.Mappings.{covers}

@@ -5,9 +5,9 @@ use Rattle.dinode_core.specs.Inline.{first_bad}
 use Rattle.dinode_core.specs.declared.mapping.Fork.{Fork}
 use Rattle.dinode_core.specs.declared.mapping.Fork.TheVariants as forks
 use Rattle.dinode_core.specs.declared.mapping.Mapping.{Mapping}
-use Rattle.fs_derive.specs.Chunks.{inodes}
-use Rattle.fs_derive.specs.Claims.{Claimed, attribute, fork_of, fork_tree, metadata_claims, word_of}
-use Rattle.fs_derive.specs.Lists.{numbers, only_if}
+use Rattle.fs_state.specs.Chunks.{inodes}
+use Rattle.fs_state.specs.Claims.{Claimed, attribute, fork_of, fork_tree, metadata_claims, word_of}
+use Rattle.fs_state.specs.Lists.{numbers, only_if}
 use Rattle.fs_model.specs.declared.claim.Claim.{Claim}
 use Rattle.fs_model.specs.declared.claim.Claim.TheVariants.{Data, Attr, ForkTree}
 use Rattle.fs_state.specs.State.{State, ForkList}

@@ -7,9 +7,9 @@ use Rattle.fs_model.specs.declared.claim.Evidence.{Evidence}
 use Rattle.geom.specs.Layout.{group_len_of}
 use Rattle.fs_state.specs.State.{State}
 use Rattle.fs_state.specs.Apart.{listed_free}
-use Rattle.fs_derive.specs.Claims.{Claimed, claims, metadata_claims}
-use Rattle.fs_derive.specs.Derive.{bno_of, mappings}
-use Rattle.fs_derive.specs.Contradiction.{is_written_data, first_overlap}
+use Rattle.fs_state.specs.Claims.{Claimed, claims, metadata_claims}
+use Rattle.fs_state.specs.Derive.{bno_of, mappings}
+use Rattle.fs_state.specs.Contradiction.{is_written_data, first_overlap}
 use Rattle.derive_defs.specs.Mappings.{covers}
 use Rattle.fs_model.specs.declared.unit.Trust.{Trust}
 use Rattle.fs_model.specs.declared.unit.Unit.{Unit as ScrubUnit}

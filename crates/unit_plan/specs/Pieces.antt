@@ -5,9 +5,9 @@ use Rattle.fs_model.specs.declared.claim.Claim.{Claim}
 use Rattle.fs_model.specs.declared.claim.Claim.TheVariants.{Heads, Log, List as FreeList, Tree, Reserve, Limbo, Chunk, Data, Attr, ForkTree, Staging}
 use Rattle.run_sets.specs.Runs.{is_within}
 use Rattle.rmap_recs.specs.Words.{is_unwritten}
-use Rattle.fs_derive.specs.Claims.{Claimed, unwritten}
-use Rattle.fs_derive.specs.Contradiction.{is_data}
-use Rattle.fs_derive.specs.Lists.{numbers}
+use Rattle.fs_state.specs.Claims.{Claimed, unwritten}
+use Rattle.fs_state.specs.Contradiction.{is_data}
+use Rattle.fs_state.specs.Lists.{numbers}
 use Rattle.unit_plan.specs.declared.piece.Among.{Among}
 use Rattle.unit_plan.specs.declared.piece.Among.TheVariants.{All as AllClaims, Metadata}
 use Rattle.unit_plan.specs.declared.piece.Piece.{Piece}

@@ -1,8 +1,8 @@
 -- A set of claims, as contracts see it, and its first overlap.
 use Rattle.std.specs.Prelude.{◌≡◌, ℕ, ◌+◌, ◌≤◌, List, [], ◌∷◌, Option}
 use Rattle.fs_model.specs.declared.claim.Evidence.{Evidence}
-use Rattle.fs_derive.specs.Contradiction.{overlap_among}
-use Rattle.fs_derive.specs.Lists.{numbers}
+use Rattle.fs_state.specs.Contradiction.{overlap_among}
+use Rattle.fs_state.specs.Lists.{numbers}
 use Rattle.unit_plan.specs.declared.claims.ClaimSet.{ClaimSet}
 use Rattle.unit_plan.specs.declared.piece.Among.{Among}
 use Rattle.unit_plan.specs.declared.piece.Piece.{Piece}

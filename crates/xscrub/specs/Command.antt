@@ -3,8 +3,8 @@ use Rattle.std.specs.Prelude.{◌≡◌, ℕ, Bool, if◌then◌else◌, List, O
 use Rattle.std.specs.declared.string.String.{String}
 use Rattle.std.specs.declared.alloc.Global.{Global}
 use Rattle.command_line.specs.Requests.{Asked, Text, asked_by}
-use Rattle.fs_derive.specs.declared.plan.Plan.{Plan}
-use Rattle.fs_derive.specs.declared.plan.Plan.TheVariants as plans
+use Rattle.fs_state.specs.declared.plan.Plan.{Plan}
+use Rattle.fs_state.specs.declared.plan.Plan.TheVariants as plans
 use Rattle.command_line.specs.declared.request.Job.{Job as Named}
 use Rattle.command_line.specs.declared.request.Job.TheVariants as names
 use Rattle.xscrub.specs.declared.command.Command.{Command}

@@ -4,7 +4,7 @@ ghost use Rattle.command_line.specs.Requests.{told};
 ghost use Rattle.xscrub.specs.Command.{command_of as command_of_words, job_in, plan_of as plan_of_request, repair_in, SaysCommand};
 
 use command_line::{Job, Request, parse};
-use fs_derive::Plan;
+use fs_state::Plan;
 use std::alloc::{AllocError, Global};
 
 /// What the words of a command line ask for: the check of the named image, beside a redo file or without

@@ -5,7 +5,7 @@ use Rattle.blk_device.specs.declared.device.Device.{Ghosts}
 use Rattle.core_parts.specs.Common.Asks.{IsUsable}
 use Rattle.core_parts.specs.Keeps.{IsAsked}
 use Rattle.core_parts.specs.declared.desk.Desk.{Desk}
-use Rattle.core_store.specs.Ready.{IsReady}
+use Rattle.core_edit.specs.Ready.{IsReady}
 use Rattle.file_cores.specs.Looks.{Looks}
 
 module _ {D : Type 0} (d : Ghosts D) where

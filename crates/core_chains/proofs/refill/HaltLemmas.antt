@@ -16,7 +16,7 @@ use Rattle.core_parts.specs.Safe.{AreKept, IsDesk, IsKept}
 use Rattle.core_parts.specs.declared.book.Book.{Book}
 use Rattle.core_parts.specs.declared.desk.Desk.{Desk}
 use Rattle.core_parts.specs.declared.groups.GroupKept.{GroupKept}
-use Rattle.core_store.specs.declared.store.Store.{Store}
+use Rattle.core_edit.specs.declared.store.Store.{Store}
 use Rattle.core_switch.specs.Marks.{IsLonger}
 use Rattle.core_chains.proofs.write.Places.{set_kept}
 use Rattle.fs_model.specs.declared.entry.Entry.{Entry}

@@ -15,15 +15,15 @@ use Rattle.core_edit.specs.declared.open.OpenEdit.{OpenEdit}
 use Rattle.core_parts.specs.Keeps.{IsAsked, IsSteady}
 use Rattle.core_parts.specs.Safe.{IsDesk}
 use Rattle.core_parts.specs.declared.desk.Desk.{Desk}
-use Rattle.core_store.specs.Ready.{HasRoom}
-use Rattle.core_store.specs.declared.store.Store.{Store}
+use Rattle.core_edit.specs.Ready.{HasRoom}
+use Rattle.core_edit.specs.declared.store.Store.{Store}
 use Rattle.core_chains.specs.Write.Writes.{HasWriteReason, WriteAnswers}
 use Rattle.geom.specs.Places.{device_block, layout}
 use Rattle.geom.specs.declared.geometry.Geometry.{Geometry}
 use Rattle.join_blocks.specs.Joins.{is_joined}
 use Rattle.meta_txn.specs.Joined.{AreBelow}
 use Rattle.redo_area.specs.Area.{Batch}
-use Rattle.unit_edits.specs.Opened.{IsOpen}
+use Rattle.core_edit.specs.Opened.{IsOpen}
 
 module _ {D : Type 0} (d : Ghosts D) where
   pub asked_answers : {T : Type 0} (old new : Desk D) (answer : T) → IsAsked d false old new → IsUsable d old → WriteAnswers {D = D} {T = T} d old new (Ok answer)

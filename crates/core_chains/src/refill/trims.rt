@@ -5,7 +5,7 @@ ghost use Rattle.core_parts.specs.Common.Asks.{IsUsable};
 ghost use Rattle.core_parts.specs.Keeps.{IsSteady};
 ghost use Rattle.core_parts.specs.Safe.{IsKept};
 ghost use Rattle.core_chains.specs.Refill.Halts.{Halts, HaltsWell, IsMemory};
-ghost use Rattle.unit_edits.specs.Opened.{IsOpen};
+ghost use Rattle.core_edit.specs.Opened.{IsOpen};
 
 use crate::refill::edits::{commit_group, cut_owner, give_both, open_group};
 use crate::refill::halts::Halt;

@@ -10,7 +10,7 @@ ghost use Rattle.core_chains.specs.Steps.Steps.{IsStep};
 ghost use Rattle.core_chains.specs.Write.Writes.{IsGivenAll, IsGivenGroup, IsLeftAll, IsLeftGroup, WriteParts, WritesWell};
 ghost use Rattle.defer_chain.specs.Steps.{is_less};
 ghost use Rattle.defer_chain.specs.declared.kinds.StepKind.TheVariants.{Ref as RefStep};
-ghost use Rattle.unit_edits.specs.Opened.{IsOpen};
+ghost use Rattle.core_edit.specs.Opened.{IsOpen};
 
 use crate::steps::asked::{Next, step_asked};
 use crate::steps::stretch::{Sought, Span, span_over};

@@ -10,7 +10,7 @@ ghost use Rattle.core_chains.specs.Write.Writes.{IsGivenAll, IsGivenGroup, IsLef
 ghost use Rattle.defer_chain.specs.Owed.{owed};
 ghost use Rattle.defer_chain.specs.Steps.{first_is, is_free};
 ghost use Rattle.defer_chain.specs.declared.kinds.StepKind.TheVariants.{Free as FreeStep};
-ghost use Rattle.unit_edits.specs.Opened.{IsOpen};
+ghost use Rattle.core_edit.specs.Opened.{IsOpen};
 
 use crate::steps::asked::{Next, step_asked};
 use crate::steps::reads::{Owner, owner_over};

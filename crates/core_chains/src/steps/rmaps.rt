@@ -12,7 +12,7 @@ ghost use Rattle.defer_chain.specs.Owed.{owed};
 ghost use Rattle.defer_chain.specs.Steps.{first_is, is_rmap};
 ghost use Rattle.defer_chain.specs.declared.kinds.StepKind.TheVariants.{Rmap as RmapStep};
 ghost use Rattle.sblock.specs.declared.kind.Kind.TheVariants.{Rmap};
-ghost use Rattle.unit_edits.specs.Opened.{IsOpen};
+ghost use Rattle.core_edit.specs.Opened.{IsOpen};
 
 use crate::steps::asked::{Next, step_asked};
 use crate::steps::hears::{hear, rmap_place, take_room};

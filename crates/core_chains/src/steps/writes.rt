@@ -6,7 +6,7 @@ ghost use Rattle.core_parts.specs.Keeps.{IsSteady};
 ghost use Rattle.core_parts.specs.Safe.{IsKept};
 ghost use Rattle.core_chains.specs.Steps.Entries.{mark_of};
 ghost use Rattle.core_chains.specs.Write.Writes.{WriteAnswers};
-ghost use Rattle.unit_edits.specs.Opened.{IsOpen};
+ghost use Rattle.core_edit.specs.Opened.{IsOpen};
 
 use crate::write::{commit_edit, freed_room, mark_kind, settle_edit};
 use blk_device::Device;

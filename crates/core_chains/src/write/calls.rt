@@ -3,20 +3,19 @@ ghost use Rattle.std.specs.Prelude.{◌≡◌, ◌<◌, OnOk};
 ghost use Rattle.core_parts.specs.Common.Asks.{IsUsable};
 ghost use Rattle.core_edit.specs.Open.{LiesBelow, is_device};
 ghost use Rattle.core_parts.specs.Keeps.{IsAsked, failed_by};
-ghost use Rattle.unit_edits.specs.Opened.{IsOpen};
+ghost use Rattle.core_edit.specs.Opened.{IsOpen};
 
 use crate::write::indexes::{
     ChunkEdit, InoTree, RmapEdit, begin_at, give_at, inos_at, refc_at, rmap_at, take_at,
 };
 use blk_device::Device;
 use byte_fields::Steps;
-use core_edit::{EditHeads, SpaceKinds, SpaceLeft, Stop};
+use core_edit::{EditHeads, SpaceKinds, SpaceLeft, Stop, commit};
 use core_parts::Desk;
 use fs_model::Cause;
 use span_recs::SpanRec;
 use std::alloc::Global;
 use std::sync::ledger::Ledger;
-use unit_edits::commit;
 
 /// Whether the device stopped a call.
 pub(crate) fn is_failed(stop: &Stop) -> bool

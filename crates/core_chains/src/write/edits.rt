@@ -10,7 +10,7 @@ ghost use Rattle.core_switch.specs.Marks.{IsLonger};
 ghost use Rattle.core_chains.specs.Write.Writes.{WriteAnswers, WritesWell};
 ghost use Rattle.fs_model.specs.declared.entry.Entry.TheVariants.{Marked};
 ghost use Rattle.fs_model.specs.declared.unit.Trust.TheVariants.{Sick};
-ghost use Rattle.unit_edits.specs.Opened.{IsOpen};
+ghost use Rattle.core_edit.specs.Opened.{IsOpen};
 
 use crate::write::calls::{call_begin, call_commit, is_failed};
 use crate::write::stops::writer_stop;

@@ -1,7 +1,7 @@
 ghost use Rattle.std.specs.Prelude.{◌≡◌, ◌<◌, OnOk};
 ghost use Rattle.core_parts.specs.Common.Asks.{IsUsable};
 ghost use Rattle.core_chains.specs.Write.Writes.{WriteAnswers};
-ghost use Rattle.unit_edits.specs.Opened.{IsOpen};
+ghost use Rattle.core_edit.specs.Opened.{IsOpen};
 
 use crate::write::calls::{call_give, call_inos, call_refc, call_rmap, call_take, is_failed};
 use crate::write::indexes::{ChunkEdit, InoTree, RmapEdit};

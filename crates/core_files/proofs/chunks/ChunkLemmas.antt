@@ -16,7 +16,7 @@ use Rattle.core_chains.specs.Refill.Halts.{EndsWell, Halts, HaltsWell}
 use Rattle.core_chains.specs.declared.refill.halts.Halt.{Halt}
 use Rattle.core_chains.specs.declared.refill.halts.Halt.TheVariants as halts
 use Rattle.core_chains.specs.Write.Writes.{HasWriteReason}
-use Rattle.core_store.specs.declared.store.Store.{Store}
+use Rattle.core_edit.specs.declared.store.Store.{Store}
 use Rattle.file_cores.specs.Looks.{Looks}
 use Rattle.file_cores.specs.Puts.{PutsOne}
 use Rattle.geom.proofs.ApartLemmas.{lies_inside}
@@ -27,7 +27,7 @@ use Rattle.join_blocks.specs.Joins.{is_joined}
 use Rattle.meta_txn.proofs.JoinedLaws.{below_with, bytes_at_with}
 use Rattle.meta_txn.specs.Joined.{AreBelow, bytes_at, with_block}
 use Rattle.redo_area.specs.Area.{Batch}
-use Rattle.unit_edits.specs.Opened.{IsOpen}
+use Rattle.core_edit.specs.Opened.{IsOpen}
 
 -- a block of a group lies in the image
 pub inside_image : (geo : Geometry) (g b size : ℕ) → HasBlock geo g b → geo.dblocks ≤ size → device_block geo g b < size

@@ -8,14 +8,14 @@ use Rattle.blk_device.specs.declared.device.Region.TheVariants.{Image}
 use Rattle.core_edit.specs.Open.{AtMark, IsMarked}
 use Rattle.core_edit.specs.declared.open.OpenEdit.{OpenEdit}
 use Rattle.core_files.proofs.first.WriteLemmas.{with_below}
-use Rattle.core_store.specs.declared.store.Store.{Store}
+use Rattle.core_edit.specs.declared.store.Store.{Store}
 use Rattle.file_cores.specs.Puts.{PutsOne}
 use Rattle.geom.specs.Places.{device_block}
 use Rattle.join_blocks.specs.Joins.{is_joined}
 use Rattle.meta_txn.proofs.JoinedLaws.{bytes_at_with}
 use Rattle.meta_txn.specs.Joined.{AreBelow, bytes_at, with_block}
 use Rattle.redo_area.specs.Area.{Batch}
-use Rattle.unit_edits.specs.Opened.{IsOpen}
+use Rattle.core_edit.specs.Opened.{IsOpen}
 
 -- a number that is joined stays so
 stays_joined : (at n : ℕ) (bytes : List ℕ) (ps : Batch) → is_joined ps n ≡ true → is_joined (with_block at bytes ps) n ≡ true

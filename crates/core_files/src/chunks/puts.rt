@@ -9,7 +9,7 @@ ghost use Rattle.core_chains.specs.Refill.Halts.{Halts, HaltsWell};
 ghost use Rattle.file_cores.specs.Looks.{Looks, failed_in, is_failed};
 ghost use Rattle.file_cores.specs.Puts.{PutsOne};
 ghost use Rattle.geom.specs.Places.{HasBlock, HasInode};
-ghost use Rattle.unit_edits.specs.Opened.{IsOpen};
+ghost use Rattle.core_edit.specs.Opened.{IsOpen};
 
 use crate::chunks::cores::taken_block;
 use blk_cache::BlkCache;

@@ -10,7 +10,7 @@ ghost use Rattle.core_chains.specs.Write.Writes.{IsGivenAll, IsLeftAll, WritePar
 ghost use Rattle.file_cores.specs.Files.{IsFile};
 ghost use Rattle.file_cores.specs.Looks.{failed_in};
 ghost use Rattle.geom.specs.Places.{HasInode};
-ghost use Rattle.unit_edits.specs.Opened.{IsOpen};
+ghost use Rattle.core_edit.specs.Opened.{IsOpen};
 
 use crate::chunks::{ChunkChange, change_chunk, chunk_of, put_core, stopped_by};
 use crate::inodes::ends::end_give;

@@ -5,7 +5,7 @@ ghost use Rattle.core_parts.specs.Common.Asks.{IsUsable};
 ghost use Rattle.core_parts.specs.Safe.{IsKept};
 ghost use Rattle.core_chains.specs.Refill.Halts.{Halts};
 ghost use Rattle.core_chains.specs.Write.Writes.{IsGivenAll, IsLeftAll};
-ghost use Rattle.unit_edits.specs.Opened.{IsOpen};
+ghost use Rattle.core_edit.specs.Opened.{IsOpen};
 
 use crate::chunks::{ChunkChange, change_chunk, find_run, put_chunk};
 use crate::inodes::ends::{Taker, drain_with, end_take, unless_held};

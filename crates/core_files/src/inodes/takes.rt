@@ -6,7 +6,7 @@ ghost use Rattle.core_chains.specs.Refill.Halts.{Halts, IsMet};
 ghost use Rattle.core_chains.specs.Write.Writes.{IsGivenAll, IsLeftAll, WriteParts, WritesWell};
 ghost use Rattle.geom.specs.Places.{HasInode};
 ghost use Rattle.inode_table.specs.Masks.{IsFree};
-ghost use Rattle.unit_edits.specs.Opened.{IsOpen};
+ghost use Rattle.core_edit.specs.Opened.{IsOpen};
 
 use crate::chunks::{
     ChunkChange, FreeChunk, change_chunk, check_chunk, find_free, free_core, place_in, put_core,

@@ -5,7 +5,7 @@ ghost use Rattle.core_parts.specs.Keeps.{IsAsked};
 ghost use Rattle.core_chains.specs.Write.Writes.{WriteAnswers};
 ghost use Rattle.file_cores.specs.Looks.{failed_in};
 ghost use Rattle.geom.specs.Places.{HasInode};
-ghost use Rattle.unit_edits.specs.Opened.{IsOpen};
+ghost use Rattle.core_edit.specs.Opened.{IsOpen};
 
 use crate::first::PlacedCore;
 use blk_device::Device;

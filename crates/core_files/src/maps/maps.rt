@@ -5,7 +5,7 @@ ghost use Rattle.core_files.specs.Maps.Plans.{IsPlan};
 ghost use Rattle.core_parts.specs.Safe.{AreKept, IsKept, IsSafe};
 ghost use Rattle.core_chains.specs.Write.Writes.{IsLeftAll, WriteAnswers, WriteParts, WritesWell};
 ghost use Rattle.file_cores.specs.Files.{IsFile};
-ghost use Rattle.unit_edits.specs.Opened.{IsOpen};
+ghost use Rattle.core_edit.specs.Opened.{IsOpen};
 
 use crate::first::{
     HeldFile, OwnerDue, PlacedCore, Range, finish, held_file, mark_one, mark_owned, owing_owner,

@@ -11,8 +11,8 @@ use Rattle.core_parts.specs.Keeps.{IsAsked, IsShaken, IsSteady}
 use Rattle.core_parts.specs.Safe.{IsDesk}
 use Rattle.core_parts.specs.declared.book.Book.{Book}
 use Rattle.core_parts.specs.declared.desk.Desk.{Desk}
-use Rattle.core_store.specs.Ready.{HasRoom}
-use Rattle.core_store.specs.declared.store.Store.{Store}
+use Rattle.core_edit.specs.Ready.{HasRoom}
+use Rattle.core_edit.specs.declared.store.Store.{Store}
 use Rattle.fs_model.specs.declared.entry.Entry.{Entry}
 use Rattle.geom.specs.declared.geometry.Geometry.{Geometry}
 use Rattle.inode_scan.specs.Cursor.{AllInoTrees}

@@ -12,9 +12,9 @@ use Rattle.inode_pass.specs.Units.{opened_state}
 use Rattle.sblock.specs.declared.kind.Kind.{Kind}
 use Rattle.sblock.specs.declared.kind.Kind.TheVariants.{Bno, Cnt, Rmap, Refc, Ino, Fino}
 use Rattle.core_parts.specs.Opens.Groups.{AreBadOf, bad_said}
-use Rattle.core_trees.specs.Trees.{AreKnown, IsKnown}
-use Rattle.core_trees.specs.declared.trees.BadTree.{BadTree}
-use Rattle.core_trees.specs.declared.trees.BadTrees.{BadTrees}
+use Rattle.core_units.specs.Trees.{AreKnown, IsKnown}
+use Rattle.core_units.specs.declared.trees.BadTree.{BadTree}
+use Rattle.core_units.specs.declared.trees.BadTrees.{BadTrees}
 
 said_as : {R : Type 0} (r : Read R) (cs : List ℕ) → bad_said (known (bad_in r cs) r cs) ≡ bad_in r cs
 said_as (Ok read) cs = refl

@@ -8,7 +8,7 @@ use Rattle.fs_model.specs.declared.fault.Cause.{Cause}
 use Rattle.fs_model.specs.declared.unit.Trust.TheVariants.{Sick}
 use Rattle.sblock.specs.declared.kind.Kind.{Kind}
 use Rattle.sblock.specs.declared.kind.Kind.TheVariants.{Bno, Cnt, Rmap}
-use Rattle.unit_edits.specs.declared.place.IndexesLeft.{IndexesLeft}
+use Rattle.core_edit.specs.declared.place.IndexesLeft.{IndexesLeft}
 
 -- the mark of an index, where it was left
 abbrev pub mark_of : ℕ → Kind → Option Cause → List Entry

@@ -10,9 +10,9 @@ use Rattle.group_trees.specs.Trees.{reading_of}
 use Rattle.group_trees.specs.declared.group.GroupTrees.{GroupTrees}
 use Rattle.core_parts.specs.Opens.Heads.{IsHeadsOf}
 use Rattle.core_edit.specs.Stands.{AreOf}
-use Rattle.core_trees.specs.Trees.{AreKnown, IsKnown}
-use Rattle.core_trees.specs.declared.trees.BadTree.{BadTree}
-use Rattle.core_trees.specs.declared.trees.BadTrees.{BadTrees}
+use Rattle.core_units.specs.Trees.{AreKnown, IsKnown}
+use Rattle.core_units.specs.declared.trees.BadTree.{BadTree}
+use Rattle.core_units.specs.declared.trees.BadTrees.{BadTrees}
 use Rattle.core_parts.specs.declared.groups.GroupKept.{GroupKept}
 
 -- of a tree that can't be read, what is to be kept

@@ -2,9 +2,9 @@ ghost use Rattle.std.specs.Prelude.{◌≡◌, ◌&&◌, not, true};
 ghost use Rattle.core_parts.specs.Common.Kinds.{has_passed, is_good as is_good_of, is_sick as is_sick_of, is_unit_sick as is_unit_sick_of, trust_in, with_pass, with_trust, with_unit};
 
 use crate::{GroupKept, Passed, Trusts};
+use core_edit::{EditPlace, SickTrees};
 use fs_model::{Trust, Unit};
 use sblock::Kind;
-use unit_edits::{EditPlace, SickTrees};
 use unit_plan::SpaceTrust;
 
 fn is_sick(trust: Trust) -> bool

@@ -5,7 +5,7 @@ ghost use Rattle.blk_device.specs.Reading.{OnlyRead};
 ghost use Rattle.blk_device.specs.declared.device.Region.TheVariants.{Image};
 ghost use Rattle.core_parts.specs.Opens.Groups.{IsBegun, IsOpened};
 ghost use Rattle.core_parts.specs.Opens.Heads.{Each, IsFirstRefused, PassBelow, is_failed};
-ghost use Rattle.core_store.specs.Ready.{IsReady};
+ghost use Rattle.core_edit.specs.Ready.{IsReady};
 ghost use Rattle.geom.specs.Places.{layout};
 
 use crate::GroupKept;
@@ -13,7 +13,7 @@ use crate::opens::open::read_all;
 use blk_device::Device;
 use byte_fields::Steps;
 use core_calls::OpenRefused;
-use core_store::Store;
+use core_edit::Store;
 use std::alloc::Global;
 use std::sync::ledger::Ledger;
 

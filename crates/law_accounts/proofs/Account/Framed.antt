@@ -5,10 +5,10 @@ use Rattle.dinode_core.specs.declared.mapping.Fork.TheVariants as forks
 use Rattle.fs_change.specs.Changes.{by_count, do_mapping, freed, give_free, known_spans, rmap_done}
 use Rattle.fs_change.specs.Parts.{change_tree, edit, in_group, is_edited, records_in, tree_only, with_recs}
 use Rattle.fs_change.specs.Records.{by_start, give_span, span}
-use Rattle.fs_derive.specs.Chunks.{chunks, inodes, inodes_in}
-use Rattle.fs_derive.specs.Claims.{Claimed, attribute, claimed_by, claims, fork_claims, fork_tree_claims, log_claims, mapping_claims, metadata_claims, read_fork}
-use Rattle.fs_derive.specs.Kinds.{all_kinds, tree_owner}
-use Rattle.fs_derive.specs.Lists.{numbers}
+use Rattle.fs_state.specs.Chunks.{chunks, inodes, inodes_in}
+use Rattle.fs_state.specs.Claims.{Claimed, attribute, claimed_by, claims, fork_claims, fork_tree_claims, log_claims, mapping_claims, metadata_claims, read_fork}
+use Rattle.fs_state.specs.Records.{all_kinds, tree_owner}
+use Rattle.fs_state.specs.Lists.{numbers}
 use Rattle.fs_model.specs.declared.claim.Claim.TheVariants.{Heads, List as FreeList, Tree, Reserve, Limbo, Chunk, Data, Attr}
 use Rattle.fs_model.specs.declared.entry.Extent.{Extent}
 use Rattle.fs_state.specs.Kinds.{RecOf}

@@ -7,7 +7,7 @@ use Rattle.std.proofs.lemmas.Bool.{eq-eqb, eqb-true, true≢false, ne_eqb}
 use Rattle.std.proofs.lemmas.Bool.Decides.{nat_tests}
 use Rattle.std.proofs.lemmas.List.{reverse-append}
 use Rattle.fs_change.specs.Records.{before_run, behind_run, by_start, end_of, give_span, has_span, holder_of, is_same_span, last_at, only_where, put_all, put_by, rest_of, span, take_span}
-use Rattle.fs_derive.specs.Lists.{only_if}
+use Rattle.fs_state.specs.Lists.{only_if}
 use Rattle.span_recs.specs.declared.span.SpanRec.{SpanRec}
 use Rattle.law_accounts.specs.Account.Accounts.{at_span, spans_at}
 use Rattle.law_accounts.specs.Account.Space.{AreApart, GivenSpans, TakenSpans}

@@ -5,7 +5,7 @@ use Rattle.std.proofs.lemmas.Bool.{eq-eqb, eqb-true, true≢false}
 use Rattle.std.proofs.lemmas.List.Sums.{sum_by-append, sum_by-cons}
 use Rattle.fs_change.specs.Chains.{most_chains}
 use Rattle.fs_change.specs.Records.{without_first}
-use Rattle.fs_derive.specs.Lists.{numbers}
+use Rattle.fs_state.specs.Lists.{numbers}
 use Rattle.fs_state.specs.declared.intent.Intent.{Intent}
 use Rattle.tree_defs.specs.Lists.{AllDiffer, is_in, times}
 use Rattle.law_accounts.specs.Account.Accounts.{chains_sum, due, owes, raises}

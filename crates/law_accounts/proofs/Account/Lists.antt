@@ -5,7 +5,7 @@ use Rattle.std.proofs.Common.{sym, ap, subst, inl, inr, ◌∙◌, arith, cond}
 use Rattle.fs_change.specs.Changes.{by_count, give_free, give_owner, is_in_extent, known_spans, plain_run, refilled, take_free, take_owner, trimmed}
 use Rattle.fs_change.specs.Parts.{change_tree, edit, is_edited, is_sick, records_in, with_recs}
 use Rattle.fs_change.specs.Records.{by_start, count_at, give_mapping, give_span, holder_of, span, take_mapping, take_span}
-use Rattle.fs_derive.specs.Lists.{numbers}
+use Rattle.fs_state.specs.Lists.{numbers}
 use Rattle.fs_model.specs.declared.entry.Extent.{Extent}
 use Rattle.fs_state.specs.Kinds.{RecOf}
 use Rattle.fs_state.specs.State.{State, Group, Index, is_readable, recs_of}

@@ -7,7 +7,7 @@ use Rattle.fs_change.specs.Chains.{gives, is_change, most_chains, run_of, takes,
 use Rattle.fs_change.specs.Changes.{do_mapping, rmap_done}
 use Rattle.fs_change.specs.Parts.{at_only, change_tree, edit, records_in, with_recs}
 use Rattle.fs_change.specs.Records.{count_at, take_mapping}
-use Rattle.fs_derive.specs.Claims.{unwritten}
+use Rattle.fs_state.specs.Claims.{unwritten}
 use Rattle.fs_state.specs.State.{State, Group, Readable, Reading, Unreadable, is_readable, recs_of}
 use Rattle.fs_state.specs.declared.intent.Intent.{Intent}
 use Rattle.fs_state.specs.declared.intent.IntentKind.{IntentKind}

@@ -8,7 +8,7 @@ use Rattle.fs_change.specs.Changes.{behind, intent, to_free}
 use Rattle.fs_change.specs.Parts.{records_in, sick_in}
 use Rattle.fs_change.specs.Records.{count_at}
 use Rattle.fs_change.specs.Step.{is_ref}
-use Rattle.fs_derive.specs.Lists.{numbers, only_if}
+use Rattle.fs_state.specs.Lists.{numbers, only_if}
 use Rattle.fs_state.specs.declared.intent.Intent.{Intent}
 use Rattle.fs_state.specs.declared.intent.IntentKind.{IntentKind}
 use Rattle.fs_state.specs.declared.intent.IntentKind.TheVariants.{RmapAdd, RmapRemove, RmapChange, RefMore, RefLess, Free}

@@ -5,7 +5,7 @@ use Rattle.std.proofs.lemmas.Bool.{eq-eqb, eqb-true, cases_order}
 use Rattle.std.proofs.lemmas.List.Sums.{sum_by-append, sum_by-cons}
 use Rattle.fs_change.specs.Chains.{most_chains}
 use Rattle.fs_change.specs.Parts.{at_only}
-use Rattle.fs_derive.specs.Lists.{numbers}
+use Rattle.fs_state.specs.Lists.{numbers}
 use Rattle.fs_model.specs.declared.entry.Extent.{Extent}
 use Rattle.fs_state.specs.declared.intent.Intent.{Intent}
 use Rattle.law_accounts.specs.Account.Accounts.{at_span, chains_sum, due, hits, in_span}

@@ -7,7 +7,7 @@ use Rattle.std.proofs.lemmas.Bool.{and_parts, cases_Bool, cases_order, eq-eqb, e
 use Rattle.std.proofs.lemmas.Bool.Decides.{nat_tests}
 use Rattle.std.proofs.lemmas.List.{reverse-append}
 use Rattle.fs_change.specs.Records.{count_at, count_before, count_behind, count_rest, counted, counter_of, cut_counts, is_same_count, join_counts, last_at, only_where, put_all, put_by, refc_end, set_count, stretch, swap_counts}
-use Rattle.fs_derive.specs.Lists.{only_if}
+use Rattle.fs_state.specs.Lists.{only_if}
 use Rattle.span_recs.specs.declared.refcount.RefcRec.{RefcRec}
 use Rattle.law_accounts.proofs.Account.Spans.{span_in, span_not, span_out}
 use Rattle.law_accounts.specs.Account.Accounts.{in_span}

@@ -5,7 +5,7 @@ use Rattle.std.proofs.Common.{sym, ap, ap₂, subst, ◌∙◌, arith, cond, inl
 use Rattle.std.proofs.lemmas.Bool.{and_parts, cases_order, eq-eqb, eqb-true, leb-true, lt-ltb, ltb-true, true≢false}
 use Rattle.std.proofs.lemmas.List.{reverse-append}
 use Rattle.fs_change.specs.Records.{before_run, behind_run, beside_run, by_start, end_of, give_span, has_span, holder_of, is_same_span, joined_run, last_at, only_where, put_all, put_by, rest_of, span, take_span}
-use Rattle.fs_derive.specs.Lists.{only_if}
+use Rattle.fs_state.specs.Lists.{only_if}
 use Rattle.span_recs.specs.declared.span.SpanRec.{SpanRec}
 use Rattle.law_accounts.specs.Account.Space.{AreApart}
 

@@ -9,7 +9,7 @@ use Rattle.derive_defs.specs.Free.{AreFree, free_space, is_free, run_of}
 use Rattle.derive_defs.specs.Mappings.{covers}
 use Rattle.derive_defs.proofs.SpaceLemmas.{are_free, only_free}
 use Rattle.fs_change.specs.Records.{before_run, behind_run, beside_run, by_start, end_of, give_span, has_span, holder_of, joined_run, last_at, only_where, put_all, rest_of, span, take_span}
-use Rattle.fs_derive.specs.Lists.{only_if}
+use Rattle.fs_state.specs.Lists.{only_if}
 use Rattle.rmap_recs.specs.declared.records.RmapRec.{RmapRec}
 use Rattle.run_sets.specs.Runs.{AreMaximal, holds}
 use Rattle.span_recs.specs.declared.span.SpanRec.{SpanRec}

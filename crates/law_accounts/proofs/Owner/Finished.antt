@@ -9,10 +9,10 @@ use Rattle.fs_change.specs.Changes.{do_mapping, rmap_done}
 use Rattle.fs_change.specs.Parts.{edit, is_edited, records_in, with_recs}
 use Rattle.fs_change.specs.Records.{give_mapping, take_mapping}
 use Rattle.fs_change.specs.Step.{Row}
-use Rattle.fs_derive.specs.Claims.{Claimed, metadata_claims, unwritten}
-use Rattle.fs_derive.specs.Derive.{mappings}
-use Rattle.fs_derive.specs.Lists.{numbers}
-use Rattle.fs_derive.specs.Own.{set_of, tuple_of}
+use Rattle.fs_state.specs.Claims.{Claimed, metadata_claims, unwritten}
+use Rattle.fs_state.specs.Derive.{mappings}
+use Rattle.fs_state.specs.Lists.{numbers}
+use Rattle.fs_state.specs.Own.{set_of, tuple_of}
 use Rattle.fs_model.specs.declared.entry.Entry.TheVariants as entries
 use Rattle.fs_state.specs.State.{State, Group, Readable, Reading, Unreadable, is_readable, recs_of}
 use Rattle.fs_state.specs.declared.intent.Intent.{Intent}

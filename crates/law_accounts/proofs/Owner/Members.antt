@@ -6,11 +6,11 @@ use Rattle.std.proofs.lemmas.Bool.Decides.{nat_tests}
 use Rattle.fs_change.proofs.Sets.{has_both, has_of, has_set, of_has}
 use Rattle.fs_change.specs.Chains.{settled_forks, settled_own}
 use Rattle.fs_change.specs.Loose.{owners_in, pool_of, tree_blocks}
-use Rattle.fs_derive.specs.Chunks.{chunks}
-use Rattle.fs_derive.specs.Claims.{Claimed, claimed_by, log_claims, metadata_claims}
-use Rattle.fs_derive.specs.Kinds.{all_kinds, tree_owner}
-use Rattle.fs_derive.specs.Lists.{numbers}
-use Rattle.fs_derive.specs.Own.{tuple_of}
+use Rattle.fs_state.specs.Chunks.{chunks}
+use Rattle.fs_state.specs.Claims.{Claimed, claimed_by, log_claims, metadata_claims}
+use Rattle.fs_state.specs.Records.{all_kinds, tree_owner}
+use Rattle.fs_state.specs.Lists.{numbers}
+use Rattle.fs_state.specs.Own.{tuple_of}
 use Rattle.fs_model.specs.declared.claim.Claim.TheVariants.{Heads, List as FreeList, Tree, Reserve, Limbo, Chunk}
 use Rattle.fs_change.specs.Switch.{join_limbo}
 use Rattle.fs_state.specs.State.{State, Group, Owned, blocks_of, comes_first, pairs_of, put_pair}

@@ -9,9 +9,9 @@ use Rattle.fs_change.specs.Chains.{settled_own}
 use Rattle.fs_change.specs.Changes.{block_extent, is_anothers, owner_of_run}
 use Rattle.fs_change.specs.Choice.{has_claim, in_spans, is_guarded, is_spare, none_sick, space_kinds, spare_block}
 use Rattle.fs_change.specs.Parts.{records_in, sick_in}
-use Rattle.fs_derive.specs.Claims.{metadata_claims}
-use Rattle.fs_derive.specs.Derive.{mappings}
-use Rattle.fs_derive.specs.Lists.{numbers}
+use Rattle.fs_state.specs.Claims.{metadata_claims}
+use Rattle.fs_state.specs.Derive.{mappings}
+use Rattle.fs_state.specs.Lists.{numbers}
 use Rattle.fs_model.specs.declared.entry.Entry.TheVariants as entries
 use Rattle.fs_model.specs.declared.entry.Extent.{Extent}
 use Rattle.fs_model.specs.declared.unit.Unit.TheVariants as units

@@ -10,7 +10,7 @@ use Rattle.fs_change.specs.Changes.{by_count, chunk_extent, extent_of, free_chun
 use Rattle.fs_change.specs.Parts.{change_tree, edit, is_sick, records_in, sick_in, with_recs}
 use Rattle.fs_change.specs.Records.{beside_run, by_start, give_span, holder_of, joined_run, put_chunk, rest_of, span, take_span}
 use Rattle.fs_change.specs.Step.{group_of_inode}
-use Rattle.fs_derive.specs.Lists.{numbers}
+use Rattle.fs_state.specs.Lists.{numbers}
 use Rattle.fs_model.specs.declared.entry.Extent.{Extent}
 use Rattle.fs_model.specs.declared.entry.Piece.{Piece}
 use Rattle.fs_state.specs.Group.{is_among}

@@ -5,9 +5,9 @@ use Rattle.std.specs.List.{list_any}
 use Rattle.std.proofs.lemmas.Bool.{true≢false}
 use Rattle.fs_change.proofs.Sets.{has_both, has_of, has_passing, has_set, of_has}
 use Rattle.fs_change.specs.Chains.{Quiet, given_by, gives, is_quiet, owed_gifts, owed_takings, pending, settled_by, settled_forks, settled_own, taken_by, takes, tuples_of, run_of, word_taken}
-use Rattle.fs_derive.specs.Claims.{Claimed, claims, fork_claims, metadata_claims}
-use Rattle.fs_derive.specs.Derive.{mappings}
-use Rattle.fs_derive.specs.Own.{own, rmap_of, tuple_of}
+use Rattle.fs_state.specs.Claims.{Claimed, claims, fork_claims, metadata_claims}
+use Rattle.fs_state.specs.Derive.{mappings}
+use Rattle.fs_state.specs.Own.{own, rmap_of, tuple_of}
 use Rattle.fs_state.specs.State.{State}
 use Rattle.fs_state.specs.declared.intent.Intent.{Intent}
 use Rattle.rmap_recs.proofs.RunLemmas.{only_runs}

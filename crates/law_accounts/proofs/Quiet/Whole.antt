@@ -8,8 +8,8 @@ use Rattle.derive_defs.specs.Free.{free_space}
 use Rattle.fs_change.specs.Chains.{Quiet}
 use Rattle.fs_change.specs.Parts.{records_in}
 use Rattle.fs_change.specs.Records.{count_at}
-use Rattle.fs_derive.specs.Claims.{claims}
-use Rattle.fs_derive.specs.Derive.{bno_of, cnt_of, derive, mappings, refc_of}
+use Rattle.fs_state.specs.Claims.{claims}
+use Rattle.fs_state.specs.Derive.{bno_of, cnt_of, derive, mappings, refc_of}
 use Rattle.fs_state.specs.State.{State}
 use Rattle.geom.specs.Layout.{group_len_of}
 use Rattle.sblock.specs.declared.kind.Kind.TheVariants.{Bno, Cnt, Rmap, Refc, Ino, Fino}

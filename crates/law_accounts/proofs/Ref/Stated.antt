@@ -5,7 +5,7 @@ use Rattle.std.proofs.lemmas.Bool.{true≢false}
 use Rattle.fs_change.specs.Changes.{change_count, changes_count, new_count, ref_done}
 use Rattle.fs_change.specs.Parts.{change_tree, edit, records_in, sick_in, with_recs}
 use Rattle.fs_change.specs.Records.{set_count, stretch}
-use Rattle.fs_derive.specs.Claims.{Claimed, claims}
+use Rattle.fs_state.specs.Claims.{Claimed, claims}
 use Rattle.fs_model.specs.declared.entry.Extent.{Extent}
 use Rattle.fs_state.specs.Group.{is_among}
 use Rattle.fs_state.specs.State.{State, Group, Readable, Reading, Unreadable, is_readable, recs_of}

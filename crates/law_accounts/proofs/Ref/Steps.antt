@@ -10,7 +10,7 @@ use Rattle.fs_change.specs.Changes.{behind, change_count, changes_count, intent,
 use Rattle.fs_change.specs.Parts.{at_only, change_tree, edit, records_in, sick_in, with_recs}
 use Rattle.fs_change.specs.Records.{count_at, counter_of, set_count, stretch}
 use Rattle.fs_change.specs.Step.{is_ref}
-use Rattle.fs_derive.specs.Lists.{numbers, only_if}
+use Rattle.fs_state.specs.Lists.{numbers, only_if}
 use Rattle.fs_model.specs.declared.entry.Extent.{Extent}
 use Rattle.fs_state.specs.Group.{is_among}
 use Rattle.fs_state.specs.State.{State, Group, Readable, Reading, Unreadable, is_readable, recs_of}

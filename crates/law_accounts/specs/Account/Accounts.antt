@@ -4,9 +4,9 @@ use Rattle.std.specs.Prelude.{ℕ, ◌+◌, ◌==◌, ◌&&◌, nat_le, nat_lt, 
 use Rattle.fs_change.specs.Chains.{most_chains}
 use Rattle.fs_change.specs.Parts.{records_in}
 use Rattle.fs_change.specs.Records.{count_at}
-use Rattle.fs_derive.specs.Claims.{Claimed}
-use Rattle.fs_derive.specs.Contradiction.{is_written_data}
-use Rattle.fs_derive.specs.Lists.{numbers}
+use Rattle.fs_state.specs.Claims.{Claimed}
+use Rattle.fs_state.specs.Contradiction.{is_written_data}
+use Rattle.fs_state.specs.Lists.{numbers}
 use Rattle.fs_model.specs.declared.entry.Extent.{Extent}
 use Rattle.fs_state.specs.State.{State, Group}
 use Rattle.fs_state.specs.declared.intent.Intent.{Intent}

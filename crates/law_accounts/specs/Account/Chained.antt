@@ -3,7 +3,7 @@ use Rattle.std.specs.Prelude.{ℕ, ◌≡◌, ◌*◌, ◌<◌, ◌≤◌, ◌||
 use Rattle.fs_change.specs.Chains.{gives, most_chains, takes}
 use Rattle.fs_change.specs.Changes.{behind, intent, to_free}
 use Rattle.fs_change.specs.Step.{is_ref}
-use Rattle.fs_derive.specs.Lists.{numbers}
+use Rattle.fs_state.specs.Lists.{numbers}
 use Rattle.fs_model.specs.declared.entry.Extent.{Extent}
 use Rattle.fs_state.specs.State.{Group}
 use Rattle.fs_state.specs.declared.intent.Intent.{Intent}

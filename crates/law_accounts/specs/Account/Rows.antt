@@ -8,7 +8,7 @@ use Rattle.fs_change.specs.Parts.{records_in}
 use Rattle.fs_change.specs.Records.{give_mapping}
 use Rattle.fs_change.specs.Step.{Row}
 use Rattle.fs_change.specs.Chains.{is_quiet}
-use Rattle.fs_derive.specs.Worked.{chunk, layout, written}
+use Rattle.fs_state.specs.Worked.{chunk, layout, written}
 use Rattle.fs_model.specs.declared.entry.Entry.TheVariants as entries
 use Rattle.fs_model.specs.declared.entry.Extent.{Extent}
 use Rattle.fs_model.specs.declared.entry.Piece.{Piece}

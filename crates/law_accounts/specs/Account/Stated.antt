@@ -3,7 +3,7 @@ use Rattle.std.specs.Prelude.{ℕ, ◌≡◌, ◌<◌, false, List}
 use Rattle.fs_change.specs.Chains.{Quiet, most_chains}
 use Rattle.fs_change.specs.Parts.{records_in}
 use Rattle.fs_change.specs.Step.{Row}
-use Rattle.fs_derive.specs.Claims.{claims}
+use Rattle.fs_state.specs.Claims.{claims}
 use Rattle.fs_model.specs.declared.entry.Entry.TheVariants as entries
 use Rattle.fs_state.specs.Apart.{is_chunk}
 use Rattle.fs_state.specs.State.{State}

@@ -3,8 +3,8 @@
 use Rattle.std.specs.Prelude.{◌≡◌, ℕ, true, false, not, List, [], ◌∷◌, ◌++◌, filter, map}
 use Rattle.fs_change.specs.Chains.{given_by, run_of, settled_forks, settled_own, taken_by, word_taken}
 use Rattle.fs_change.specs.Step.{Row}
-use Rattle.fs_derive.specs.Claims.{metadata_claims}
-use Rattle.fs_derive.specs.Own.{set_of, tuple_of}
+use Rattle.fs_state.specs.Claims.{metadata_claims}
+use Rattle.fs_state.specs.Own.{set_of, tuple_of}
 use Rattle.fs_model.specs.declared.entry.Entry.{Entry}
 use Rattle.fs_model.specs.declared.entry.Entry.TheVariants as entries
 use Rattle.fs_state.specs.State.{State}

@@ -1,7 +1,7 @@
 -- Do reverse mappings say who owns which block, as if nothing that is pending had begun?
 use Rattle.std.specs.Prelude.{ℕ}
 use Rattle.fs_change.specs.Chains.{settled_own}
-use Rattle.fs_derive.specs.Derive.{mappings}
+use Rattle.fs_state.specs.Derive.{mappings}
 use Rattle.fs_state.specs.State.{State}
 use Rattle.rmap_recs.specs.Runs.{AreRuns}
 

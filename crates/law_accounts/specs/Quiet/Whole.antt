@@ -5,9 +5,9 @@ use Rattle.derive_defs.specs.Mappings.{covers}
 use Rattle.fs_change.specs.Chains.{Quiet}
 use Rattle.fs_change.specs.Parts.{records_in}
 use Rattle.fs_change.specs.Records.{count_at}
-use Rattle.fs_derive.specs.Claims.{claims}
-use Rattle.fs_derive.specs.Derive.{derive, fino_of, ino_of, mappings}
-use Rattle.fs_derive.specs.Own.{own, rmap_of}
+use Rattle.fs_state.specs.Claims.{claims}
+use Rattle.fs_state.specs.Derive.{derive, fino_of, ino_of, mappings}
+use Rattle.fs_state.specs.Own.{own, rmap_of}
 use Rattle.fs_state.specs.State.{State}
 use Rattle.geom.specs.Layout.{group_len_of}
 use Rattle.rmap_recs.specs.Rmap.{is_shareable}

@@ -15,10 +15,10 @@ use Rattle.fs_change.specs.Edited.{edited_in, group_of_entry}
 use Rattle.fs_change.specs.Loose.{Inside, Loosely, MovesBlocks, owners_in}
 use Rattle.fs_change.specs.Records.{count_at}
 use Rattle.fs_change.specs.Step.{Step}
-use Rattle.fs_derive.specs.Chunks.{inodes}
-use Rattle.fs_derive.specs.Claims.{Claimed, claims, mapping_claims, read_fork}
-use Rattle.fs_derive.specs.Contradiction.{is_written_data}
-use Rattle.fs_derive.specs.Lists.{numbers}
+use Rattle.fs_state.specs.Chunks.{inodes}
+use Rattle.fs_state.specs.Claims.{Claimed, claims, mapping_claims, read_fork}
+use Rattle.fs_state.specs.Contradiction.{is_written_data}
+use Rattle.fs_state.specs.Lists.{numbers}
 use Rattle.fs_model.specs.declared.claim.Claim.TheVariants.{Data}
 use Rattle.fs_model.specs.declared.entry.Entry.{Entry}
 use Rattle.fs_state.specs.Frame.{SameFork}

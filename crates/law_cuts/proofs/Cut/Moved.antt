@@ -14,7 +14,7 @@ use Rattle.fs_change.specs.Loose.{MovesBlocks, count_used, lost_to, met_by_moves
 use Rattle.fs_change.specs.Met.{Met, give_each, is_fault, met_gaining_each, met_losing, met_losing_each, one_block, take_each}
 use Rattle.fs_change.specs.Parts.{change_tree, edit, in_blocks, in_trees, is_edited, is_sick, records_in, with_recs}
 use Rattle.fs_change.specs.Switch.{has_owned}
-use Rattle.fs_derive.specs.Kinds.{all_kinds, tree_owner}
+use Rattle.fs_state.specs.Records.{all_kinds, tree_owner}
 use Rattle.fs_model.specs.declared.unit.Trust.{Trust}
 use Rattle.fs_state.specs.Group.{is_among}
 use Rattle.fs_state.specs.Kinds.{RecOf}

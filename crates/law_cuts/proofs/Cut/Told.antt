@@ -14,11 +14,11 @@ use Rattle.fs_change.specs.Loose.{Inside, Loosely, MovesBlocks, lost_to, owners_
 use Rattle.fs_change.specs.Met.{give_each, one_block, take_each}
 use Rattle.fs_change.specs.Parts.{records_in}
 use Rattle.fs_change.specs.Switch.{has_owned, is_same_owned}
-use Rattle.fs_derive.specs.Chunks.{chunks}
-use Rattle.fs_derive.specs.Claims.{Claimed, claimed_by, claims, fork_claims, metadata_claims}
-use Rattle.fs_derive.specs.Derive.{mappings}
-use Rattle.fs_derive.specs.Lists.{numbers}
-use Rattle.fs_derive.specs.Own.{set_of, tuple_of}
+use Rattle.fs_state.specs.Chunks.{chunks}
+use Rattle.fs_state.specs.Claims.{Claimed, claimed_by, claims, fork_claims, metadata_claims}
+use Rattle.fs_state.specs.Derive.{mappings}
+use Rattle.fs_state.specs.Lists.{numbers}
+use Rattle.fs_state.specs.Own.{set_of, tuple_of}
 use Rattle.fs_model.specs.declared.claim.Claim.TheVariants.{Limbo}
 use Rattle.fs_state.specs.State.{Group, Owned, State, blocks_in}
 use Rattle.geom.specs.Apart.{Splits}

@@ -22,10 +22,10 @@ use Rattle.fs_change.specs.Loose.{owners_in, tree_blocks}
 use Rattle.fs_change.specs.Parts.{records_in}
 use Rattle.fs_change.specs.Records.{take_mapping}
 use Rattle.fs_change.specs.Switch.{has_owned, owned_by as with_owner}
-use Rattle.fs_derive.specs.Chunks.{chunks}
-use Rattle.fs_derive.specs.Claims.{claimed_by, claims, metadata_claims}
-use Rattle.fs_derive.specs.Derive.{mappings}
-use Rattle.fs_derive.specs.Kinds.{all_kinds, tree_owner}
+use Rattle.fs_state.specs.Chunks.{chunks}
+use Rattle.fs_state.specs.Claims.{claimed_by, claims, metadata_claims}
+use Rattle.fs_state.specs.Derive.{mappings}
+use Rattle.fs_state.specs.Records.{all_kinds, tree_owner}
 use Rattle.fs_model.specs.declared.claim.Claim.TheVariants.{Limbo}
 use Rattle.fs_model.specs.declared.entry.Entry.{Entry}
 use Rattle.fs_model.specs.declared.entry.Entry.TheVariants as entries

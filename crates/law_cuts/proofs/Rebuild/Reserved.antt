@@ -20,9 +20,9 @@ use Rattle.fs_change.specs.Met.{give_each, take_each}
 use Rattle.fs_change.specs.Parts.{change_tree, edit, is_sick, records_in, with_recs}
 use Rattle.fs_change.specs.Records.{give_mapping, take_mapping}
 use Rattle.fs_change.specs.Switch.{unit_owner}
-use Rattle.fs_derive.specs.Chunks.{chunks}
-use Rattle.fs_derive.specs.Claims.{Claimed, claimed_by, claims, metadata_claims}
-use Rattle.fs_derive.specs.Derive.{mappings}
+use Rattle.fs_state.specs.Chunks.{chunks}
+use Rattle.fs_state.specs.Claims.{Claimed, claimed_by, claims, metadata_claims}
+use Rattle.fs_state.specs.Derive.{mappings}
 use Rattle.fs_model.specs.declared.claim.Claim.TheVariants.{Limbo}
 use Rattle.fs_model.specs.declared.entry.Entry.{Entry}
 use Rattle.fs_model.specs.declared.entry.Entry.TheVariants as entries

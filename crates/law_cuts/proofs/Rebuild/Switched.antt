@@ -7,10 +7,10 @@ use Rattle.fs_change.proofs.Beside as beside
 use Rattle.fs_change.proofs.Sets.{has_both, has_passing, has_set}
 use Rattle.fs_change.specs.Chains.{Quiet, given_by, gives, is_quiet, most_chains, owed_gifts, owed_takings, pending, run_of, settled_by, settled_forks, settled_own, taken_by, takes, tuples_of, word_taken}
 use Rattle.fs_change.specs.Step.{Step}
-use Rattle.fs_derive.specs.Claims.{Claimed, claims, fork_claims, metadata_claims}
-use Rattle.fs_derive.specs.Derive.{derive, mappings}
-use Rattle.fs_derive.specs.Lists.{numbers}
-use Rattle.fs_derive.specs.Own.{own, rmap_of, tuple_of}
+use Rattle.fs_state.specs.Claims.{Claimed, claims, fork_claims, metadata_claims}
+use Rattle.fs_state.specs.Derive.{derive, mappings}
+use Rattle.fs_state.specs.Lists.{numbers}
+use Rattle.fs_state.specs.Own.{own, rmap_of, tuple_of}
 use Rattle.fs_model.specs.declared.entry.Entry.TheVariants as entries
 use Rattle.fs_model.specs.declared.unit.Unit.{Unit as ScrubUnit}
 use Rattle.fs_model.specs.declared.unit.Unit.TheVariants as units

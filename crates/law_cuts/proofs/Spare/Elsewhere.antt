@@ -14,10 +14,10 @@ use Rattle.fs_change.proofs.Sets.{has_both, has_passing, has_set}
 use Rattle.fs_change.specs.Chains.{given_by, gives, run_of, settled_forks, taken_by, takes, tuples_of, word_taken}
 use Rattle.fs_change.specs.Parts.{records_in}
 use Rattle.fs_change.specs.Step.{Step, group_of_entry}
-use Rattle.fs_derive.specs.Chunks.{chunks}
-use Rattle.fs_derive.specs.Claims.{Claimed}
-use Rattle.fs_derive.specs.Lists.{numbers}
-use Rattle.fs_derive.specs.Own.{set_of, tuple_of}
+use Rattle.fs_state.specs.Chunks.{chunks}
+use Rattle.fs_state.specs.Claims.{Claimed}
+use Rattle.fs_state.specs.Lists.{numbers}
+use Rattle.fs_state.specs.Own.{set_of, tuple_of}
 use Rattle.fs_model.specs.declared.entry.Entry.{Entry}
 use Rattle.fs_model.specs.declared.entry.Entry.TheVariants as entries
 use Rattle.fs_state.specs.Apart.{is_chunk}

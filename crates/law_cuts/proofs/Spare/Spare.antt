@@ -26,10 +26,10 @@ use Rattle.fs_change.specs.Parts.{is_sick, records_in, sick_in}
 use Rattle.fs_change.specs.Records.{give_mapping}
 use Rattle.fs_change.specs.Step.{Step}
 use Rattle.fs_change.specs.Switch.{unit_owner}
-use Rattle.fs_derive.specs.Chunks.{chunks}
-use Rattle.fs_derive.specs.Claims.{metadata_claims}
-use Rattle.fs_derive.specs.Derive.{bno_of, mappings}
-use Rattle.fs_derive.specs.Kinds.{all_kinds}
+use Rattle.fs_state.specs.Chunks.{chunks}
+use Rattle.fs_state.specs.Claims.{metadata_claims}
+use Rattle.fs_state.specs.Derive.{bno_of, mappings}
+use Rattle.fs_state.specs.Records.{all_kinds}
 use Rattle.fs_model.specs.declared.entry.Entry.{Entry}
 use Rattle.fs_model.specs.declared.entry.Entry.TheVariants as entries
 use Rattle.fs_model.specs.declared.unit.Unit.{Unit as ScrubUnit}

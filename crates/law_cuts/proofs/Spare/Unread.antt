@@ -9,11 +9,11 @@ use Rattle.fs_change.proofs.Trees.{keeps_other_trees}
 use Rattle.fs_change.specs.Loose.{Loosely, owners_in, pool_of, tree_blocks}
 use Rattle.fs_change.specs.Parts.{in_blocks, in_trees}
 use Rattle.fs_change.specs.Switch.{AreLaid, exact_counters, hold, join_limbo, kind_need, limbo_of, lost_blocks, lost_owned, need, owned_by as with_owner, readable_blocks, switched, unit_owner}
-use Rattle.fs_derive.specs.Chunks.{chunks}
-use Rattle.fs_derive.specs.Claims.{claims, fork_claims}
-use Rattle.fs_derive.specs.Derive.{derive, mappings}
-use Rattle.fs_derive.specs.Kinds.{all_kinds, kinds_of, tree_owner}
-use Rattle.fs_derive.specs.Own.{own, rmap_of}
+use Rattle.fs_state.specs.Chunks.{chunks}
+use Rattle.fs_state.specs.Claims.{claims, fork_claims}
+use Rattle.fs_state.specs.Derive.{derive, mappings}
+use Rattle.fs_state.specs.Records.{all_kinds, kinds_of, tree_owner}
+use Rattle.fs_state.specs.Own.{own, rmap_of}
 use Rattle.fs_model.specs.declared.entry.Entry.TheVariants as entries
 use Rattle.fs_model.specs.declared.fault.Counter.{Counter}
 use Rattle.fs_model.specs.declared.unit.Unit.TheVariants as units

@@ -17,11 +17,11 @@ use Rattle.fs_change.specs.Changes.{block_extent}
 use Rattle.fs_change.specs.Choice.{has_claim, in_spans, is_guarded, is_spare, is_unowned, none_sick, space_kinds, spare_block}
 use Rattle.fs_change.specs.Laws.{fork_owners}
 use Rattle.fs_change.specs.Parts.{records_in, sick_in}
-use Rattle.fs_derive.specs.Chunks.{chunks}
-use Rattle.fs_derive.specs.Claims.{Claimed, claimed_by, claims, fork_claims, log_claims, metadata_claims}
-use Rattle.fs_derive.specs.Derive.{mappings}
-use Rattle.fs_derive.specs.Lists.{numbers}
-use Rattle.fs_derive.specs.Own.{own, tuple_of}
+use Rattle.fs_state.specs.Chunks.{chunks}
+use Rattle.fs_state.specs.Claims.{Claimed, claimed_by, claims, fork_claims, log_claims, metadata_claims}
+use Rattle.fs_state.specs.Derive.{mappings}
+use Rattle.fs_state.specs.Lists.{numbers}
+use Rattle.fs_state.specs.Own.{own, tuple_of}
 use Rattle.fs_model.specs.declared.claim.Claim.TheVariants.{Chunk, Heads}
 use Rattle.fs_model.specs.declared.unit.Unit.{Unit as ScrubUnit}
 use Rattle.fs_model.specs.declared.unit.Unit.TheVariants as units

@@ -12,9 +12,9 @@ use Rattle.fs_change.specs.Parts.{in_trees, set_blocks, set_trust, set_trusts}
 use Rattle.fs_change.specs.Records.{give_span, take_mapping}
 use Rattle.fs_change.specs.Step.{Row, Step}
 use Rattle.fs_change.specs.Switch.{derived_in, exact_counters, hold, join_limbo, move_blocks, moved, switched}
-use Rattle.fs_derive.specs.Derive.{derive}
-use Rattle.fs_derive.specs.Faults.{kind_of_fault}
-use Rattle.fs_derive.specs.Kinds.{kinds_of}
+use Rattle.fs_state.specs.Derive.{derive}
+use Rattle.fs_state.specs.Faults.{kind_of_fault}
+use Rattle.fs_state.specs.Records.{kinds_of}
 use Rattle.fs_model.specs.declared.entry.Entry.{Entry}
 use Rattle.fs_model.specs.declared.entry.Entry.TheVariants as entries
 use Rattle.fs_model.specs.declared.entry.Extent.{Extent}

@@ -11,9 +11,9 @@ use Rattle.fs_change.proofs.Sets.{has_set, of_has, same_self}
 use Rattle.fs_change.specs.Chains.{settled_forks, settled_own}
 use Rattle.fs_change.specs.Choice.{has_claim, in_spans, is_spare}
 use Rattle.fs_change.specs.Parts.{is_sick, sick_in}
-use Rattle.fs_derive.specs.Claims.{Claimed, claims, fork_claims, metadata_claims}
-use Rattle.fs_derive.specs.Derive.{bno_of, derive, mappings}
-use Rattle.fs_derive.specs.Own.{own, rmap_of, tuple_of}
+use Rattle.fs_state.specs.Claims.{Claimed, claims, fork_claims, metadata_claims}
+use Rattle.fs_state.specs.Derive.{bno_of, derive, mappings}
+use Rattle.fs_state.specs.Own.{own, rmap_of, tuple_of}
 use Rattle.fs_model.specs.declared.unit.Trust.{Trust}
 use Rattle.fs_model.specs.declared.unit.Trust.TheVariants.{Good, Sick, Unknown}
 use Rattle.fs_model.specs.declared.unit.Unit.TheVariants as units

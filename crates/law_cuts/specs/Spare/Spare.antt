@@ -6,8 +6,8 @@ use Rattle.fs_change.specs.Chains.{owed_takings, settled_forks, settled_own}
 use Rattle.fs_change.specs.Changes.{block_extent}
 use Rattle.fs_change.specs.Loose.{pool_of}
 use Rattle.fs_change.specs.Step.{Row, Step}
-use Rattle.fs_derive.specs.Derive.{mappings}
-use Rattle.fs_derive.specs.Own.{own}
+use Rattle.fs_state.specs.Derive.{mappings}
+use Rattle.fs_state.specs.Own.{own}
 use Rattle.fs_model.specs.declared.entry.Entry.TheVariants as entries
 use Rattle.fs_model.specs.declared.unit.Unit.{Unit as ScrubUnit}
 use Rattle.fs_model.specs.declared.unit.Unit.TheVariants as units

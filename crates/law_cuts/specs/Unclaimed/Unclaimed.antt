@@ -3,7 +3,7 @@
 use Rattle.std.specs.Prelude.{◌≡◌, ℕ, true, false, List}
 use Rattle.fs_change.specs.Choice.{has_claim}
 use Rattle.fs_change.specs.Step.{Row, Step}
-use Rattle.fs_derive.specs.Claims.{metadata_claims}
+use Rattle.fs_state.specs.Claims.{metadata_claims}
 use Rattle.fs_model.specs.declared.entry.Entry.{Entry}
 use Rattle.fs_model.specs.declared.entry.Entry.TheVariants as entries
 use Rattle.fs_model.specs.declared.unit.Trust.TheVariants.{Unknown}

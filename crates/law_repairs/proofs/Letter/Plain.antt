@@ -8,11 +8,11 @@ use Rattle.dinode_core.specs.ForkTree.{TreeBlock}
 use Rattle.dinode_core.specs.declared.mapping.Fork.TheVariants as forks
 use Rattle.dinode_core.specs.declared.mapping.Mapping.{Mapping}
 use Rattle.fs_change.proofs.Sets.{has_set, same_is}
-use Rattle.fs_derive.specs.Chunks.{chunks, inode_in, inodes, inodes_in}
-use Rattle.fs_derive.specs.Claims.{Claimed, attribute, attribute_claims, blocks_at, claimed_by, claims, data_claims, fork_claims, fork_of, fork_tree, fork_tree_claims, log_claims, mapped_blocks, mapping_claims, metadata_claims, tree_block_at, tree_claims, word_of}
-use Rattle.fs_derive.specs.Kinds.{all_kinds, tree_owner}
-use Rattle.fs_derive.specs.Lists.{numbers, only_if}
-use Rattle.fs_derive.specs.Own.{own, tuple_of}
+use Rattle.fs_state.specs.Chunks.{chunks, inode_in, inodes, inodes_in}
+use Rattle.fs_state.specs.Claims.{Claimed, attribute, attribute_claims, blocks_at, claimed_by, claims, data_claims, fork_claims, fork_of, fork_tree, fork_tree_claims, log_claims, mapped_blocks, mapping_claims, metadata_claims, tree_block_at, tree_claims, word_of}
+use Rattle.fs_state.specs.Records.{all_kinds, tree_owner}
+use Rattle.fs_state.specs.Lists.{numbers, only_if}
+use Rattle.fs_state.specs.Own.{own, tuple_of}
 use Rattle.fs_model.specs.declared.claim.Claim.{Claim}
 use Rattle.fs_model.specs.declared.claim.Claim.TheVariants.{Attr, Chunk, Data, ForkTree, Limbo, List as FreeList, Log, Reserve, Tree}
 use Rattle.fs_state.specs.Apart.{is_chunk}

@@ -17,12 +17,12 @@ use Rattle.fs_change.specs.Parts.{is_edited, records_in, sick_in, with_recs}
 use Rattle.fs_change.specs.Records.{by_start, give_span, span, take_mapping}
 use Rattle.fs_change.specs.Step.{Step, edited_in}
 use Rattle.fs_change.specs.Switch.{has_owned, owned_by as with_owner}
-use Rattle.fs_derive.specs.Derive.{derive, mappings, refc_of}
-use Rattle.fs_derive.specs.Faults.{blocks_counted, wanted}
-use Rattle.fs_derive.specs.Kinds.{all_kinds}
-use Rattle.fs_derive.specs.Laws.{IsGood}
-use Rattle.fs_derive.specs.Lists.{numbers}
-use Rattle.fs_derive.specs.Own.{own, rmap_of}
+use Rattle.fs_state.specs.Derive.{derive, mappings, refc_of}
+use Rattle.fs_state.specs.Faults.{blocks_counted, wanted}
+use Rattle.fs_state.specs.Records.{all_kinds}
+use Rattle.fs_state.specs.Laws.{IsGood}
+use Rattle.fs_state.specs.Lists.{numbers}
+use Rattle.fs_state.specs.Own.{own, rmap_of}
 use Rattle.fs_model.specs.declared.entry.Entry.TheVariants as entries
 use Rattle.fs_model.specs.declared.entry.Extent.{Extent}
 use Rattle.fs_model.specs.declared.fault.Counter.{Counter}

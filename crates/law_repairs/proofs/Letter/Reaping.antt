@@ -11,11 +11,11 @@ use Rattle.fs_change.specs.Choice.{is_guarded}
 use Rattle.fs_change.specs.Loose.{owners_in, tree_blocks}
 use Rattle.fs_change.specs.Records.{take_mapping}
 use Rattle.fs_change.specs.Switch.{has_owned, owned_by as with_owner}
-use Rattle.fs_derive.specs.Chunks.{chunks}
-use Rattle.fs_derive.specs.Claims.{Claimed, claims, fork_claims}
-use Rattle.fs_derive.specs.Kinds.{all_kinds, tree_owner}
-use Rattle.fs_derive.specs.Lists.{numbers}
-use Rattle.fs_derive.specs.Own.{own, rmap_of}
+use Rattle.fs_state.specs.Chunks.{chunks}
+use Rattle.fs_state.specs.Claims.{Claimed, claims, fork_claims}
+use Rattle.fs_state.specs.Records.{all_kinds, tree_owner}
+use Rattle.fs_state.specs.Lists.{numbers}
+use Rattle.fs_state.specs.Own.{own, rmap_of}
 use Rattle.fs_model.specs.declared.entry.Extent.{Extent}
 use Rattle.fs_state.specs.State.{State, Group, Owned}
 use Rattle.geom.specs.Apart.{Splits}

@@ -8,8 +8,8 @@ use Rattle.fs_change.specs.Changes.{is_in_extent}
 use Rattle.fs_change.specs.Loose.{owners_in, pool_of, tree_blocks}
 use Rattle.fs_change.specs.Parts.{is_edited, is_sick, sick_in}
 use Rattle.fs_change.specs.Step.{Row, Step, edited_in, edited_kinds, filled_list, group_of_entry}
-use Rattle.fs_derive.specs.Kinds.{all_kinds}
-use Rattle.fs_derive.specs.Lists.{numbers}
+use Rattle.fs_state.specs.Records.{all_kinds}
+use Rattle.fs_state.specs.Lists.{numbers}
 use Rattle.fs_model.specs.declared.entry.Entry.{Entry}
 use Rattle.fs_model.specs.declared.entry.Entry.TheVariants as entries
 use Rattle.fs_model.specs.declared.unit.Trust.{Trust}

@@ -7,7 +7,7 @@ use Rattle.fs_change.specs.Loose.{Inside, MovesBlocks, count_used, lost_to, may_
 use Rattle.fs_change.specs.Met.{give_each, take_each}
 use Rattle.fs_change.specs.Parts.{in_blocks, in_trees}
 use Rattle.fs_change.specs.Switch.{has_owned}
-use Rattle.fs_derive.specs.Kinds.{all_kinds, tree_owner}
+use Rattle.fs_state.specs.Records.{all_kinds, tree_owner}
 use Rattle.fs_state.specs.Edits.{number_of as kind_number}
 use Rattle.fs_state.specs.Group.{is_among}
 use Rattle.fs_state.specs.Kinds.{RecOf}

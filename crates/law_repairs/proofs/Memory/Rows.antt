@@ -7,7 +7,7 @@ use Rattle.fs_change.specs.Changes.{change_count, changes_count, chunk_extent, c
 use Rattle.fs_change.specs.Parts.{edit, in_group, records_in}
 use Rattle.fs_change.specs.Records.{give_mapping, give_span, is_unwritten_at, set_count, take_mapping, take_span}
 use Rattle.fs_change.specs.Step.{Row, group_of_entry, group_of_inode}
-use Rattle.fs_derive.specs.Lists.{numbers}
+use Rattle.fs_state.specs.Lists.{numbers}
 use Rattle.fs_model.specs.declared.entry.Entry.{Entry}
 use Rattle.fs_model.specs.declared.entry.Entry.TheVariants as entries
 use Rattle.fs_model.specs.declared.entry.Extent.{Extent}

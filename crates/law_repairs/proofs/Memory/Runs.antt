@@ -6,7 +6,7 @@ use Rattle.std.proofs.lemmas.Bool.{and_parts, cases_eq, leb-true, ne_eqb}
 use Rattle.std.proofs.lemmas.List.{reverse-append}
 use Rattle.fs_change.specs.Choice.{chosen_of, extent, first_in, fitting, front_in, last_of}
 use Rattle.fs_change.specs.Parts.{records_in}
-use Rattle.fs_derive.specs.Lists.{numbers}
+use Rattle.fs_state.specs.Lists.{numbers}
 use Rattle.fs_model.specs.declared.entry.Extent.{Extent}
 use Rattle.fs_state.proofs.Trees.{lawful_of}
 use Rattle.fs_state.specs.Kinds.{Image, form_of, heads_of, level_of, root_of}

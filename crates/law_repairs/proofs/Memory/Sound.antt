@@ -12,7 +12,7 @@ use Rattle.fs_change.specs.Loose.{owners_in, pool_of}
 use Rattle.fs_change.specs.Parts.{records_in, sick_in}
 use Rattle.fs_change.specs.Records.{end_of, holder_of, last_at, only_where, span}
 use Rattle.fs_change.specs.Step.{Step}
-use Rattle.fs_derive.specs.Claims.{Claimed, claims, fork_claims, metadata_claims}
+use Rattle.fs_state.specs.Claims.{Claimed, claims, fork_claims, metadata_claims}
 use Rattle.fs_model.specs.declared.entry.Entry.TheVariants as entries
 use Rattle.fs_model.specs.declared.entry.Extent.{Extent}
 use Rattle.fs_state.specs.Apart.{Has, InOwned, LimboOf, is_covered, is_free}

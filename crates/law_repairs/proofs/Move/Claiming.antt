@@ -3,11 +3,11 @@ use Rattle.std.proofs.Common.{◌≡◌, ℕ, ◌+◌, ◌≤◌, ◌==◌, ◌&
 use Rattle.fs_change.specs.Loose.{owners_in}
 use Rattle.fs_change.specs.Switch.{owned_by as with_owner}
 use Rattle.fs_change.proofs.Sets.{has_set}
-use Rattle.fs_derive.specs.Chunks.{chunks}
-use Rattle.fs_derive.specs.Claims.{Claimed, claimed_by, claims, fork_claims, metadata_claims}
-use Rattle.fs_derive.specs.Contradiction.{is_written_data}
-use Rattle.fs_derive.specs.Kinds.{all_kinds, tree_owner}
-use Rattle.fs_derive.specs.Own.{own, tuple_of}
+use Rattle.fs_state.specs.Chunks.{chunks}
+use Rattle.fs_state.specs.Claims.{Claimed, claimed_by, claims, fork_claims, metadata_claims}
+use Rattle.fs_state.specs.Contradiction.{is_written_data}
+use Rattle.fs_state.specs.Records.{all_kinds, tree_owner}
+use Rattle.fs_state.specs.Own.{own, tuple_of}
 use Rattle.fs_model.specs.declared.claim.Claim.TheVariants.{List as FreeList, Tree, Reserve, Limbo}
 use Rattle.fs_state.specs.State.{State, Group, Owned, blocks_in}
 use Rattle.rmap_recs.specs.Owners.{number_of}

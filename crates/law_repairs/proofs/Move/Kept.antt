@@ -7,14 +7,14 @@ use Rattle.std.proofs.lemmas.List.{length-append}
 use Rattle.fs_change.proofs.Sets.{one_set}
 use Rattle.fs_change.specs.Changes.{follow}
 use Rattle.fs_change.specs.Loose.{Loosely, owners_in, pool_of, tree_blocks}
-use Rattle.fs_derive.specs.Chunks.{chunks}
-use Rattle.fs_derive.specs.Claims.{Claimed, claims, fork_claims}
-use Rattle.fs_derive.specs.Contradiction.{first_overlap}
-use Rattle.fs_derive.specs.Derive.{derive, mappings}
-use Rattle.fs_derive.specs.Faults.{beside_roots, blocks_counted, wanted}
-use Rattle.fs_derive.specs.Kinds.{all_kinds}
-use Rattle.fs_derive.specs.Laws.{IsGood, IsGoodCounter, IsGoodTree}
-use Rattle.fs_derive.specs.Own.{own, rmap_of, tuple_of}
+use Rattle.fs_state.specs.Chunks.{chunks}
+use Rattle.fs_state.specs.Claims.{Claimed, claims, fork_claims}
+use Rattle.fs_state.specs.Contradiction.{first_overlap}
+use Rattle.fs_state.specs.Derive.{derive, mappings}
+use Rattle.fs_state.specs.Faults.{beside_roots, blocks_counted, wanted}
+use Rattle.fs_state.specs.Records.{all_kinds}
+use Rattle.fs_state.specs.Laws.{IsGood, IsGoodCounter, IsGoodTree}
+use Rattle.fs_state.specs.Own.{own, rmap_of, tuple_of}
 use Rattle.fs_model.specs.declared.fault.Counter.{Counter}
 use Rattle.fs_model.specs.declared.fault.Counter.TheVariants.{Count, Freecount, Iblocks, Fblocks, RmapBlocks, Freeblks, Longest, Btreeblks, RefcountBlocks}
 use Rattle.fs_model.specs.declared.unit.Unit.{Unit as ScrubUnit}

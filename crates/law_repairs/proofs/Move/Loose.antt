@@ -5,10 +5,10 @@ use Rattle.std.specs.List.{list_all}
 use Rattle.std.proofs.lemmas.Bool.{and_parts, true≢false}
 use Rattle.fs_change.specs.Loose.{Loosely}
 use Rattle.fs_change.specs.Parts.{stands_in}
-use Rattle.fs_derive.specs.Claims.{Claimed}
-use Rattle.fs_derive.specs.Kinds.{kinds_of}
-use Rattle.fs_derive.specs.Laws.{EachTree}
-use Rattle.fs_derive.specs.Own.{own, set_of, tuple_of}
+use Rattle.fs_state.specs.Claims.{Claimed}
+use Rattle.fs_state.specs.Records.{kinds_of}
+use Rattle.fs_state.specs.Laws.{EachTree}
+use Rattle.fs_state.specs.Own.{own, set_of, tuple_of}
 use Rattle.fs_model.specs.declared.unit.Trust.TheVariants.{Good}
 use Rattle.fs_model.specs.declared.unit.Unit.{Unit as ScrubUnit}
 use Rattle.fs_state.specs.Apart.{is_chunk}

@@ -9,7 +9,7 @@ use Rattle.fs_change.specs.Loose.{Inside, MovesBlocks, block_counter, count_used
 use Rattle.fs_change.specs.Met.{give_each, take_each}
 use Rattle.fs_change.specs.Parts.{change_tree, edit, in_blocks, in_trees, is_edited, set_blocks, tree_only, with_recs}
 use Rattle.fs_change.specs.Switch.{has_owned}
-use Rattle.fs_derive.specs.Kinds.{all_kinds, tree_owner}
+use Rattle.fs_state.specs.Records.{all_kinds, tree_owner}
 use Rattle.fs_model.specs.declared.fault.Counter.{Counter}
 use Rattle.fs_model.specs.declared.fault.Counter.TheVariants.{Count, Freecount, Iblocks, Fblocks, RmapBlocks, Freeblks, Longest, Btreeblks, RefcountBlocks}
 use Rattle.fs_model.specs.declared.unit.Trust.{Trust}

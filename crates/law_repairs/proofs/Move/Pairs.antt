@@ -5,7 +5,7 @@ use Rattle.std.specs.List.{list_all, list_any}
 use Rattle.std.proofs.lemmas.Bool.{and_parts, cases_order, true≢false}
 use Rattle.fs_change.specs.Loose.{lost_to, owners_in, pool_of, tree_blocks}
 use Rattle.fs_change.specs.Switch.{has_owned, is_same_owned, owned_by}
-use Rattle.fs_derive.specs.Kinds.{all_kinds, tree_owner}
+use Rattle.fs_state.specs.Records.{all_kinds, tree_owner}
 use Rattle.fs_state.specs.State.{Group, Owned, blocks_in}
 use Rattle.rmap_recs.specs.Owners.{number_of}
 use Rattle.rmap_recs.specs.declared.owner.Owner.TheVariants.{Ag}

@@ -7,9 +7,9 @@ use Rattle.derive_defs.proofs.SpaceLemmas.{free_fit}
 use Rattle.fs_change.specs.Changes.{by_count, follow, last_count, span_sum}
 use Rattle.fs_change.specs.Parts.{is_edited, records_in, with_recs}
 use Rattle.fs_change.specs.Records.{by_start, give_span, holder_of, span, take_span}
-use Rattle.fs_derive.specs.Derive.{bno_of, cnt_of, derive, mappings}
-use Rattle.fs_derive.specs.Faults.{beside_roots, blocks_counted, wanted}
-use Rattle.fs_derive.specs.Laws.{IsGood, IsGoodCounter, IsGoodTree}
+use Rattle.fs_state.specs.Derive.{bno_of, cnt_of, derive, mappings}
+use Rattle.fs_state.specs.Faults.{beside_roots, blocks_counted, wanted}
+use Rattle.fs_state.specs.Laws.{IsGood, IsGoodCounter, IsGoodTree}
 use Rattle.fs_model.specs.declared.entry.Extent.{Extent}
 use Rattle.fs_model.specs.declared.fault.Counter.TheVariants.{Freeblks, Longest, Btreeblks}
 use Rattle.fs_model.specs.declared.unit.Unit.TheVariants as units

@@ -6,7 +6,7 @@ use Rattle.fs_change.proofs.Trees.{Not, edited}
 use Rattle.fs_change.specs.Changes.{by_count, known_spans, space_edit}
 use Rattle.fs_change.specs.Parts.{change_tree, edit, is_edited, records_in, tree_only, with_recs}
 use Rattle.fs_change.specs.Records.{by_start, span}
-use Rattle.fs_derive.specs.Faults.{blocks_counted}
+use Rattle.fs_state.specs.Faults.{blocks_counted}
 use Rattle.fs_model.specs.declared.entry.Extent.{Extent}
 use Rattle.fs_model.specs.declared.fault.Counter.{Counter}
 use Rattle.fs_model.specs.declared.fault.Counter.TheVariants.{Count, Freecount, Iblocks, Fblocks, RmapBlocks, Freeblks, Longest, Btreeblks, RefcountBlocks}

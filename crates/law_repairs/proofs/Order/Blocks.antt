@@ -4,7 +4,7 @@ use Rattle.std.specs.Prelude.{◌⊎◌}
 use Rattle.std.proofs.lemmas.Bool.{cases_lt}
 use Rattle.std.proofs.lemmas.List.{append-nil}
 use Rattle.fs_change.specs.Loose.{pool_of, tree_blocks}
-use Rattle.fs_derive.specs.Kinds.{all_kinds}
+use Rattle.fs_state.specs.Records.{all_kinds}
 use Rattle.fs_state.specs.Apart.{Apart, Has, HeadsOf, InOwned, LimboOf, ListOf, LogPart, Part, ReserveOf, TreeOf, ChunkAt, ForkTreeOf}
 use Rattle.fs_state.specs.Frame.{Firm}
 use Rattle.fs_state.specs.Kinds.{Image, heads_in}

@@ -7,8 +7,8 @@ use Rattle.fs_change.specs.Loose.{tree_blocks}
 use Rattle.fs_change.specs.Parts.{is_sick, set_trusts, sick_in}
 use Rattle.fs_change.specs.Records.{give_span, take_mapping}
 use Rattle.fs_change.specs.Switch.{is_reserve_of, join_limbo, owned_by, unit_owner}
-use Rattle.fs_derive.specs.Kinds.{kinds_of}
-use Rattle.fs_derive.specs.Laws.{EachTree, IsGoodTree}
+use Rattle.fs_state.specs.Records.{kinds_of}
+use Rattle.fs_state.specs.Laws.{EachTree, IsGoodTree}
 use Rattle.fs_model.specs.declared.entry.Extent.{Extent}
 use Rattle.fs_model.specs.declared.unit.Trust.{Trust}
 use Rattle.fs_model.specs.declared.unit.Trust.TheVariants.{Good}

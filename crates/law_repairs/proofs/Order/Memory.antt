@@ -12,10 +12,10 @@ use Rattle.fs_change.specs.Loose.{pool_of, tree_blocks}
 use Rattle.fs_change.specs.Parts.{is_edited, is_sick, set_trust}
 use Rattle.fs_change.specs.Step.{MayReserve, Step}
 use Rattle.fs_change.specs.Switch.{join_limbo}
-use Rattle.fs_derive.specs.Claims.{claims, metadata_claims}
-use Rattle.fs_derive.specs.Faults.{kind_of_fault}
-use Rattle.fs_derive.specs.Kinds.{all_kinds}
-use Rattle.fs_derive.specs.Lists.{numbers}
+use Rattle.fs_state.specs.Claims.{claims, metadata_claims}
+use Rattle.fs_state.specs.Faults.{kind_of_fault}
+use Rattle.fs_state.specs.Records.{all_kinds}
+use Rattle.fs_state.specs.Lists.{numbers}
 use Rattle.fs_model.specs.declared.entry.Entry.{Entry}
 use Rattle.fs_model.specs.declared.entry.Entry.TheVariants as entries
 use Rattle.fs_model.specs.declared.unit.Trust.{Trust}

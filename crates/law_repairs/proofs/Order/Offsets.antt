@@ -10,7 +10,7 @@ use Rattle.dinode_core.specs.declared.mapping.Fork.TheVariants.{Data, Attr}
 use Rattle.dinode_core.specs.declared.mapping.ForkFault.{ForkFault}
 use Rattle.dinode_core.specs.declared.mapping.ForkFault.TheVariants as faults
 use Rattle.dinode_core.specs.declared.mapping.Mapping.{Mapping}
-use Rattle.fs_derive.specs.Claims.{attribute, fork_of, fork_tree, read_fork, unwritten, word_of}
+use Rattle.fs_state.specs.Claims.{attribute, fork_of, fork_tree, read_fork, unwritten, word_of}
 use Rattle.fs_state.specs.State.{State}
 use Rattle.geom.specs.Layout.{Layout, split_of}
 use Rattle.rmap_recs.specs.Owners.{is_inode}

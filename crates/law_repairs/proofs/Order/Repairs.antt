@@ -12,10 +12,10 @@ use Rattle.fs_change.specs.Changes.{owner_of_run}
 use Rattle.fs_change.specs.Choice.{has_claim, is_spare}
 use Rattle.fs_change.specs.Edited.{group_of_entry}
 use Rattle.fs_change.specs.Step.{MayReserve, Step}
-use Rattle.fs_derive.specs.Chunks.{chunks}
-use Rattle.fs_derive.specs.Claims.{Claimed, claimed_by, claims, fork_claims, log_claims, metadata_claims}
-use Rattle.fs_derive.specs.Kinds.{all_kinds, tree_owner}
-use Rattle.fs_derive.specs.Lists.{numbers}
+use Rattle.fs_state.specs.Chunks.{chunks}
+use Rattle.fs_state.specs.Claims.{Claimed, claimed_by, claims, fork_claims, log_claims, metadata_claims}
+use Rattle.fs_state.specs.Records.{all_kinds, tree_owner}
+use Rattle.fs_state.specs.Lists.{numbers}
 use Rattle.fs_model.specs.declared.claim.Claim.TheVariants.{Chunk, Heads, Limbo, List as FreeList, Reserve, Tree}
 use Rattle.fs_model.specs.declared.entry.Entry.{Entry}
 use Rattle.fs_model.specs.declared.entry.Entry.TheVariants as entries

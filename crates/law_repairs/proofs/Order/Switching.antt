@@ -10,11 +10,11 @@ use Rattle.fs_change.proofs.Trees.{in_itself}
 use Rattle.fs_change.specs.Laws.{OnlyChunks}
 use Rattle.fs_change.specs.Parts.{in_blocks}
 use Rattle.fs_change.specs.Switch.{AreLaid, is_reserve_of, join_limbo, kind_need, limbo_of, lost_blocks, lost_owned, move_blocks, moved, need, owned_by}
-use Rattle.fs_derive.specs.Chunks.{chunks}
-use Rattle.fs_derive.specs.Claims.{Claimed, claims, fork_claims}
-use Rattle.fs_derive.specs.Kinds.{tree_owner}
-use Rattle.fs_derive.specs.Lists.{numbers}
-use Rattle.fs_derive.specs.Own.{own, set_of, tuple_of}
+use Rattle.fs_state.specs.Chunks.{chunks}
+use Rattle.fs_state.specs.Claims.{Claimed, claims, fork_claims}
+use Rattle.fs_state.specs.Records.{tree_owner}
+use Rattle.fs_state.specs.Lists.{numbers}
+use Rattle.fs_state.specs.Own.{own, set_of, tuple_of}
 use Rattle.fs_model.specs.declared.unit.Unit.TheVariants as units
 use Rattle.fs_state.specs.Read.{group_of, state_of}
 use Rattle.fs_state.specs.State.{Group, Owned, Reading, Readable, State, Unreadable, blocks_in, blocks_of, comes_first, is_readable, pairs_of, put_pair}

@@ -7,8 +7,8 @@ use Rattle.std.proofs.lemmas.Bool.{true≢false}
 use Rattle.fs_change.specs.Loose.{Inside, MovesBlocks, owners_in, pool_of, tree_blocks}
 use Rattle.fs_change.specs.Choice.{has_claim}
 use Rattle.fs_change.specs.Parts.{is_sick, sick_in}
-use Rattle.fs_derive.specs.Claims.{claims, fork_claims, metadata_claims}
-use Rattle.fs_derive.specs.Kinds.{all_kinds, tree_owner}
+use Rattle.fs_state.specs.Claims.{claims, fork_claims, metadata_claims}
+use Rattle.fs_state.specs.Records.{all_kinds, tree_owner}
 use Rattle.fs_state.specs.State.{Group, Owned, State, blocks_in, comes_first, is_readable, pairs_of, put_pair}
 use Rattle.law_repairs.proofs.Move.Claiming.{metadata_is, owned_plain, owned_times}
 use Rattle.law_repairs.proofs.Move.Moving.{Moved, blocks_moved}

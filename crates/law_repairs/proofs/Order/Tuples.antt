@@ -3,7 +3,7 @@ use Rattle.std.proofs.Common.{◌≡◌, ℕ, Bool, true, false, ◌&&◌, ◌==
 use Rattle.std.specs.Prelude.{nat_lt, if◌then◌else◌}
 use Rattle.std.proofs.lemmas.Bool.{and_from, eq-eqb, false≢true}
 use Rattle.std.proofs.lemmas.Bool.Decides.{nat_tests}
-use Rattle.fs_derive.specs.Own.{comes_before, put_once, set_of}
+use Rattle.fs_state.specs.Own.{comes_before, put_once, set_of}
 use Rattle.rmap_recs.specs.Rmap.{is_first, is_key_before}
 use Rattle.rmap_recs.specs.Runs.{AreTuples, is_same, is_tuple_before}
 use Rattle.rmap_recs.specs.Words.{key_word}

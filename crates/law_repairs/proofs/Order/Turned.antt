@@ -8,10 +8,10 @@ use Rattle.std.proofs.lemmas.List.Sums.{sum_by-cons}
 use Rattle.fs_change.proofs.Trees.{in_itself}
 use Rattle.fs_change.specs.Parts.{sick_in}
 use Rattle.fs_change.specs.Switch.{AreLaid, derived_in, empty_trees, exact_counters, hold, is_reserve_of, join_limbo, kind_need, limbo_of, lost_blocks, lost_owned, move_blocks, moved, need, owned_by, readable_blocks, switched, unclaimed, unit_owner, without_trees}
-use Rattle.fs_derive.specs.Claims.{claims}
-use Rattle.fs_derive.specs.Derive.{derive}
-use Rattle.fs_derive.specs.Kinds.{kinds_of}
-use Rattle.fs_derive.specs.Lists.{numbers}
+use Rattle.fs_state.specs.Claims.{claims}
+use Rattle.fs_state.specs.Derive.{derive}
+use Rattle.fs_state.specs.Records.{kinds_of}
+use Rattle.fs_state.specs.Lists.{numbers}
 use Rattle.fs_model.specs.declared.unit.Unit.{Unit as ScrubUnit}
 use Rattle.fs_model.specs.declared.unit.Unit.TheVariants as units
 use Rattle.fs_state.specs.Kinds.{RecOf}

@@ -4,8 +4,8 @@ use Rattle.std.specs.Prelude.{nat_lt, if◌then◌else◌}
 use Rattle.std.proofs.lemmas.Bool.{lt-ltb, cases_eq, eq-eqb, ne_eqb}
 use Rattle.claim_laws.specs.Whole.{ForksAreGood}
 use Rattle.fs_change.specs.Switch.{unit_owner}
-use Rattle.fs_derive.specs.Claims.{Claimed, claims}
-use Rattle.fs_derive.specs.Own.{own, set_of, tuple_of}
+use Rattle.fs_state.specs.Claims.{Claimed, claims}
+use Rattle.fs_state.specs.Own.{own, set_of, tuple_of}
 use Rattle.fs_model.specs.declared.unit.Trust.TheVariants.{Sick}
 use Rattle.fs_state.specs.Frame.{OpeningLaw}
 use Rattle.fs_state.specs.Kinds.{Image, heads_in, form_of, heads_of, level_of, root_of}

@@ -9,13 +9,13 @@ use Rattle.dinode_core.specs.declared.mapping.Fork.{Fork}
 use Rattle.dinode_core.specs.declared.mapping.Fork.TheVariants as forks
 use Rattle.dinode_core.specs.declared.mapping.ForkFault.{ForkFault}
 use Rattle.fs_change.specs.Forget.{Forget, KeepsReading, is_reserved}
-use Rattle.fs_derive.specs.Chunks.{inodes}
-use Rattle.fs_derive.specs.Contradiction.{bad_fork, bad_fork_of, first_bad_fork}
-use Rattle.fs_derive.specs.Derive.{derive}
-use Rattle.fs_derive.specs.Faults.{counter_fault, faults, faults_of_counter, faults_of_kind, index_faults, wanted}
-use Rattle.fs_derive.specs.Kinds.{counters_of, kinds_of, shown_of}
-use Rattle.fs_derive.specs.Laws.{EachCounter, EachTree, IsGood, IsGoodCounter, IsGoodTree}
-use Rattle.fs_derive.specs.Lists.{first_of_all}
+use Rattle.fs_state.specs.Chunks.{inodes}
+use Rattle.fs_state.specs.Contradiction.{bad_fork, bad_fork_of, first_bad_fork}
+use Rattle.fs_state.specs.Derive.{derive}
+use Rattle.fs_state.specs.Faults.{counter_fault, faults, faults_of_counter, faults_of_kind, index_faults, wanted}
+use Rattle.fs_state.specs.Records.{counters_of, kinds_of, shown_of}
+use Rattle.fs_state.specs.Laws.{EachCounter, EachTree, IsGood, IsGoodCounter, IsGoodTree}
+use Rattle.fs_state.specs.Lists.{first_of_all}
 use Rattle.fs_model.specs.declared.claim.Evidence.{Evidence}
 use Rattle.fs_model.specs.declared.fault.Counter.{Counter}
 use Rattle.fs_model.specs.declared.fault.Fault.{Fault}

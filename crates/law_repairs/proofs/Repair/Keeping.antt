@@ -5,9 +5,9 @@ use Rattle.std.proofs.lemmas.Bool.{cases_Bool, true≢false}
 use Rattle.fs_change.specs.Changes.{judged, marked}
 use Rattle.fs_change.specs.Loose.{Loosely}
 use Rattle.fs_change.specs.Parts.{in_group, set_trust, set_trusts}
-use Rattle.fs_derive.specs.Faults.{kind_of_fault}
-use Rattle.fs_derive.specs.Kinds.{kinds_of}
-use Rattle.fs_derive.specs.Laws.{EachTree}
+use Rattle.fs_state.specs.Faults.{kind_of_fault}
+use Rattle.fs_state.specs.Records.{kinds_of}
+use Rattle.fs_state.specs.Laws.{EachTree}
 use Rattle.fs_model.specs.declared.unit.Trust.{Trust}
 use Rattle.fs_model.specs.declared.unit.Trust.TheVariants.{Good, Sick}
 use Rattle.fs_model.specs.declared.unit.Unit.{Unit as ScrubUnit}

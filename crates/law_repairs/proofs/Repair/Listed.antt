@@ -9,11 +9,11 @@ use Rattle.fs_change.specs.Parts.{is_edited}
 use Rattle.fs_change.specs.Step.{edited_in}
 use Rattle.fs_change.specs.Edited.{edits_reserve}
 use Rattle.fs_change.specs.Switch.{owned_by as with_owner}
-use Rattle.fs_derive.specs.Chunks.{chunks}
-use Rattle.fs_derive.specs.Claims.{Claimed, claimed_by, claims, fork_claims}
-use Rattle.fs_derive.specs.Contradiction.{first_overlap, is_written_data}
-use Rattle.fs_derive.specs.Kinds.{all_kinds}
-use Rattle.fs_derive.specs.Own.{own, tuple_of}
+use Rattle.fs_state.specs.Chunks.{chunks}
+use Rattle.fs_state.specs.Claims.{Claimed, claimed_by, claims, fork_claims}
+use Rattle.fs_state.specs.Contradiction.{first_overlap, is_written_data}
+use Rattle.fs_state.specs.Records.{all_kinds}
+use Rattle.fs_state.specs.Own.{own, tuple_of}
 use Rattle.fs_model.specs.declared.claim.Claim.TheVariants.{List as FreeList}
 use Rattle.fs_model.specs.declared.entry.Entry.TheVariants as entries
 use Rattle.fs_model.specs.declared.fault.Counter.{Counter}

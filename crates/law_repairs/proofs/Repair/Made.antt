@@ -11,11 +11,11 @@ use Rattle.fs_change.specs.Loose.{Loosely}
 use Rattle.fs_change.specs.Parts.{in_group, records_in}
 use Rattle.fs_change.specs.Step.{MaySwitch}
 use Rattle.fs_change.specs.Switch.{AreLaid, empty_trees, kind_need, lost_blocks, moved, readable_blocks, switched, without_trees}
-use Rattle.fs_derive.specs.Claims.{Claimed, claims}
-use Rattle.fs_derive.specs.Contradiction.{evidence, first_bad_fork, first_contradiction, first_later, first_overlap}
-use Rattle.fs_derive.specs.Kinds.{kinds_of}
-use Rattle.fs_derive.specs.Laws.{EachTree}
-use Rattle.fs_derive.specs.Lists.{first_of_all, numbers}
+use Rattle.fs_state.specs.Claims.{Claimed, claims}
+use Rattle.fs_state.specs.Contradiction.{evidence, first_bad_fork, first_contradiction, first_later, first_overlap}
+use Rattle.fs_state.specs.Records.{kinds_of}
+use Rattle.fs_state.specs.Laws.{EachTree}
+use Rattle.fs_state.specs.Lists.{first_of_all, numbers}
 use Rattle.fs_model.specs.declared.claim.Evidence.{Evidence}
 use Rattle.fs_model.specs.declared.unit.Unit.{Unit as ScrubUnit}
 use Rattle.fs_model.specs.declared.unit.Unit.TheVariants as units

@@ -8,13 +8,13 @@ use Rattle.fs_change.proofs.Sets.{has_of, has_set, of_has, one_set}
 use Rattle.fs_change.specs.Loose.{Loosely}
 use Rattle.fs_change.specs.Parts.{in_blocks, in_group, in_trees, records_in}
 use Rattle.fs_change.specs.Switch.{AreLaid, exact_counters, moved, sets_counter, empty_trees, gives_to, hold, is_reserve_of, join_limbo, kind_need, limbo_of, lost_blocks, lost_owned, need, owned_by as with_owner, switched, unclaimed, unit_owner, without_trees}
-use Rattle.fs_derive.specs.Chunks.{chunks}
-use Rattle.fs_derive.specs.Claims.{Claimed, claimed_by, claims, fork_claims}
-use Rattle.fs_derive.specs.Contradiction.{first_overlap, is_written_data}
-use Rattle.fs_derive.specs.Derive.{derive}
-use Rattle.fs_derive.specs.Kinds.{all_kinds, kinds_of, tree_owner}
-use Rattle.fs_derive.specs.Lists.{numbers}
-use Rattle.fs_derive.specs.Own.{own, rmap_of, tuple_of}
+use Rattle.fs_state.specs.Chunks.{chunks}
+use Rattle.fs_state.specs.Claims.{Claimed, claimed_by, claims, fork_claims}
+use Rattle.fs_state.specs.Contradiction.{first_overlap, is_written_data}
+use Rattle.fs_state.specs.Derive.{derive}
+use Rattle.fs_state.specs.Records.{all_kinds, kinds_of, tree_owner}
+use Rattle.fs_state.specs.Lists.{numbers}
+use Rattle.fs_state.specs.Own.{own, rmap_of, tuple_of}
 use Rattle.fs_model.specs.declared.claim.Claim.TheVariants.{Limbo, List as FreeList, Tree}
 use Rattle.fs_model.specs.declared.fault.Counter.{Counter}
 use Rattle.fs_model.specs.declared.fault.Counter.TheVariants.{RmapBlocks}

@@ -6,11 +6,11 @@ use Rattle.fs_change.specs.Changes.{released}
 use Rattle.fs_change.specs.Loose.{Loosely}
 use Rattle.fs_change.specs.Parts.{in_group}
 use Rattle.fs_change.specs.Switch.{join_limbo}
-use Rattle.fs_derive.specs.Chunks.{chunks}
-use Rattle.fs_derive.specs.Claims.{Claimed, claimed_by, claims, fork_claims}
-use Rattle.fs_derive.specs.Contradiction.{first_overlap, is_written_data}
-use Rattle.fs_derive.specs.Kinds.{all_kinds}
-use Rattle.fs_derive.specs.Own.{own, tuple_of}
+use Rattle.fs_state.specs.Chunks.{chunks}
+use Rattle.fs_state.specs.Claims.{Claimed, claimed_by, claims, fork_claims}
+use Rattle.fs_state.specs.Contradiction.{first_overlap, is_written_data}
+use Rattle.fs_state.specs.Records.{all_kinds}
+use Rattle.fs_state.specs.Own.{own, tuple_of}
 use Rattle.fs_model.specs.declared.claim.Claim.TheVariants.{List as FreeList}
 use Rattle.fs_model.specs.declared.fault.Counter.{Counter}
 use Rattle.fs_model.specs.declared.fault.Counter.TheVariants.{Count, Freecount, Iblocks, Fblocks, RmapBlocks, Freeblks, Longest, Btreeblks, RefcountBlocks}

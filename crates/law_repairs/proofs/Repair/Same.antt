@@ -8,14 +8,14 @@ use Rattle.derive_defs.specs.Shared.{shared_space}
 use Rattle.dinode_core.specs.declared.mapping.Fork.{Fork}
 use Rattle.dinode_core.specs.declared.mapping.Fork.TheVariants as forks
 use Rattle.dinode_core.specs.declared.mapping.ForkFault.{ForkFault}
-use Rattle.fs_derive.specs.Chunks.{chunks, inode_in, inodes_in, inodes}
-use Rattle.fs_derive.specs.Claims.{Claimed, claimed_by, log_claims, metadata_claims, fork_claims, claims, data_claims, attribute_claims, tree_claims, mapping_claims, fork_tree_claims, read_fork, fork_of, attribute}
-use Rattle.fs_derive.specs.Derive.{is_free, chunk_record, ino_of, fino_of, bno_of, cnt_of, refc_of, derive, mappings}
-use Rattle.fs_derive.specs.Faults.{wanted, blocks_counted, beside_roots}
-use Rattle.fs_derive.specs.Kinds.{all_kinds, tree_owner, kinds_of, counters_of}
-use Rattle.fs_derive.specs.Laws.{EachCounter, EachTree, IsGoodTree, IsGoodCounter}
-use Rattle.fs_derive.specs.Lists.{numbers}
-use Rattle.fs_derive.specs.Own.{set_of, tuple_of, own, rmap_of}
+use Rattle.fs_state.specs.Chunks.{chunks, inode_in, inodes_in, inodes}
+use Rattle.fs_state.specs.Claims.{Claimed, claimed_by, log_claims, metadata_claims, fork_claims, claims, data_claims, attribute_claims, tree_claims, mapping_claims, fork_tree_claims, read_fork, fork_of, attribute}
+use Rattle.fs_state.specs.Derive.{is_free, chunk_record, ino_of, fino_of, bno_of, cnt_of, refc_of, derive, mappings}
+use Rattle.fs_state.specs.Faults.{wanted, blocks_counted, beside_roots}
+use Rattle.fs_state.specs.Records.{all_kinds, tree_owner, kinds_of, counters_of}
+use Rattle.fs_state.specs.Laws.{EachCounter, EachTree, IsGoodTree, IsGoodCounter}
+use Rattle.fs_state.specs.Lists.{numbers}
+use Rattle.fs_state.specs.Own.{set_of, tuple_of, own, rmap_of}
 use Rattle.fs_model.specs.declared.claim.Claim.TheVariants.{Heads, List as FreeList, Tree, Reserve, Limbo, Chunk, Data, Attr}
 use Rattle.fs_model.specs.declared.fault.Counter.{Counter}
 use Rattle.fs_model.specs.declared.fault.Counter.TheVariants.{Count, Freecount, Iblocks, Fblocks, RmapBlocks, Freeblks, Longest, Btreeblks, RefcountBlocks}

@@ -5,9 +5,9 @@ use Rattle.std.proofs.lemmas.Bool.{cases_Bool, true≢false}
 use Rattle.fs_change.specs.Loose.{Loosely}
 use Rattle.fs_change.specs.Parts.{in_group, in_trees, tree_only, records_in}
 use Rattle.fs_change.specs.Switch.{derived_in, exact_counters, hold, move_blocks, moved, sets_counter, switched}
-use Rattle.fs_derive.specs.Derive.{derive}
-use Rattle.fs_derive.specs.Faults.{wanted}
-use Rattle.fs_derive.specs.Kinds.{kinds_of, counters_of}
+use Rattle.fs_state.specs.Derive.{derive}
+use Rattle.fs_state.specs.Faults.{wanted}
+use Rattle.fs_state.specs.Records.{kinds_of, counters_of}
 use Rattle.fs_model.specs.declared.fault.Counter.{Counter}
 use Rattle.fs_model.specs.declared.fault.Counter.TheVariants.{Count, Freecount, Iblocks, Fblocks, RmapBlocks, Freeblks, Longest, Btreeblks, RefcountBlocks}
 use Rattle.fs_model.specs.declared.unit.Trust.TheVariants.{Good}
@@ -19,7 +19,7 @@ use Rattle.fs_state.specs.Kinds.{RecOf}
 use Rattle.fs_state.specs.State.{State, Group, Index, recs_of, Readable, Reading, Unreadable, blocks_of, is_readable}
 use Rattle.geom.specs.Apart.{Splits}
 use Rattle.fs_change.specs.Laws.{DerivedAgain}
-use Rattle.fs_derive.specs.Laws.{EachCounter, EachTree, IsGood, IsGoodCounter, IsGoodTree}
+use Rattle.fs_state.specs.Laws.{EachCounter, EachTree, IsGood, IsGoodCounter, IsGoodTree}
 use Rattle.law_repairs.proofs.Repair.Same.{alike_law}
 use Rattle.sblock.specs.declared.kind.Kind.{Kind}
 use Rattle.sblock.specs.declared.kind.Kind.TheVariants.{Bno, Cnt, Rmap, Refc, Ino, Fino}

@@ -1,9 +1,9 @@
 -- What each unit is judged by, where its trees and counters are the same.
 use Rattle.std.proofs.Common.{◌≡◌, ℕ, ap}
-use Rattle.fs_derive.specs.Derive.{derive}
-use Rattle.fs_derive.specs.Faults.{wanted}
-use Rattle.fs_derive.specs.Laws.{IsGood}
-use Rattle.fs_derive.specs.Own.{own, rmap_of}
+use Rattle.fs_state.specs.Derive.{derive}
+use Rattle.fs_state.specs.Faults.{wanted}
+use Rattle.fs_state.specs.Laws.{IsGood}
+use Rattle.fs_state.specs.Own.{own, rmap_of}
 use Rattle.fs_model.specs.declared.fault.Counter.{Counter}
 use Rattle.fs_model.specs.declared.fault.Counter.TheVariants.{Count, Freecount, Iblocks, Fblocks, RmapBlocks, Freeblks, Longest, Btreeblks, RefcountBlocks}
 use Rattle.fs_model.specs.declared.unit.Unit.TheVariants as units

@@ -15,11 +15,11 @@ use Rattle.fs_change.specs.Parts.{is_edited, records_in, sick_in, with_recs}
 use Rattle.fs_change.specs.Records.{give_mapping, holder_of, span, take_mapping, take_span}
 use Rattle.fs_change.specs.Step.{Step, edited_in}
 use Rattle.fs_change.specs.Switch.{owned_by as with_owner, unit_owner}
-use Rattle.fs_derive.specs.Derive.{derive, mappings}
-use Rattle.fs_derive.specs.Faults.{blocks_counted}
-use Rattle.fs_derive.specs.Kinds.{all_kinds}
-use Rattle.fs_derive.specs.Laws.{IsGood}
-use Rattle.fs_derive.specs.Own.{own, rmap_of}
+use Rattle.fs_state.specs.Derive.{derive, mappings}
+use Rattle.fs_state.specs.Faults.{blocks_counted}
+use Rattle.fs_state.specs.Records.{all_kinds}
+use Rattle.fs_state.specs.Laws.{IsGood}
+use Rattle.fs_state.specs.Own.{own, rmap_of}
 use Rattle.fs_model.specs.declared.entry.Entry.TheVariants as entries
 use Rattle.fs_model.specs.declared.fault.Counter.{Counter}
 use Rattle.fs_model.specs.declared.fault.Counter.TheVariants.{Freeblks, Longest, Btreeblks}

@@ -10,14 +10,14 @@ use Rattle.fs_change.specs.Changes.{plain_run}
 use Rattle.fs_change.specs.Loose.{owners_in, tree_blocks}
 use Rattle.fs_change.specs.Records.{give_mapping, take_mapping}
 use Rattle.fs_change.specs.Switch.{owned_by as with_owner}
-use Rattle.fs_derive.specs.Chunks.{chunks}
-use Rattle.fs_derive.specs.Claims.{Claimed, claims, fork_claims}
-use Rattle.fs_derive.specs.Contradiction.{first_overlap}
-use Rattle.fs_derive.specs.Derive.{derive, mappings}
-use Rattle.fs_derive.specs.Faults.{blocks_counted, wanted}
-use Rattle.fs_derive.specs.Kinds.{all_kinds, tree_owner}
-use Rattle.fs_derive.specs.Laws.{IsGoodCounter, IsGoodTree}
-use Rattle.fs_derive.specs.Own.{own, rmap_of, tuple_of}
+use Rattle.fs_state.specs.Chunks.{chunks}
+use Rattle.fs_state.specs.Claims.{Claimed, claims, fork_claims}
+use Rattle.fs_state.specs.Contradiction.{first_overlap}
+use Rattle.fs_state.specs.Derive.{derive, mappings}
+use Rattle.fs_state.specs.Faults.{blocks_counted, wanted}
+use Rattle.fs_state.specs.Records.{all_kinds, tree_owner}
+use Rattle.fs_state.specs.Laws.{IsGoodCounter, IsGoodTree}
+use Rattle.fs_state.specs.Own.{own, rmap_of, tuple_of}
 use Rattle.fs_model.specs.declared.fault.Counter.TheVariants.{RmapBlocks}
 use Rattle.fs_model.specs.declared.unit.Unit.TheVariants as units
 use Rattle.fs_state.specs.State.{State, Group, Owned, Readable, Reading, blocks_in, blocks_of, recs_of}

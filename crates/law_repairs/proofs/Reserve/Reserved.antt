@@ -17,13 +17,13 @@ use Rattle.fs_change.specs.Met.{is_fault, met_gaining, met_losing}
 use Rattle.fs_change.specs.Parts.{edit, is_edited, no_forks, records_in, sick_in, with_recs}
 use Rattle.fs_change.specs.Records.{by_start, give_mapping, holder_of, span, take_mapping, take_span}
 use Rattle.fs_change.specs.Switch.{owned_by as with_owner, unit_owner}
-use Rattle.fs_derive.specs.Claims.{claims, metadata_claims}
-use Rattle.fs_derive.specs.Derive.{bno_of, derive, mappings, refc_of}
-use Rattle.fs_derive.specs.Faults.{blocks_counted, wanted}
-use Rattle.fs_derive.specs.Kinds.{all_kinds}
-use Rattle.fs_derive.specs.Laws.{IsGood, IsGoodTree}
-use Rattle.fs_derive.specs.Lists.{numbers}
-use Rattle.fs_derive.specs.Own.{own, rmap_of}
+use Rattle.fs_state.specs.Claims.{claims, metadata_claims}
+use Rattle.fs_state.specs.Derive.{bno_of, derive, mappings, refc_of}
+use Rattle.fs_state.specs.Faults.{blocks_counted, wanted}
+use Rattle.fs_state.specs.Records.{all_kinds}
+use Rattle.fs_state.specs.Laws.{IsGood, IsGoodTree}
+use Rattle.fs_state.specs.Lists.{numbers}
+use Rattle.fs_state.specs.Own.{own, rmap_of}
 use Rattle.fs_model.specs.declared.entry.Entry.TheVariants as entries
 use Rattle.fs_model.specs.declared.entry.Extent.{Extent}
 use Rattle.fs_model.specs.declared.fault.Counter.TheVariants.{Iblocks, Fblocks, RmapBlocks, Freeblks, Longest, Btreeblks, RefcountBlocks}

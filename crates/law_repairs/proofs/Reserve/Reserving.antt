@@ -5,7 +5,7 @@ use Rattle.fs_change.specs.Changes.{block_extent, give_owner, leave, own_new, pl
 use Rattle.fs_change.specs.Loose.{tree_blocks}
 use Rattle.fs_change.specs.Records.{give_mapping, take_mapping, take_span}
 use Rattle.fs_change.specs.Switch.{owned_by as with_owner, unit_owner}
-use Rattle.fs_derive.specs.Faults.{blocks_counted}
+use Rattle.fs_state.specs.Faults.{blocks_counted}
 use Rattle.fs_model.specs.declared.entry.Extent.{Extent}
 use Rattle.fs_model.specs.declared.fault.Counter.{Counter}
 use Rattle.fs_model.specs.declared.unit.Unit.{Unit as ScrubUnit}

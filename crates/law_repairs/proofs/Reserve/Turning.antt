@@ -7,11 +7,11 @@ use Rattle.fs_change.proofs.Sets.{same_is, same_self}
 use Rattle.fs_change.specs.Loose.{owners_in, tree_blocks}
 use Rattle.fs_change.specs.Records.{give_mapping, take_mapping}
 use Rattle.fs_change.specs.Switch.{owned_by as with_owner}
-use Rattle.fs_derive.specs.Chunks.{chunks}
-use Rattle.fs_derive.specs.Claims.{Claimed, claims, fork_claims}
-use Rattle.fs_derive.specs.Contradiction.{first_overlap}
-use Rattle.fs_derive.specs.Kinds.{all_kinds, tree_owner}
-use Rattle.fs_derive.specs.Own.{own, rmap_of, tuple_of}
+use Rattle.fs_state.specs.Chunks.{chunks}
+use Rattle.fs_state.specs.Claims.{Claimed, claims, fork_claims}
+use Rattle.fs_state.specs.Contradiction.{first_overlap}
+use Rattle.fs_state.specs.Records.{all_kinds, tree_owner}
+use Rattle.fs_state.specs.Own.{own, rmap_of, tuple_of}
 use Rattle.fs_state.specs.State.{State, Group, Owned}
 use Rattle.geom.specs.Apart.{Splits}
 use Rattle.geom.specs.Layout.{group_len_of}

@@ -4,7 +4,7 @@ use Rattle.std.specs.List.{list_any}
 use Rattle.fs_change.specs.Edited.{group_of_entry}
 use Rattle.fs_change.specs.Forget.{Forget}
 use Rattle.fs_change.specs.Step.{Step}
-use Rattle.fs_derive.specs.Faults.{faults}
+use Rattle.fs_state.specs.Faults.{faults}
 use Rattle.fs_model.specs.declared.entry.Entry.{Entry}
 use Rattle.fs_model.specs.declared.entry.Entry.TheVariants as entries
 use Rattle.fs_model.specs.declared.unit.Unit.{Unit as ScrubUnit}

@@ -4,7 +4,7 @@ use Rattle.std.specs.List.{list_all}
 use Rattle.fs_change.specs.Laws.{AreWords}
 use Rattle.fs_change.specs.Loose.{pool_of, tree_blocks}
 use Rattle.fs_change.specs.Parts.{sick_in}
-use Rattle.fs_derive.specs.Own.{own}
+use Rattle.fs_state.specs.Own.{own}
 use Rattle.fs_state.specs.State.{State, Group, is_readable}
 use Rattle.rmap_recs.specs.Owners.{is_inode}
 use Rattle.rmap_recs.specs.Runs.{AreTuples, HaveNext}

@@ -3,7 +3,7 @@ use Rattle.std.specs.Prelude.{◌≡◌, ℕ, ◌<◌, true, false, List}
 use Rattle.fs_change.specs.Laws.{AreWords, OnlyChunks}
 use Rattle.fs_change.specs.Parts.{sick_in}
 use Rattle.fs_change.specs.Step.{Step}
-use Rattle.fs_derive.specs.Own.{own}
+use Rattle.fs_state.specs.Own.{own}
 use Rattle.fs_model.specs.declared.entry.Entry.TheVariants as entries
 use Rattle.fs_model.specs.declared.unit.Unit.{Unit as ScrubUnit}
 use Rattle.fs_state.specs.Apart.{Apart}

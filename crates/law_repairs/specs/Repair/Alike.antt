@@ -1,12 +1,12 @@
 -- States that differ in trust alone, and in what nobody reads: cores outside of chunks, and forks that can't be read.
 use Rattle.std.specs.Prelude.{◌≡◌, ◌<◌, ℕ, true}
 use Rattle.dinode_core.specs.declared.mapping.Fork.{Fork}
-use Rattle.fs_derive.specs.Chunks.{inodes}
-use Rattle.fs_derive.specs.Claims.{claims}
-use Rattle.fs_derive.specs.Derive.{derive}
-use Rattle.fs_derive.specs.Faults.{wanted}
-use Rattle.fs_derive.specs.Kinds.{kinds_of, counters_of}
-use Rattle.fs_derive.specs.Laws.{EachCounter, EachTree, IsGood}
+use Rattle.fs_state.specs.Chunks.{inodes}
+use Rattle.fs_state.specs.Claims.{claims}
+use Rattle.fs_state.specs.Derive.{derive}
+use Rattle.fs_state.specs.Faults.{wanted}
+use Rattle.fs_state.specs.Records.{kinds_of, counters_of}
+use Rattle.fs_state.specs.Laws.{EachCounter, EachTree, IsGood}
 use Rattle.fs_model.specs.declared.fault.Counter.{Counter}
 use Rattle.fs_model.specs.declared.unit.Unit.{Unit as ScrubUnit}
 use Rattle.fs_state.specs.Apart.{is_chunk, is_inode}

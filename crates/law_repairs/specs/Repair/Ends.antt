@@ -1,8 +1,8 @@
 -- At the end of a repair: what a new session finds has no faults.
 use Rattle.std.specs.Prelude.{◌≡◌, ◌<◌, ℕ, true, [], None}
 use Rattle.fs_change.specs.Forget.{Forget}
-use Rattle.fs_derive.specs.Contradiction.{first_bad_fork}
-use Rattle.fs_derive.specs.Faults.{faults}
+use Rattle.fs_state.specs.Contradiction.{first_bad_fork}
+use Rattle.fs_state.specs.Faults.{faults}
 use Rattle.fs_model.specs.declared.unit.Unit.{Unit as ScrubUnit}
 use Rattle.fs_state.specs.State.{State, is_readable}
 use Rattle.geom.specs.Apart.{Splits}

@@ -1,9 +1,9 @@
 -- What a repair has made of the units of a group, from each one's verdict on.
 use Rattle.std.specs.Prelude.{◌≡◌, ℕ, None}
-use Rattle.fs_derive.specs.Claims.{claims}
-use Rattle.fs_derive.specs.Contradiction.{first_bad_fork, first_overlap}
-use Rattle.fs_derive.specs.Kinds.{kinds_of}
-use Rattle.fs_derive.specs.Laws.{EachTree, IsGood}
+use Rattle.fs_state.specs.Claims.{claims}
+use Rattle.fs_state.specs.Contradiction.{first_bad_fork, first_overlap}
+use Rattle.fs_state.specs.Records.{kinds_of}
+use Rattle.fs_state.specs.Laws.{EachTree, IsGood}
 use Rattle.fs_model.specs.declared.unit.Trust.TheVariants.{Good}
 use Rattle.fs_model.specs.declared.unit.Unit.{Unit as ScrubUnit}
 use Rattle.fs_model.specs.declared.unit.Unit.TheVariants as units

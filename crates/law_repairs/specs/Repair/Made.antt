@@ -3,9 +3,9 @@ use Rattle.std.specs.Prelude.{◌≡◌, ◌⊎◌, ◌==◌, ℕ, true, false, 
 use Rattle.fs_change.specs.Laws.{OnlyChunks}
 use Rattle.fs_change.specs.Step.{Step}
 use Rattle.fs_change.specs.Switch.{moved, switched}
-use Rattle.fs_derive.specs.Kinds.{kinds_of}
-use Rattle.fs_derive.specs.Laws.{EachTree}
-use Rattle.fs_derive.specs.Own.{own}
+use Rattle.fs_state.specs.Records.{kinds_of}
+use Rattle.fs_state.specs.Laws.{EachTree}
+use Rattle.fs_state.specs.Own.{own}
 use Rattle.fs_model.specs.declared.entry.Entry.TheVariants as entries
 use Rattle.fs_model.specs.declared.unit.Unit.{Unit as ScrubUnit}
 use Rattle.fs_model.specs.declared.unit.Unit.TheVariants as units

@@ -3,7 +3,7 @@
 use Rattle.std.specs.Prelude.{◌≡◌, ◌⊎◌, ◌==◌, ℕ, Bool, true, false, List}
 use Rattle.fs_change.specs.Step.{Step}
 use Rattle.fs_change.specs.Switch.{switched}
-use Rattle.fs_derive.specs.Laws.{IsGood}
+use Rattle.fs_state.specs.Laws.{IsGood}
 use Rattle.fs_change.specs.Laws.{DerivedAgain}
 use Rattle.fs_model.specs.declared.entry.Entry.TheVariants as entries
 use Rattle.fs_model.specs.declared.unit.Unit.{Unit as ScrubUnit}

@@ -3,8 +3,8 @@ use Rattle.std.specs.Prelude.{◌≡◌, ◌⊎◌, ℕ, nat_lt, true, List}
 use Rattle.std.specs.List.{list_all}
 use Rattle.fs_change.specs.Step.{Step}
 use Rattle.fs_change.specs.Switch.{unit_owner}
-use Rattle.fs_derive.specs.Claims.{claims}
-use Rattle.fs_derive.specs.Own.{own, rmap_of}
+use Rattle.fs_state.specs.Claims.{claims}
+use Rattle.fs_state.specs.Own.{own, rmap_of}
 use Rattle.fs_model.specs.declared.entry.Entry.TheVariants as entries
 use Rattle.fs_model.specs.declared.unit.Unit.{Unit as ScrubUnit}
 use Rattle.fs_model.specs.declared.unit.Unit.TheVariants as units

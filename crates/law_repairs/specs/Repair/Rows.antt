@@ -5,8 +5,8 @@ use Rattle.dinode_core.specs.declared.mapping.Fork.TheVariants as forks
 use Rattle.dinode_core.specs.declared.mapping.ForkFault.{ForkFault}
 use Rattle.fs_change.specs.Records.{take_mapping}
 use Rattle.fs_change.specs.Switch.{moved}
-use Rattle.fs_derive.specs.Own.{own}
-use Rattle.fs_derive.specs.Worked.{listing, mappings, state_with, whole, written}
+use Rattle.fs_state.specs.Own.{own}
+use Rattle.fs_state.specs.Worked.{listing, mappings, state_with, whole, written}
 use Rattle.fs_model.specs.declared.unit.Unit.TheVariants as units
 use Rattle.fs_state.specs.State.{State, ForkList, Readable}
 use Rattle.rmap_recs.specs.Owners.{number_of}

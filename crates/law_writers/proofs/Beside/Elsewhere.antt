@@ -21,8 +21,8 @@ use Rattle.fs_change.specs.Changes.{behind, data_of, data_word, extent_of, inten
 use Rattle.fs_change.specs.Parts.{at_only, records_in}
 use Rattle.fs_change.specs.Records.{count_at, is_unwritten_at}
 use Rattle.fs_change.specs.Step.{Row, group_of_entry}
-use Rattle.fs_derive.specs.Claims.{claims}
-use Rattle.fs_derive.specs.Lists.{only_if}
+use Rattle.fs_state.specs.Claims.{claims}
+use Rattle.fs_state.specs.Lists.{only_if}
 use Rattle.fs_model.specs.declared.entry.Entry.{Entry}
 use Rattle.fs_model.specs.declared.entry.Entry.TheVariants as entries
 use Rattle.fs_model.specs.declared.entry.Extent.{Extent}

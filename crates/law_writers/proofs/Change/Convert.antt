@@ -19,8 +19,8 @@ use Rattle.sblock.specs.declared.kind.Kind.{Kind}
 use Rattle.fs_state.specs.State.{State}
 use Rattle.fs_state.specs.declared.intent.Intent.{Intent}
 use Rattle.fs_state.specs.declared.intent.IntentKind.TheVariants.{RmapChange}
-use Rattle.fs_derive.specs.Claims.{read_fork, word_of}
-use Rattle.fs_derive.specs.Lists.{numbers, only_if}
+use Rattle.fs_state.specs.Claims.{read_fork, word_of}
+use Rattle.fs_state.specs.Lists.{numbers, only_if}
 use Rattle.fs_change.proofs.Beside as beside
 use Rattle.fs_change.specs.Chains.{pending, given_by, taken_by, settled_forks, tuples_of}
 use Rattle.fs_change.specs.Changes.{converted, intent, extent_of, data_of, mapping_of, change_data}

@@ -11,8 +11,8 @@ use Rattle.rmap_recs.specs.Runs.{has, tuple_at}
 use Rattle.rmap_recs.specs.Words.{is_fork_data, flags_of}
 use Rattle.rmap_recs.specs.declared.records.RmapRec.{RmapRec}
 use Rattle.rmap_recs.specs.declared.tuples.Tuple.{Tuple}
-use Rattle.fs_derive.specs.Claims.{mapped_blocks, blocks_at, word_of, unwritten}
-use Rattle.fs_derive.specs.Lists.{numbers}
+use Rattle.fs_state.specs.Claims.{mapped_blocks, blocks_at, word_of, unwritten}
+use Rattle.fs_state.specs.Lists.{numbers}
 use Rattle.fs_change.specs.Records.{meets, is_same_flag}
 use Rattle.law_writers.proofs.Change.Members.{hasc, IsSplit, split_parts}
 use Rattle.law_writers.specs.Change.Forks.{LieFrom, IsPlaced}

@@ -26,8 +26,8 @@ use Rattle.fs_state.specs.Apart.{is_inode}
 use Rattle.fs_state.specs.State.{State, ForkList}
 use Rattle.fs_state.specs.declared.intent.Intent.{Intent}
 use Rattle.fs_state.specs.declared.intent.IntentKind.TheVariants.{RmapAdd, RmapRemove, RefMore, RefLess}
-use Rattle.fs_derive.specs.Claims.{read_fork, fork_of, blocks_at, mapping_claims, tree_block_at, fork_tree_claims, attribute_claims, tree_claims, word_of, attribute, unwritten}
-use Rattle.fs_derive.specs.Lists.{numbers, only_if}
+use Rattle.fs_state.specs.Claims.{read_fork, fork_of, blocks_at, mapping_claims, tree_block_at, fork_tree_claims, attribute_claims, tree_claims, word_of, attribute, unwritten}
+use Rattle.fs_state.specs.Lists.{numbers, only_if}
 use Rattle.fs_change.proofs.Beside as beside
 use Rattle.fs_change.proofs.Inodes.{data_beside}
 use Rattle.fs_change.proofs.Owed.{same_at, first_event_keeps}

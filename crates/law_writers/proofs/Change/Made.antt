@@ -16,7 +16,7 @@ use Rattle.rmap_recs.specs.declared.records.RmapRec.{RmapRec}
 use Rattle.sblock.specs.declared.kind.Kind.TheVariants.{Bno, Cnt, Rmap, Ino, Fino}
 use Rattle.fs_state.specs.Apart.{verifies, ino_lists, rmap_lists, has_unit, is_listed, block_verifies, unit_verifies, is_chunk}
 use Rattle.fs_state.specs.State.{State, Group, CoreState, Reading, Readable, Unreadable, recs_of, is_readable}
-use Rattle.fs_derive.specs.Lists.{numbers}
+use Rattle.fs_state.specs.Lists.{numbers}
 use Rattle.fs_change.proofs.Alike.{gives_unit, lists_unit}
 use Rattle.fs_change.proofs.Beside as beside
 use Rattle.fs_change.proofs.Trees.{in_itself, spaced, edited, given_owner}

@@ -18,10 +18,10 @@ use Rattle.rmap_recs.specs.Runs.{is_same, has}
 use Rattle.rmap_recs.specs.declared.tuples.Tuple.{Tuple}
 use Rattle.fs_state.specs.Apart.{is_inode, in_chunk, is_chunk, is_listed, has_unit, unit_verifies, ino_lists, rmap_lists}
 use Rattle.fs_state.specs.State.{State}
-use Rattle.fs_derive.specs.Chunks.{chunks, inode_in, inodes_in, inodes}
-use Rattle.fs_derive.specs.Claims.{Claimed, word_of, mapped_blocks, blocks_at, mapping_claims, tree_block_at, fork_tree_claims, data_claims, attribute_claims, tree_claims, fork_claims, fork_of, attribute}
-use Rattle.fs_derive.specs.Lists.{numbers, only_if}
-use Rattle.fs_derive.specs.Own.{tuple_of}
+use Rattle.fs_state.specs.Chunks.{chunks, inode_in, inodes_in, inodes}
+use Rattle.fs_state.specs.Claims.{Claimed, word_of, mapped_blocks, blocks_at, mapping_claims, tree_block_at, fork_tree_claims, data_claims, attribute_claims, tree_claims, fork_claims, fork_of, attribute}
+use Rattle.fs_state.specs.Lists.{numbers, only_if}
+use Rattle.fs_state.specs.Own.{tuple_of}
 use Rattle.law_writers.specs.Change.Owners.{inode_claims, OwnersByInode}
 
 -- ---- tests of lists

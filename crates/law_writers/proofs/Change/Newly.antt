@@ -20,8 +20,8 @@ use Rattle.sblock.specs.declared.kind.Kind.TheVariants.{Bno, Cnt, Rmap, Ino, Fin
 use Rattle.fs_state.specs.Apart.{ino_lists, rmap_lists, has_unit, is_listed, unit_verifies, is_chunk, in_chunk, is_inode}
 use Rattle.fs_state.specs.Group.{is_among}
 use Rattle.fs_state.specs.State.{State, Group, ForkList, is_readable}
-use Rattle.fs_derive.specs.Claims.{fork_of, attribute, mapping_claims, fork_tree_claims}
-use Rattle.fs_derive.specs.Own.{tuple_of}
+use Rattle.fs_state.specs.Claims.{fork_of, attribute, mapping_claims, fork_tree_claims}
+use Rattle.fs_state.specs.Own.{tuple_of}
 use Rattle.fs_change.specs.Changes.{taken}
 use Rattle.fs_change.specs.Choice.{is_guarded}
 use Rattle.fs_change.specs.Edited.{leaves_faults, met_by}

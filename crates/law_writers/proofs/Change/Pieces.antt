@@ -10,8 +10,8 @@ use Rattle.geom.proofs.ApartLemmas.{splits_in}
 use Rattle.geom.specs.Apart.{HasFitting}
 use Rattle.geom.specs.Layout.{Layout, group_len_of, fs_block_of, split_of}
 use Rattle.rmap_recs.specs.declared.tuples.Tuple.{Tuple}
-use Rattle.fs_derive.specs.Claims.{word_of}
-use Rattle.fs_derive.specs.Lists.{only_if}
+use Rattle.fs_state.specs.Claims.{word_of}
+use Rattle.fs_state.specs.Lists.{only_if}
 use Rattle.fs_change.specs.Records.{maps, take_piece, mapping_rest, is_piece, is_unmapped, is_unwritten_at}
 use Rattle.law_writers.proofs.Change.Covers.{covers, flag_word, Place, place_of, maps_it, maps_at, maps_placed}
 use Rattle.law_writers.proofs.Change.Lists.{found_one, none_that, both_each}

@@ -26,10 +26,10 @@ use Rattle.sblock.specs.declared.kind.Kind.TheVariants.{Rmap, Refc, Ino, Fino}
 use Rattle.fs_state.specs.Apart.{verifies, ino_lists, rmap_lists, has_unit, is_listed, block_verifies, unit_verifies, is_chunk}
 use Rattle.fs_state.specs.State.{State, Group, CoreState, Broken, Whole, Reading, Readable, Unreadable, recs_of}
 use Rattle.fs_state.specs.declared.intent.Intent.{Intent}
-use Rattle.fs_derive.specs.Lists.{numbers}
-use Rattle.fs_derive.specs.Derive.{derive}
-use Rattle.fs_derive.specs.Faults.{kind_of_fault}
-use Rattle.fs_derive.specs.Kinds.{kinds_of}
+use Rattle.fs_state.specs.Lists.{numbers}
+use Rattle.fs_state.specs.Derive.{derive}
+use Rattle.fs_state.specs.Faults.{kind_of_fault}
+use Rattle.fs_state.specs.Records.{kinds_of}
 use Rattle.fs_change.proofs.Alike.{lists_unit, moved_listed, chunk_alike, chunk_again as inodes_again}
 use Rattle.fs_change.proofs.Beside as beside
 use Rattle.fs_change.proofs.Mapped as rebuilt

@@ -23,9 +23,9 @@ use Rattle.fs_state.specs.State.{State, ForkList, is_readable}
 use Rattle.fs_state.specs.declared.intent.Intent.{Intent}
 use Rattle.fs_state.specs.declared.intent.IntentKind.{IntentKind}
 use Rattle.fs_state.specs.declared.intent.IntentKind.TheVariants.{RmapAdd, RmapRemove, RmapChange, RefMore, RefLess, Free}
-use Rattle.fs_derive.specs.Claims.{Claimed, read_fork, fork_of, mapping_claims, fork_tree_claims, attribute}
-use Rattle.fs_derive.specs.Lists.{numbers, only_if}
-use Rattle.fs_derive.specs.Own.{tuple_of, set_of}
+use Rattle.fs_state.specs.Claims.{Claimed, read_fork, fork_of, mapping_claims, fork_tree_claims, attribute}
+use Rattle.fs_state.specs.Lists.{numbers, only_if}
+use Rattle.fs_state.specs.Own.{tuple_of, set_of}
 use Rattle.fs_change.proofs.Beside as beside
 use Rattle.fs_change.proofs.Inodes as inodes
 use Rattle.fs_change.proofs.Owed.{step_moves}

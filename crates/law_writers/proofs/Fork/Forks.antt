@@ -14,9 +14,9 @@ use Rattle.law_writers.specs.Change.Forks.{Each, IsPlaced}
 use Rattle.dinode_core.specs.declared.mapping.Mapping.{Mapping}
 use Rattle.fs_change.specs.Changes.{data_of}
 use Rattle.fs_change.specs.Records.{add_mapping, joined_to, meets, put_by, with_before}
-use Rattle.fs_derive.specs.Chunks.{inodes}
-use Rattle.fs_derive.specs.Claims.{Claimed, attribute_claims, blocks_at, claims, data_claims, fork_claims, mapped_blocks, metadata_claims, tree_claims, unwritten, word_of}
-use Rattle.fs_derive.specs.Contradiction.{is_written_data}
+use Rattle.fs_state.specs.Chunks.{inodes}
+use Rattle.fs_state.specs.Claims.{Claimed, attribute_claims, blocks_at, claims, data_claims, fork_claims, mapped_blocks, metadata_claims, tree_claims, unwritten, word_of}
+use Rattle.fs_state.specs.Contradiction.{is_written_data}
 use Rattle.fs_model.specs.declared.claim.Claim.{Claim}
 use Rattle.fs_model.specs.declared.claim.Claim.TheVariants.{Data}
 use Rattle.fs_state.specs.Apart.{is_inode}

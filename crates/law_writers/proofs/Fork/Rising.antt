@@ -7,8 +7,8 @@ use Rattle.std.proofs.lemmas.Bool.Decides.{nat_tests}
 use Rattle.std.proofs.lemmas.List.Sums.{sum_by-cons}
 use Rattle.std.proofs.Math.Nat.{suc-mul}
 use Rattle.law_writers.proofs.Change.Members.{in_inodes}
-use Rattle.fs_derive.specs.Chunks.{chunks, inode_in, inodes, inodes_in}
-use Rattle.fs_derive.specs.Lists.{numbers}
+use Rattle.fs_state.specs.Chunks.{chunks, inode_in, inodes, inodes_in}
+use Rattle.fs_state.specs.Lists.{numbers}
 use Rattle.fs_state.specs.Apart.{is_chunk, is_inode}
 use Rattle.fs_state.specs.State.{State}
 use Rattle.geom.specs.Apart.{HasFitting}

@@ -19,10 +19,10 @@ use Rattle.fs_change.specs.Changes.{by_count, change_data, changed_fork, convert
 use Rattle.fs_change.specs.Parts.{data_only, edit, in_group, records_in}
 use Rattle.fs_change.specs.Records.{add_mapping, by_start, is_piece, is_unwritten_at, span, take_piece, take_span}
 use Rattle.fs_change.specs.Step.{Row}
-use Rattle.fs_derive.specs.Chunks.{inodes, inodes_in}
-use Rattle.fs_derive.specs.Claims.{Claimed, attribute, data_claims, fork_of, fork_tree_claims, mapping_claims, read_fork}
-use Rattle.fs_derive.specs.Contradiction.{is_written_data}
-use Rattle.fs_derive.specs.Lists.{numbers}
+use Rattle.fs_state.specs.Chunks.{inodes, inodes_in}
+use Rattle.fs_state.specs.Claims.{Claimed, attribute, data_claims, fork_of, fork_tree_claims, mapping_claims, read_fork}
+use Rattle.fs_state.specs.Contradiction.{is_written_data}
+use Rattle.fs_state.specs.Lists.{numbers}
 use Rattle.fs_model.specs.declared.claim.Claim.TheVariants.{Attr, Data}
 use Rattle.fs_model.specs.declared.entry.Entry.TheVariants as entries
 use Rattle.fs_model.specs.declared.entry.Extent.{Extent}

@@ -13,7 +13,7 @@ use Rattle.law_writers.proofs.Change.Pieces.{Cut, PieceAt, same_place}
 use Rattle.law_writers.specs.Change.Forks.{AreApart, Each, IsPlaced}
 use Rattle.dinode_core.specs.declared.mapping.Mapping.{Mapping}
 use Rattle.fs_change.specs.Records.{add_mapping, is_piece, is_unwritten_at, joined_to, mapping_rest, maps, meets, put_by, take_piece, with_before}
-use Rattle.fs_derive.specs.Lists.{only_if}
+use Rattle.fs_state.specs.Lists.{only_if}
 use Rattle.geom.proofs.ApartLemmas.{splits_in}
 use Rattle.geom.specs.Apart.{HasFitting}
 use Rattle.geom.specs.Layout.{Layout, fs_block_of, group_len_of, split_of}

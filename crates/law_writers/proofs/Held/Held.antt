@@ -12,9 +12,9 @@ use Rattle.fs_change.specs.Changes.{converted, data_of, data_word, extent_of, in
 use Rattle.fs_change.specs.Parts.{at_only}
 use Rattle.fs_change.specs.Records.{is_unwritten_at}
 use Rattle.fs_change.specs.Step.{Row}
-use Rattle.fs_derive.specs.Chunks.{inodes}
-use Rattle.fs_derive.specs.Claims.{data_claims}
-use Rattle.fs_derive.specs.Lists.{numbers}
+use Rattle.fs_state.specs.Chunks.{inodes}
+use Rattle.fs_state.specs.Claims.{data_claims}
+use Rattle.fs_state.specs.Lists.{numbers}
 use Rattle.fs_model.specs.declared.entry.Entry.TheVariants as entries
 use Rattle.fs_model.specs.declared.entry.Piece.{Piece}
 use Rattle.fs_model.specs.declared.entry.SharedPiece.{SharedPiece}

@@ -14,9 +14,9 @@ use Rattle.fs_change.specs.Changes.{behind, freed, given, intent, ref_done, rmap
 use Rattle.fs_change.specs.Parts.{at_only, sick_in, records_in}
 use Rattle.fs_change.specs.Records.{count_at}
 use Rattle.fs_change.specs.Step.{Row, group_of_inode}
-use Rattle.fs_derive.specs.Chunks.{inodes}
-use Rattle.fs_derive.specs.Claims.{mapping_claims, read_fork}
-use Rattle.fs_derive.specs.Lists.{numbers, only_if}
+use Rattle.fs_state.specs.Chunks.{inodes}
+use Rattle.fs_state.specs.Claims.{mapping_claims, read_fork}
+use Rattle.fs_state.specs.Lists.{numbers, only_if}
 use Rattle.fs_model.specs.declared.claim.Claim.TheVariants.{Data}
 use Rattle.fs_model.specs.declared.entry.Entry.{Entry}
 use Rattle.fs_model.specs.declared.entry.Entry.TheVariants as entries

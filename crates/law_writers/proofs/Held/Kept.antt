@@ -25,10 +25,10 @@ use Rattle.fs_change.specs.Changes.{change_data, chunk_extent, converted, data_o
 use Rattle.fs_change.specs.Parts.{at_only, edit, records_in, set_chain}
 use Rattle.fs_change.specs.Records.{add_mapping, follow_inode, is_piece, is_unwritten_at, take_piece, turn_inode}
 use Rattle.fs_change.specs.Step.{Row, group_of_inode, to_trim}
-use Rattle.fs_derive.specs.Chunks.{inodes}
-use Rattle.fs_derive.specs.Claims.{Claimed, attribute_claims, claims, data_claims, metadata_claims, tree_claims}
-use Rattle.fs_derive.specs.Contradiction.{is_written_data}
-use Rattle.fs_derive.specs.Lists.{numbers}
+use Rattle.fs_state.specs.Chunks.{inodes}
+use Rattle.fs_state.specs.Claims.{Claimed, attribute_claims, claims, data_claims, metadata_claims, tree_claims}
+use Rattle.fs_state.specs.Contradiction.{is_written_data}
+use Rattle.fs_state.specs.Lists.{numbers}
 use Rattle.fs_model.specs.declared.entry.Entry.TheVariants as entries
 use Rattle.fs_model.specs.declared.entry.Extent.{Extent}
 use Rattle.fs_model.specs.declared.entry.Piece.{Piece}

@@ -11,9 +11,9 @@ use Rattle.fs_change.specs.Loose.{Inside, count_used, lost_to, owners_in}
 use Rattle.fs_change.specs.Met.{give_each, take_each}
 use Rattle.fs_change.specs.Parts.{in_blocks, in_trees, records_in}
 use Rattle.fs_change.specs.Records.{put_chunk}
-use Rattle.fs_derive.specs.Chunks.{chunks, inode_in}
-use Rattle.fs_derive.specs.Derive.{chunk_record, fino_of, ino_of, is_free}
-use Rattle.fs_derive.specs.Lists.{numbers}
+use Rattle.fs_state.specs.Chunks.{chunks, inode_in}
+use Rattle.fs_state.specs.Derive.{chunk_record, fino_of, ino_of, is_free}
+use Rattle.fs_state.specs.Lists.{numbers}
 use Rattle.fs_state.specs.Apart.{block_verifies, has_unit, in_chunk, ino_lists, is_chunk, is_inode, is_listed, rmap_lists, unit_verifies, verifies}
 use Rattle.fs_state.specs.Edits.{number_of as kind_number}
 use Rattle.fs_state.specs.State.{CoreState, Group, Reading, Readable, State, Unreadable, recs_of}

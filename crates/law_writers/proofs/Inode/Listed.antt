@@ -18,9 +18,9 @@ use Rattle.fs_change.specs.Laws.{StaysBeside, with_owners}
 use Rattle.fs_change.specs.Parts.{at_only, change_tree, edit, in_group, is_place, is_sick, records_in, set_trust, sick_in, stands_in, with_recs}
 use Rattle.fs_change.specs.Records.{follow_inode, is_unwritten_at, put_chunk, turn_inode}
 use Rattle.fs_change.specs.Step.{HasSame, Row, Step, edited_in, group_of_entry, group_of_inode, is_allocated}
-use Rattle.fs_derive.specs.Chunks.{chunks, inode_in}
-use Rattle.fs_derive.specs.Derive.{fino_of, ino_of, is_free}
-use Rattle.fs_derive.specs.Lists.{numbers}
+use Rattle.fs_state.specs.Chunks.{chunks, inode_in}
+use Rattle.fs_state.specs.Derive.{fino_of, ino_of, is_free}
+use Rattle.fs_state.specs.Lists.{numbers}
 use Rattle.fs_model.specs.declared.entry.Entry.{Entry}
 use Rattle.fs_model.specs.declared.entry.Entry.TheVariants as entries
 use Rattle.fs_model.specs.declared.entry.Extent.{Extent}

@@ -6,7 +6,7 @@ use Rattle.std.proofs.lemmas.Bool.Decides.{nat_tests}
 use Rattle.std.proofs.lemmas.List.Sums.{sum_by-cons}
 use Rattle.ino_recs.specs.declared.chunk.InoRec.{InoRec}
 use Rattle.fs_change.specs.Records.{follow_inode, has_inode, put_all, put_chunk, turn_inode, turned}
-use Rattle.fs_derive.specs.Lists.{numbers}
+use Rattle.fs_state.specs.Lists.{numbers}
 
 -- ---- sums over numbers
 

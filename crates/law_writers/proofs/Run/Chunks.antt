@@ -21,11 +21,11 @@ use Rattle.fs_change.specs.Laws.{AreWords}
 use Rattle.fs_change.specs.Parts.{edit, is_place, no_forks, records_in, stands_in}
 use Rattle.fs_change.specs.Records.{follow_inode, give_mapping, put_chunk, turn_inode}
 use Rattle.fs_change.specs.Step.{Step, group_of_inode}
-use Rattle.fs_derive.specs.Chunks.{chunks, inode_in, inodes, inodes_in}
-use Rattle.fs_derive.specs.Claims.{Claimed, attribute, attribute_claims, claimed_by, claims, data_claims, fork_claims, fork_tree_claims, log_claims, mapping_claims, read_fork, tree_claims}
-use Rattle.fs_derive.specs.Contradiction.{is_written_data}
-use Rattle.fs_derive.specs.Kinds.{all_kinds, tree_owner}
-use Rattle.fs_derive.specs.Lists.{numbers}
+use Rattle.fs_state.specs.Chunks.{chunks, inode_in, inodes, inodes_in}
+use Rattle.fs_state.specs.Claims.{Claimed, attribute, attribute_claims, claimed_by, claims, data_claims, fork_claims, fork_tree_claims, log_claims, mapping_claims, read_fork, tree_claims}
+use Rattle.fs_state.specs.Contradiction.{is_written_data}
+use Rattle.fs_state.specs.Records.{all_kinds, tree_owner}
+use Rattle.fs_state.specs.Lists.{numbers}
 use Rattle.fs_model.specs.declared.claim.Claim.TheVariants.{Attr, Chunk, Data, Heads, Limbo, Reserve, Tree}
 use Rattle.fs_model.specs.declared.entry.Entry.{Entry}
 use Rattle.fs_model.specs.declared.entry.Entry.TheVariants as entries

@@ -11,7 +11,7 @@ use Rattle.fs_change.specs.Met.{is_fault, met_gaining, met_losing, met_mapping, 
 use Rattle.fs_change.specs.Parts.{is_edited, records_in, sick_in}
 use Rattle.fs_change.specs.Records.{holder_of, span, take_mapping}
 use Rattle.fs_change.specs.Step.{group_of_inode}
-use Rattle.fs_derive.specs.Claims.{unwritten}
+use Rattle.fs_state.specs.Claims.{unwritten}
 use Rattle.fs_model.specs.declared.entry.Entry.{Entry}
 use Rattle.fs_model.specs.declared.entry.Entry.TheVariants as entries
 use Rattle.fs_state.specs.Group.{is_among}

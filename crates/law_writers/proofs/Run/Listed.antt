@@ -13,11 +13,11 @@ use Rattle.fs_change.proofs.Beside.{in_other}
 use Rattle.fs_change.proofs.Trees.{in_itself}
 use Rattle.fs_change.specs.Changes.{give_free, give_owner, is_in_extent, plain_run, refilled, take_free, take_owner, trimmed}
 use Rattle.fs_change.specs.Records.{give_mapping, take_mapping}
-use Rattle.fs_derive.specs.Chunks.{chunks, inodes}
-use Rattle.fs_derive.specs.Claims.{Claimed, attribute, claimed_by, claims, fork_claims, fork_tree_claims, log_claims, mapping_claims, metadata_claims, read_fork}
-use Rattle.fs_derive.specs.Contradiction.{is_written_data}
-use Rattle.fs_derive.specs.Kinds.{all_kinds, tree_owner}
-use Rattle.fs_derive.specs.Lists.{numbers}
+use Rattle.fs_state.specs.Chunks.{chunks, inodes}
+use Rattle.fs_state.specs.Claims.{Claimed, attribute, claimed_by, claims, fork_claims, fork_tree_claims, log_claims, mapping_claims, metadata_claims, read_fork}
+use Rattle.fs_state.specs.Contradiction.{is_written_data}
+use Rattle.fs_state.specs.Records.{all_kinds, tree_owner}
+use Rattle.fs_state.specs.Lists.{numbers}
 use Rattle.fs_model.specs.declared.claim.Claim.TheVariants.{Attr, Chunk, Data, Heads, Limbo, List as FreeList, Reserve, Tree}
 use Rattle.fs_model.specs.declared.entry.Entry.TheVariants as entries
 use Rattle.fs_model.specs.declared.entry.Extent.{Extent}

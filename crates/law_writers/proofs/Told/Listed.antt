@@ -24,12 +24,12 @@ use Rattle.fs_change.specs.Parts.{edit, in_group, is_sick, records_in}
 use Rattle.fs_change.specs.Records.{follow_inode, give_mapping, put_chunk, take_mapping, turn_inode}
 use Rattle.fs_change.specs.Laws.{AreWords}
 use Rattle.fs_change.specs.Step.{Row, Step, group_of_inode, to_trim}
-use Rattle.fs_derive.specs.Chunks.{chunks}
-use Rattle.fs_derive.specs.Claims.{Claimed, claimed_by, claims, fork_claims, log_claims, metadata_claims}
-use Rattle.fs_derive.specs.Derive.{mappings}
-use Rattle.fs_derive.specs.Kinds.{all_kinds, tree_owner}
-use Rattle.fs_derive.specs.Lists.{numbers}
-use Rattle.fs_derive.specs.Own.{set_of, tuple_of}
+use Rattle.fs_state.specs.Chunks.{chunks}
+use Rattle.fs_state.specs.Claims.{Claimed, claimed_by, claims, fork_claims, log_claims, metadata_claims}
+use Rattle.fs_state.specs.Derive.{mappings}
+use Rattle.fs_state.specs.Records.{all_kinds, tree_owner}
+use Rattle.fs_state.specs.Lists.{numbers}
+use Rattle.fs_state.specs.Own.{set_of, tuple_of}
 use Rattle.fs_model.specs.declared.claim.Claim.TheVariants.{Chunk, Heads, Limbo, List as FreeList, Reserve, Tree}
 use Rattle.fs_model.specs.declared.entry.Entry.{Entry}
 use Rattle.fs_model.specs.declared.entry.Entry.TheVariants as entries

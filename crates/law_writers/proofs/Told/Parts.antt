@@ -10,10 +10,10 @@ use Rattle.law_writers.proofs.Change.Members.{any_filter, both_ways, found, hasc
 use Rattle.fs_change.proofs.Sets.{same_is, same_self}
 use Rattle.fs_change.specs.Chains.{tuples_of}
 use Rattle.fs_change.specs.Changes.{plain_run}
-use Rattle.fs_derive.specs.Chunks.{chunks}
-use Rattle.fs_derive.specs.Claims.{Claimed, claimed_by, metadata_claims}
-use Rattle.fs_derive.specs.Lists.{numbers}
-use Rattle.fs_derive.specs.Own.{tuple_of}
+use Rattle.fs_state.specs.Chunks.{chunks}
+use Rattle.fs_state.specs.Claims.{Claimed, claimed_by, metadata_claims}
+use Rattle.fs_state.specs.Lists.{numbers}
+use Rattle.fs_state.specs.Own.{tuple_of}
 use Rattle.fs_model.specs.declared.claim.Claim.{Claim}
 use Rattle.fs_model.specs.declared.entry.Extent.{Extent}
 use Rattle.fs_state.specs.State.{State}

@@ -8,7 +8,7 @@ use Rattle.law_writers.specs.Change.Settled.{given_next, taken_next}
 use Rattle.fs_change.proofs.Stays.{decided_stands}
 use Rattle.fs_change.specs.Chains.{settled_forks}
 use Rattle.fs_change.specs.Step.{Step}
-use Rattle.fs_derive.specs.Own.{set_of}
+use Rattle.fs_state.specs.Own.{set_of}
 use Rattle.fs_model.specs.declared.entry.Entry.{Entry}
 use Rattle.fs_model.specs.declared.entry.Entry.TheVariants as entries
 use Rattle.fs_state.specs.State.{State}

@@ -12,8 +12,8 @@ use Rattle.sblock.specs.declared.kind.Kind.TheVariants.{Ino}
 use Rattle.fs_state.specs.Apart.{is_chunk}
 use Rattle.fs_state.specs.State.{State, blocks_in, is_readable}
 use Rattle.fs_state.specs.declared.intent.Intent.{Intent}
-use Rattle.fs_derive.specs.Kinds.{kinds_of}
-use Rattle.fs_derive.specs.Own.{own}
+use Rattle.fs_state.specs.Records.{kinds_of}
+use Rattle.fs_state.specs.Own.{own}
 use Rattle.fs_change.specs.Changes.{owner_of_run}
 use Rattle.fs_change.specs.Laws.{OnlyChunks}
 use Rattle.fs_change.specs.Step.{Step, group_of_inode}

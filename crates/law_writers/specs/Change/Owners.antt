@@ -5,8 +5,8 @@ use Rattle.rmap_recs.specs.Runs.{has}
 use Rattle.rmap_recs.specs.declared.tuples.Tuple.{Tuple}
 use Rattle.fs_state.specs.Apart.{is_inode}
 use Rattle.fs_state.specs.State.{State}
-use Rattle.fs_derive.specs.Claims.{Claimed, data_claims, attribute_claims, tree_claims}
-use Rattle.fs_derive.specs.Own.{tuple_of}
+use Rattle.fs_state.specs.Claims.{Claimed, data_claims, attribute_claims, tree_claims}
+use Rattle.fs_state.specs.Own.{tuple_of}
 use Rattle.fs_change.specs.Laws.{fork_owners}
 
 -- Which blocks of a group does an inode have? Those of its data, of its attributes and of its forks' btrees.

@@ -11,7 +11,7 @@ use Rattle.sblock.specs.declared.kind.Kind.TheVariants.{Ino}
 use Rattle.fs_state.specs.Apart.{is_inode}
 use Rattle.fs_state.specs.State.{State, is_readable}
 use Rattle.fs_state.specs.declared.intent.Intent.{Intent}
-use Rattle.fs_derive.specs.Own.{set_of}
+use Rattle.fs_state.specs.Own.{set_of}
 use Rattle.fs_change.specs.Chains.{most_chains, given_by, taken_by, owed_gifts, owed_takings, settled_forks}
 use Rattle.fs_change.specs.Laws.{fork_owners, changes_inode, is_seen}
 use Rattle.fs_change.specs.Scan.{held_tuples, shadow_of}

@@ -6,7 +6,7 @@ use Rattle.law_writers.specs.Change.Forks.{IsRunAt, IsSound}
 use Rattle.fs_change.specs.Changes.{data_of, extent_of}
 use Rattle.fs_change.specs.Records.{is_unwritten_at}
 use Rattle.fs_change.specs.Step.{Row}
-use Rattle.fs_derive.specs.Claims.{claims}
+use Rattle.fs_state.specs.Claims.{claims}
 use Rattle.fs_model.specs.declared.entry.Entry.TheVariants as entries
 use Rattle.fs_model.specs.declared.entry.Piece.{Piece}
 use Rattle.fs_model.specs.declared.entry.SharedPiece.{SharedPiece}

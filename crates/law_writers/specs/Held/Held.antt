@@ -8,8 +8,8 @@ use Rattle.law_writers.specs.Change.Forks.{IsRunAt, IsSound}
 use Rattle.fs_change.specs.Changes.{extent_of}
 use Rattle.fs_change.specs.Laws.{AreWords}
 use Rattle.fs_change.specs.Step.{Row, group_of_inode}
-use Rattle.fs_derive.specs.Chunks.{inodes}
-use Rattle.fs_derive.specs.Claims.{data_claims}
+use Rattle.fs_state.specs.Chunks.{inodes}
+use Rattle.fs_state.specs.Claims.{data_claims}
 use Rattle.fs_model.specs.declared.entry.Entry.{Entry}
 use Rattle.fs_model.specs.declared.entry.Entry.TheVariants as entries
 use Rattle.fs_model.specs.declared.entry.Piece.{Piece}

@@ -3,7 +3,7 @@ use Rattle.std.specs.Prelude.{ℕ, ◌≡◌, true, List, Some, None}
 use Rattle.law_writers.specs.Change.Chunks.{LeavesChunks}
 use Rattle.fs_change.specs.Parts.{records_in}
 use Rattle.fs_change.specs.Step.{Step, group_of_inode}
-use Rattle.fs_derive.specs.Derive.{fino_of, ino_of}
+use Rattle.fs_state.specs.Derive.{fino_of, ino_of}
 use Rattle.fs_model.specs.declared.entry.Entry.{Entry}
 use Rattle.fs_model.specs.declared.entry.Entry.TheVariants as entries
 use Rattle.fs_state.specs.State.{State, is_readable}

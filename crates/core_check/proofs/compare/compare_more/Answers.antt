@@ -1,5 +1,5 @@
 use Rattle.std.proofs.Common.{ap, refl}
-use Rattle.core_judge.specs.declared.judging.Judging.{Judging}
+use Rattle.core_units.specs.declared.judging.Judging.{Judging}
 use Rattle.core_parts.specs.declared.units.Work.TheVariants as works
 use Rattle.geom.specs.Places.{layout}
 use Rattle.core_check.proofs.CheckLemmas.{leaves_self}

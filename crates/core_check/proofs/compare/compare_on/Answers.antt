@@ -1,5 +1,5 @@
 use Rattle.std.proofs.Common.{List, ap, subst}
-use Rattle.core_judge.specs.declared.judging.Judging.{Judging}
+use Rattle.core_units.specs.declared.judging.Judging.{Judging}
 use Rattle.core_parts.specs.declared.units.Work.TheVariants as works
 use Rattle.geom.specs.Places.{layout}
 use Rattle.fs_model.specs.declared.fault.Fault.{Fault}

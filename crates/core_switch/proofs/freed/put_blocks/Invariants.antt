@@ -1,7 +1,7 @@
 use Rattle.std.proofs.Common.{◌≡◌, ℕ, length}
 use Rattle.std.specs.Prelude.{◌||◌}
 use Rattle.block_reap.specs.Limbo.{IsLimbo, has}
-use Rattle.core_reserve.specs.Released.{block_runs}
+use Rattle.core_units.specs.Released.{block_runs}
 use Rattle.core_switch.proofs.freed.put_blocks.Given as goal
 
 abbrev pub invariant-loop-block : goal.invariant-loop-block

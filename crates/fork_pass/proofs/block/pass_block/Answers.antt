@@ -1,8 +1,8 @@
 use Rattle.std.proofs.Common.{◌+◌, ◌-◌, [], ◌∷◌, map, Option, refl, ap, subst, ◌∙◌, arith}
 use Rattle.blk_device.specs.ReadingLaws.{read_on}
 use Rattle.blk_device.specs.declared.device.Region.TheVariants.{Image}
-use Rattle.fs_derive.specs.Contradiction.{bad_fork}
-use Rattle.fs_derive.specs.Lists.{numbers}
+use Rattle.fs_state.specs.Contradiction.{bad_fork}
+use Rattle.fs_state.specs.Lists.{numbers}
 use Rattle.fs_model.specs.declared.claim.Evidence.{Evidence}
 use Rattle.geom.proofs.ApartLemmas.{splits_in}
 use Rattle.geom.specs.Layout.{inode_at}

@@ -2,7 +2,7 @@ use Rattle.std.proofs.Common.{◌≡◌, ◌+◌, ◌-◌, List, Option, refl, a
 use Rattle.blk_device.specs.ReadingLaws.{nothing_read, read_on}
 use Rattle.blk_device.specs.declared.device.Region.TheVariants.{Image}
 use Rattle.fs_model.specs.declared.claim.Evidence.{Evidence}
-use Rattle.fs_derive.specs.Contradiction.{bad_fork}
+use Rattle.fs_state.specs.Contradiction.{bad_fork}
 use Rattle.geom.specs.Places.{layout}
 use Rattle.inode_pass.specs.Notes.{AreFit}
 use Rattle.inode_pass.specs.Units.{opened_state}

@@ -1,5 +1,5 @@
 use Rattle.std.proofs.Common.{◌≡◌, ◌++◌}
-use Rattle.fs_derive.specs.Lists.{numbers}
+use Rattle.fs_state.specs.Lists.{numbers}
 use Rattle.group_trees.proofs.runs.put_run.Given as goal
 
 -- the blocks so far were put down

@@ -12,7 +12,7 @@ use Rattle.image_check.proofs.InodesLemmas.{are_chunks, are_notes}
 use Rattle.image_check.specs.Checked.{ChecksAll}
 use Rattle.check_phases.proofs.AddedLemmas.{as_added, of_all}
 use Rattle.check_phases.specs.Parts.{AreParts}
-use Rattle.fs_derive.specs.Session.{Place}
+use Rattle.fs_state.specs.Session.{Place}
 use Rattle.fs_model.specs.declared.unit.Unit.TheVariants as units
 use Rattle.image_check.specs.Units.{AreMappings, IsMappingPart, IsSkippedFor}
 use Rattle.check_phases.proofs.KeptToldLemmas.{phase_alike, unread}

@@ -1,5 +1,5 @@
 use Rattle.std.proofs.Common.{◌≡◌, ◌-◌, Ok, Some}
-use Rattle.fs_derive.specs.Contradiction.{first_bad_fork}
+use Rattle.fs_state.specs.Contradiction.{first_bad_fork}
 use Rattle.fs_state.specs.State.{State}
 use Rattle.check_phases.specs.Checks.{ChecksPhase}
 use Rattle.check_phases.specs.Parts.{AddsGroups}

@@ -1,5 +1,5 @@
 use Rattle.std.proofs.Common.{◌≡◌, ◌++◌, map}
-use Rattle.fs_derive.specs.Lists.{numbers}
+use Rattle.fs_state.specs.Lists.{numbers}
 use Rattle.fs_state.specs.Inodes.{core_in, slot_in}
 use Rattle.geom.specs.Layout.{inode_at}
 use Rattle.geom.specs.Places.{layout}

@@ -2,7 +2,7 @@ use Rattle.std.proofs.Common.{◌≡◌, ◌+◌, ◌*◌, ◌≤◌, ◌++◌, 
 use Rattle.blk_device.specs.Contents.{Contents}
 use Rattle.blk_device.specs.Reading.{OnlyRead}
 use Rattle.blk_device.specs.declared.device.Region.TheVariants.{Image}
-use Rattle.fs_derive.specs.Lists.{numbers}
+use Rattle.fs_state.specs.Lists.{numbers}
 use Rattle.geom.specs.Places.{layout}
 use Rattle.inode_pass.specs.Notes.{AreFit, notes_of}
 use Rattle.inode_pass.specs.Units.{AreSeen, unit_numbers}

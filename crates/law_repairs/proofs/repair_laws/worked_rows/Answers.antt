@@ -4,10 +4,10 @@ use Rattle.derive_defs.specs.ByCount.{ordered_by_count}
 use Rattle.derive_defs.specs.Free.{free_space, is_free}
 use Rattle.fs_change.specs.Records.{take_mapping}
 use Rattle.fs_change.specs.Switch.{limbo_of, lost_blocks, moved, need, need_of, prepared, without_trees}
-use Rattle.fs_derive.specs.Chunks.{chunks, inodes, inodes_in}
-use Rattle.fs_derive.specs.Claims.{claims, fork_claims, metadata_claims}
-use Rattle.fs_derive.specs.Derive.{bno_of, cnt_of, derive}
-use Rattle.fs_derive.specs.Own.{comes_before, own}
+use Rattle.fs_state.specs.Chunks.{chunks, inodes, inodes_in}
+use Rattle.fs_state.specs.Claims.{claims, fork_claims, metadata_claims}
+use Rattle.fs_state.specs.Derive.{bno_of, cnt_of, derive}
+use Rattle.fs_state.specs.Own.{comes_before, own}
 use Rattle.fs_state.specs.Apart.{block_verifies, has_unit, ino_lists, is_chunk, is_listed, rmap_lists, unit_verifies}
 use Rattle.geom.specs.Numbers.{split}
 use Rattle.law_repairs.proofs.repair_laws.worked_rows.Goals as goal

@@ -1,5 +1,5 @@
 use Rattle.std.proofs.Common.{◌≡◌, drop, map}
-use Rattle.fs_derive.specs.Lists.{first_of_all}
+use Rattle.fs_state.specs.Lists.{first_of_all}
 use Rattle.quiet_check.specs.Chunks.{bad_where}
 use Rattle.quiet_check.proofs.chunks.first_bad_chunk.Given as goal
 

@@ -1,6 +1,6 @@
 use Rattle.std.proofs.Common.{◌≡◌, ◌++◌}
 use Rattle.std.proofs.lemmas.Result.{on_ok_weaker}
-use Rattle.fs_derive.specs.Faults.{counter_fault}
+use Rattle.fs_state.specs.Faults.{counter_fault}
 use Rattle.fs_model.specs.declared.fault.Counter.TheVariants.{Fblocks}
 use Rattle.group_trees.specs.Trees.{reading_of}
 use Rattle.quiet_check.proofs.FaultLemmas.{four_put}

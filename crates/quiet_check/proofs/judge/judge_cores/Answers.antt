@@ -1,7 +1,7 @@
 use Rattle.std.proofs.Common.{◌≡◌, ◌∙◌, ◌/◌, ℕ, List, ◌++◌, ap, sym, subst, arith}
 use Rattle.std.proofs.lemmas.Result.{IfOk-weaker}
 use Rattle.blk_device.specs.declared.device.Region.TheVariants.{Image}
-use Rattle.fs_derive.specs.Faults.{faults}
+use Rattle.fs_state.specs.Faults.{faults}
 use Rattle.fs_model.specs.declared.unit.Unit.TheVariants as units
 use Rattle.fs_state.specs.Kinds.{Image as ImageOf}
 use Rattle.fs_state.specs.State.{recs_of}

@@ -1,5 +1,5 @@
 use Rattle.std.proofs.Common.{arith, refl}
-use Rattle.fs_derive.specs.Faults.{faults}
+use Rattle.fs_state.specs.Faults.{faults}
 use Rattle.fs_model.specs.declared.unit.Unit.TheVariants as units
 use Rattle.fs_state.specs.State.{State}
 use Rattle.test_said.proofs.Computing.{computing}

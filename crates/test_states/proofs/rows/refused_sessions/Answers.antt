@@ -1,5 +1,5 @@
 use Rattle.std.proofs.Common.{List, map, Option, option_map, ap, arith}
-use Rattle.fs_derive.specs.Session.{Place}
+use Rattle.fs_state.specs.Session.{Place}
 use Rattle.fs_model.specs.declared.unit.Unit.{Unit as ScrubUnit}
 use Rattle.test_states.proofs.Computing.{computing}
 use Rattle.test_states.proofs.rows.refused_sessions.Goals as goal

@@ -9,8 +9,8 @@ use Rattle.fs_model.specs.declared.claim.Evidence.TheVariants.{BadChunk, Overlap
 use Rattle.fs_model.specs.declared.«record».AnyRec.TheVariants as recs
 use Rattle.fs_model.specs.declared.unit.Unit.TheVariants as units
 use Rattle.dinode_core.specs.declared.inode.CoreFault.TheVariants.{Checksum as CoreSum}
-use Rattle.fs_derive.specs.Contradiction.{evidence}
-use Rattle.fs_derive.specs.Faults.{faults}
+use Rattle.fs_state.specs.Contradiction.{evidence}
+use Rattle.fs_state.specs.Faults.{faults}
 use Rattle.test_states.specs.Images.{span}
 use Rattle.test_states.specs.Rows.{entries_on, short_free, short_longest, thrice, two_reasons}
 use Rattle.test_states.proofs.Computing.{computing}

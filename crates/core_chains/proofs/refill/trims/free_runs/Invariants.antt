@@ -1,7 +1,7 @@
 use Rattle.std.proofs.Common.{◌≡◌, length}
 use Rattle.core_parts.specs.Common.Asks.{IsUsable}
 use Rattle.core_parts.specs.Keeps.{IsSteady}
-use Rattle.unit_edits.specs.Opened.{IsOpen}
+use Rattle.core_edit.specs.Opened.{IsOpen}
 use Rattle.core_chains.proofs.refill.trims.free_runs.Given as goal
 
 abbrev pub invariant-loop-run : goal.invariant-loop-run

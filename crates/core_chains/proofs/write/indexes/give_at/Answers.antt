@@ -1,5 +1,5 @@
 use Rattle.std.proofs.Common.{ℕ, ◌<◌, refl, sym, subst}
-use Rattle.unit_edits.proofs.StepLemmas.{edits_self, opens_after}
+use Rattle.core_edit.proofs.UnitLemmas.{edits_self, opens_after}
 use Rattle.core_chains.proofs.write.indexes.give_at.Goals as goal
 
 pub returns-clause-opened : goal.returns-clause-opened

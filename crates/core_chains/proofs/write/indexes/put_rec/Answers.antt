@@ -2,7 +2,7 @@ use Rattle.std.proofs.Common.{ℕ, ◌<◌, refl, sym, subst}
 use Rattle.core_edit.specs.One.{Fits}
 use Rattle.geom.specs.Places.{layout}
 use Rattle.list_edit.specs.declared.edits.Edit.TheVariants.{Insert}
-use Rattle.unit_edits.proofs.StepLemmas.{opens_after}
+use Rattle.core_edit.proofs.UnitLemmas.{opens_after}
 use Rattle.core_chains.proofs.write.indexes.put_rec.Goals as goal
 
 pub returns-clause-opened : goal.returns-clause-opened

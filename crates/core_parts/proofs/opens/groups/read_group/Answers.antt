@@ -2,8 +2,8 @@ use Rattle.std.proofs.Common.{subst, sym, ◌∙◌}
 use Rattle.blk_device.specs.declared.device.Region.TheVariants.{Image}
 use Rattle.fs_state.specs.Read.{opened}
 use Rattle.geom.specs.Places.{layout}
-use Rattle.core_trees.specs.Trees.{AreKnown}
-use Rattle.core_trees.specs.declared.trees.BadTrees.{BadTrees}
+use Rattle.core_units.specs.Trees.{AreKnown}
+use Rattle.core_units.specs.declared.trees.BadTrees.{BadTrees}
 use Rattle.core_parts.proofs.opens.Known.{are_known}
 use Rattle.core_parts.proofs.opens.groups.read_group.Goals as goal
 

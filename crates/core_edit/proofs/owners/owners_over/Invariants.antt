@@ -1,0 +1,10 @@
+use Rattle.std.proofs.Common.{◌≡◌}
+use Rattle.core_edit.specs.Opened.{EditsStore}
+use Rattle.core_edit.proofs.owners.owners_over.Given as goal
+
+abbrev pub invariant-loop : goal.invariant-loop
+invariant-loop g l = record {
+  edits : EditsStore g.D.Device l.initial.store l.store l.initial.steps l.steps;
+  edit : l.store.edit ≡ l.initial.store.edit;
+  calm : g.D.Device.faults l.store.dev ≡ g.D.Device.faults l.initial.store.dev;
+}

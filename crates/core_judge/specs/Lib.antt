@@ -1,6 +1,0 @@
-pub mod Compared
-pub mod Cores
-pub mod Judging
-pub mod Orderly
-pub mod Promise
-pub mod Room

@@ -1,9 +1,0 @@
-use Rattle.std.proofs.Common.{length}
-use Rattle.core_reserve.specs.Tested.{BlocksWithin}
-use Rattle.core_reserve.proofs.claimed.blocks_lie.Given as goal
-
-abbrev pub invariant-loop-block : goal.invariant-loop-block
-invariant-loop-block l = BlocksWithin l.limit l.rest → BlocksWithin l.limit l.blocks
-
-abbrev pub decreases-loop-block : goal.decreases-loop-block
-decreases-loop-block l = length l.rest

@@ -1,9 +1,0 @@
-use Rattle.std.proofs.Common.{sym, subst}
-use Rattle.core_reserve.specs.Staged.{IsAt}
-use Rattle.core_reserve.specs.declared.stage.Staging.{Staging}
-use Rattle.core_reserve.proofs.RebuildLemmas.{at_behind}
-use Rattle.core_reserve.proofs.stage.stage_next.Goals as goal
-
-pub returns-in_ok-next-in-First-clause-at : goal.returns-in_ok-next-in-First-clause-at
-returns-in_ok-next-in-First-clause-at g c =
-    subst (λ (s : Staging). IsAt c.args.lists.now s) (sym c.behind_first.ensures) (at_behind c.args.lists.now c.in_ok-next-in-First.next c.in_ok-next-in-First.ensures.next)

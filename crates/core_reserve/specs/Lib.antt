@@ -1,9 +1,0 @@
-pub mod Choices
-pub mod Fit
-pub mod Lasting
-pub mod Rebuilt
-pub mod Released
-pub mod Reserved
-pub mod Staged
-pub mod Taken
-pub mod Tested

@@ -1,0 +1,15 @@
+pub mod ClaimsLemmas
+pub mod CompareLemmas
+pub mod CoresLemmas
+pub mod FitLemmas
+pub mod FrontLemmas
+pub mod MappedLemmas
+pub mod OrderlyLemmas
+pub mod RebuildLemmas
+pub mod ReleasedLemmas
+pub mod RoomLemmas
+pub mod StageLemmas
+pub mod StandingLemmas
+pub mod TakenLemmas
+pub mod TestedLemmas
+pub mod TreesLemmas

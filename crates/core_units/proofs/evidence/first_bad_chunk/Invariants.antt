@@ -1,0 +1,8 @@
+use Rattle.std.proofs.Common.{◌≡◌, drop, map}
+use Rattle.fs_state.specs.Lists.{first_of_all}
+use Rattle.quiet_check.specs.Chunks.{bad_where}
+use Rattle.core_units.proofs.evidence.first_bad_chunk.Given as goal
+
+-- the units so far have none
+abbrev pub invariant-loop-unit : goal.invariant-loop-unit
+invariant-loop-unit l = first_of_all (map (bad_where l.by_inodes l.by_owners) (drop l.unit-index l.seen)) ≡ first_of_all (map (bad_where l.by_inodes l.by_owners) l.seen)

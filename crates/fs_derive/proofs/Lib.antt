@@ -1,4 +1,0 @@
-mod NoFaults
-mod Overlaps
-pub mod SharedWithin
-mod Sources
