@@ -16,7 +16,7 @@ use Rattle.fs_state.specs.declared.intent.IntentKind.{IntentKind}
 use Rattle.fs_state.specs.declared.intent.IntentKind.TheVariants.{RmapAdd, RmapRemove, RmapChange, RefMore, RefLess, Free}
 use Rattle.fs_state.specs.Lists.{only_if}
 use Rattle.fs_change.specs.Chains.{run_of, word_taken}
-use Rattle.fs_change.specs.Records.{without_first, last_at, end_of, is_same_span, has_span, holder_of, rest_of, beside_run, joined_run, take_mapping, give_mapping, refc_end, counter_of, is_same_count, count_rest, cut_counts, count_before, count_behind, joined_counts, has_inode}
+use Rattle.fs_change.specs.Records.{without_first, last_at, end_of, is_same_span, has_span, holder_of, rest_of, beside_run, joined_run, take_mapping, give_mapping, greatest_count, refc_end, counter_of, is_same_count, count_rest, cut_counts, count_before, count_behind, joined_counts, has_inode}
 
 -- What one edit meets, or several. Where records are sought by their first blocks, one that meets another may hide behind
 -- records that begin later: a search may pass it over. `far` says of these two btrees whether any record meets.
@@ -143,9 +143,13 @@ met_cutting rs b n = met_counts (option_to_list (counter_of rs b)) (option_map_o
 abbrev pub met_joining : List RefcRec → ℕ → ℕ → ℕ → Met
 met_joining rs b n v = met_counts (option_to_list (count_before rs b v) ++ option_to_list (count_behind rs (b + n) v)) (joined_counts rs b n v ∷ []) rs
 
+-- a count that is greater than any record has lacks its record
+abbrev pub met_rising : ℕ → Met
+met_rising v = record { lacks = nat_lt greatest_count v; meets = false; far = false }
+
 -- a stretch that gets a new count
 abbrev pub met_counting : ℕ → ℕ → ℕ → List RefcRec → Met
-met_counting b n v rs = and_then (met_cutting rs b n) (if nat_lt v 2 then nothing else met_joining (cut_counts rs b n) b n v)
+met_counting b n v rs = and_then (met_rising v) (and_then (met_cutting rs b n) (if nat_lt v 2 then nothing else met_joining (cut_counts rs b n) b n v))
 
 -- ---- inodes
 

@@ -112,6 +112,10 @@ count_at rs b = option_map_or (λ r. r.refcount) (counter_of rs b) 1
 abbrev pub most_counted : ℕ
 most_counted = 4294967200
 
+-- the greatest count that a record has
+abbrev pub greatest_count : ℕ
+greatest_count = 4294967295
+
 -- How far does one count reach, of n blocks from b on? To the end of the record that has b, and not into the next one.
 unfoldable pub stretch : List RefcRec → ℕ → ℕ → ℕ
 stretch rs b n = min n (min (option_map_or refc_end (counter_of rs b) (b + n)) (option_map_or (λ r. r.start) (find (λ r. nat_lt b r.start) rs) (b + n)) - b)

@@ -150,6 +150,9 @@ pub record WorkedFaults : Type 0 where
   pub same_key : met_gaining (run 4 1 group_own 0) runs ≡ meeting
   pub risen : met_counting 6 2 3 counts ≡ nothing
   pub beyond : met_counting 6 4 5 counts ≡ overlapping
+  -- no record has a greater count than 2 ^ 32 - 1
+  pub greatest : met_counting 40 1 (2 ^ 32 - 1) (counted 30 20 (2 ^ 32 - 2) ∷ []) ≡ nothing
+  pub too_great : met_counting 40 1 (2 ^ 32) (counted 30 20 (2 ^ 32 - 1) ∷ []) ≡ lacking
   pub freed : met_following 130 (chunk 64 2 3 ∷ chunk 128 0 0 ∷ []) (chunk 64 2 3 ∷ []) ≡ nothing
   pub not_listed : met_following 65 (chunk 64 2 3 ∷ []) [] ≡ lacking
   pub listed_full : met_following 130 (chunk 128 0 0 ∷ []) (chunk 128 1 1 ∷ []) ≡ meeting

@@ -116,9 +116,12 @@ free_step a b n kept i rest next group block some count sort whole owner w =
 
 -- ---- first events of chain 0
 
+pub first_on : (a : State) (c ino : ℕ) → nat_lt c 16 ≡ true → is_inode a ino ≡ true → is_free (a.core ino) ≡ false → is_ok (a.fork ino forks.Data) ≡ true → a.chains c ≡ [] → list_any (is_mapping_of ino) (pending a) ≡ false → IsFirst a c ino
+first_on a c ino few there used readable nothing none =
+    record { file = record { inode = there; allocated = used; readable = readable }; open_chain = ltb-true c 16 few; owes_nothing = nothing; none_pending = none }
+
 pub first : (a : State) (ino : ℕ) → is_inode a ino ≡ true → is_free (a.core ino) ≡ false → is_ok (a.fork ino forks.Data) ≡ true → a.chains 0 ≡ [] → list_any (is_mapping_of ino) (pending a) ≡ false → IsFirst a 0 ino
-first a ino there used readable nothing none =
-    record { file = record { inode = there; allocated = used; readable = readable }; open_chain = ltb-true 0 16 refl; owes_nothing = nothing; none_pending = none }
+first a ino there used readable nothing none = first_on a 0 ino refl there used readable nothing none
 
 pub changes : (a : State) (m : Piece) → m.chain ≡ 0 → (nat_lt 0 m.count && nat_le m.count 1024) ≡ true → IsFirst a m.chain m.ino → (is_piece m.offset (fs_block_of a.geometry m.group m.block) m.count (data_of a m.ino) && none_sick piece_kinds (a.group m.group)) ≡ true → MayChange a m
 changes a m chain some is_first there =

@@ -11,6 +11,6 @@ pub use rows::{
     list_moves, list_stays, list_taken, mapped_halfway, marked_once, marks_bounded, need_grows,
     no_block_left, no_file, not_to_be_freed, not_to_be_given, not_to_be_marked, not_to_be_shared,
     not_to_be_switched, not_to_be_taken, nothing_to_do, owned_space, owner_found,
-    rebuilt_free_space, rebuilt_inodes, rebuilt_mappings, say_too_much, shared_piece,
-    shrinking_file, tree_sizes, trims_front, trims_long, turns_front, uncounted,
+    rebuilt_free_space, rebuilt_inodes, rebuilt_mappings, rises_too_far, say_too_much,
+    shared_piece, shrinking_file, tree_sizes, trims_front, trims_long, turns_front, uncounted,
 };

@@ -3,6 +3,7 @@ ghost use Rattle.test_changes.specs.Crashes.{ClaimsKept, CutReserved, CutRun, Cu
 ghost use Rattle.test_changes.specs.Scans.{BehindCursor, HeldInode};
 ghost use Rattle.test_changes.specs.Files.{ConvertedPiece, CutUnmapping, GrowingFile, MappedHalfway, MarkedOnce, OwnerFound, SharedPieceRow, ShrinkingFile};
 ghost use Rattle.test_changes.specs.Lists.{ChunkMade, Forgotten, InodeBlocks, LeftAlone, ListMoves, NeedGrows};
+ghost use Rattle.test_changes.specs.Meets.{RisesTooFar};
 ghost use Rattle.test_changes.specs.Refused.{NotToBeFreed, NotToBeGiven, NotToBeMarked, NotToBeShared, NotToBeSwitched, NotToBeTaken, NothingToDo, OwnedSpace, SayTooMuch};
 ghost use Rattle.test_changes.specs.Repairs.{NoBlockLeft, RebuiltFreeSpace, RebuiltInodes, RebuiltMappings, TreeSizes};
 
@@ -254,4 +255,9 @@ pub fn uncounted()
 /// What no inode btree lists is no file.
 pub fn no_file()
     ensures { NoFile }
+{}
+
+/// A count that can't rise is left and marked, where records of counts overlap.
+pub fn rises_too_far()
+    ensures { RisesTooFar }
 {}

@@ -284,7 +284,8 @@ fn change_span<D: Device, L: Ledger>(
     if is_falling(intent) && !span.counted {
         return Ok(NONE_LEFT);
     }
-    // Never, where the content is known: a first event shares no block with so many owners.
+    // Only where records of counts overlap, or the content isn't known: a first event shares no block with
+    // so many owners.
     if is_more(intent) && span.owners == u32::MAX {
         return Ok(Left {
             refc: Some(Cause::Missing),
