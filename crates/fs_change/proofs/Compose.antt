@@ -34,7 +34,7 @@ all_in : (bs cs : List ℕ) → ((b : ℕ) → is_in b bs ≡ true → is_in b c
 all_in [] cs h = refl
 all_in (b ∷ bs) cs h = ap₂ (λ x y. x && y) (h b (ap (λ x. x || is_in b bs) (eq-eqb b b refl))) (all_in bs cs (λ c i. h c (passes_still (b == c) (is_in c bs) i)))
 
-same_reading : {R : Type 0} (r : Reading R) → KeepsReading r r
+pub same_reading : {R : Type 0} (r : Reading R) → KeepsReading r r
 same_reading (Readable recs blocks) = refl
 same_reading (Unreadable block fault claims) = all_in claims claims (λ b i. i)
 

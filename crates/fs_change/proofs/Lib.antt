@@ -1,5 +1,6 @@
 pub mod Again
 pub mod Alike
+mod Behind
 pub mod Beside
 pub mod Compose
 mod Counted

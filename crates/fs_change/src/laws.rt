@@ -1,3 +1,4 @@
+ghost use Rattle.fs_change.specs.Behind.{GroupsBehind};
 ghost use Rattle.fs_change.specs.Laws.{ChangePending, ChangesOneGroup, CursorPasses, DecidedStands, FirstEventKeeps, GiftDone, GiftPending, HoldBegins, HoldEnds, InodesDerivedAgain, KeepsOtherInodes, KeepsOtherTrees, LeadsCompose, MappingsDerivedAgain, OneSet, PieceGives, ReserveCountsAlike, SessionsBegin, SessionsCompose, ShadowGains, ShadowLoses, SpaceDerivedAgain, StepMoves, TakenKeepsChunks, TakingDone, TakingPending};
 ghost use Rattle.fs_change.specs.Worked.{Worked};
 
@@ -137,4 +138,10 @@ pub fn worked_records()
 /// A law: there is always a state with which a new session may begin: the last one less what is forgotten.
 pub fn sessions_begin()
     ensures { SessionsBegin }
+{}
+
+/// A law: groups behind the last one stay where nothing is written there, so an event of one group leaves
+/// every other; and where what an opening found is kept of them, a new session finds the same.
+pub fn groups_behind()
+    ensures { GroupsBehind }
 {}
