@@ -94,9 +94,17 @@ met_losing r rs = record { lacks = not (is_some (find (λ p. holds p r) rs)); me
 abbrev pub met_gaining : RmapRec → List RmapRec → Met
 met_gaining r rs = record { lacks = false; meets = list_any (is_same_key (grown r rs)) (without_first (λ p. can_join p r) (without_first (can_join r) rs)); far = false }
 
--- one owner in place of another
+-- One owner in place of another is one edit: the record that holds the run goes, with those that the run then joins, and
+-- what is left of it and the joined run come. Nothing that is left joins the run: its owner or its flag differs.
 abbrev pub met_turning : RmapRec → RmapRec → List RmapRec → Met
-met_turning old new rs = and_then (met_losing old rs) (met_gaining new (take_mapping old rs))
+met_turning old new rs =
+    let holder = find (λ p. holds p old) rs in
+    let others = without_first (λ p. holds p old) rs in
+    record {
+      lacks = not (is_some holder);
+      meets = list_any (λ s. list_any (is_same_key s) (grown new others ∷ left_of holder old)) (without_first (λ p. can_join p new) (without_first (can_join new) others));
+      far = false;
+    }
 
 abbrev pub met_mapping : IntentKind → Intent → List RmapRec → Met
 met_mapping RmapAdd i rs = met_gaining (run_of i i.word) rs

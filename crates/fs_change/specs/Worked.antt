@@ -9,7 +9,7 @@ use Rattle.span_recs.specs.declared.span.SpanRec.{SpanRec}
 use Rattle.fs_change.specs.Choice.{is_guarded}
 use Rattle.fs_change.specs.Changes.{follow, by_count}
 use Rattle.fs_change.specs.Records.{span, by_start, take_span, give_span, give_mapping, take_mapping, counted, count_at, stretch, set_count, turn_inode, follow_inode, add_mapping, take_piece}
-use Rattle.fs_change.specs.Met.{Met, nothing, met_taking, met_taking_count, met_giving, met_giving_count, met_losing, met_gaining, met_counting, met_following}
+use Rattle.fs_change.specs.Met.{Met, nothing, met_taking, met_taking_count, met_giving, met_giving_count, met_losing, met_gaining, met_turning, met_counting, met_following}
 use Rattle.fs_change.specs.Switch.{need_of, join_limbo, owned_by}
 
 -- ---- free space
@@ -148,6 +148,10 @@ pub record WorkedFaults : Type 0 where
   pub not_owned : met_losing (run 20 1 group_own 0) runs ≡ lacking
   pub gained : met_gaining (run 8 8 group_own 0) runs ≡ nothing
   pub same_key : met_gaining (run 4 1 group_own 0) runs ≡ meeting
+  -- what is left behind a run has the key of a record that the run joins, which goes; one that stays has it too
+  pub turned : met_turning (run 12 3 133 (2 ^ 61 + 2)) (run 12 3 133 2) (run 10 10 133 (2 ^ 61) ∷ run 15 2 133 5 ∷ []) ≡ nothing
+  pub not_turned : met_turning (run 12 3 133 (2 ^ 61 + 2)) (run 12 3 133 2) (run 10 10 133 (2 ^ 61) ∷ run 15 2 133 (2 ^ 61 + 5) ∷ []) ≡ meeting
+  pub nothing_to_turn : met_turning (run 12 3 133 (2 ^ 61 + 2)) (run 12 3 133 2) [] ≡ lacking
   pub risen : met_counting 6 2 3 counts ≡ nothing
   pub beyond : met_counting 6 4 5 counts ≡ overlapping
   -- no record has a greater count than 2 ^ 32 - 1

@@ -1,17 +1,17 @@
 -- What edits of damaged trees meet, where only the order or the whole of an edit decides.
-use Rattle.std.specs.Prelude.{◌≡◌, ◌-◌, ◌^◌, true, false, [], ◌∷◌}
+use Rattle.std.specs.Prelude.{◌≡◌, ◌-◌, ◌^◌, ◌+◌, true, false, [], ◌∷◌, ◌++◌}
 use Rattle.fs_model.specs.declared.entry.Entry.TheVariants as entries
 use Rattle.fs_model.specs.declared.entry.Piece.{Piece}
 use Rattle.fs_model.specs.declared.fault.Cause.TheVariants.{Missing}
-use Rattle.sblock.specs.declared.kind.Kind.TheVariants.{Refc}
+use Rattle.sblock.specs.declared.kind.Kind.TheVariants.{Rmap, Refc}
 use Rattle.fs_state.specs.State.{State}
-use Rattle.fs_change.specs.Changes.{unmapped, shared, rmap_done, ref_done, marked}
+use Rattle.fs_change.specs.Changes.{unmapped, converted, shared, rmap_done, ref_done, marked}
 use Rattle.fs_change.specs.Choice.{extent}
 use Rattle.fs_change.specs.Parts.{in_group, change_tree, records_in}
 use Rattle.fs_change.specs.Run.{Leads}
-use Rattle.test_states.specs.Images.{tree_of, shared as counted}
-use Rattle.test_states.specs.Rows.{shared_forty}
-use Rattle.test_changes.specs.Files.{piece, done, first_of, rest_of, step_mapping}
+use Rattle.test_states.specs.Images.{counters_with, trees_a, tree_of, file_with, fork_with, span, shared as counted, mapped as owned, inodes}
+use Rattle.test_states.specs.Rows.{shared_forty, six_mappings}
+use Rattle.test_changes.specs.Files.{piece, done, first_of, rest_of, step_mapping, unwritten_mapping}
 use Rattle.test_changes.specs.Refused.{third_place}
 
 -- ---- a count of 2 ^ 32 - 1 can't rise. The record of block 40 hides one that has it too; a first event asks the former,
@@ -48,3 +48,21 @@ RisesTooFar =
     × Leads told_once (entries.Unmapped other_piece ∷ entries.RmapDone 1 195 0 40 1 ∷ entries.RefDone 1 0 40 1 false ∷ []) other_counted
     × Leads other_counted (entries.RefDone 0 0 40 1 true ∷ entries.Marked 0 Refc Missing ∷ []) (marked 0 Refc counts_left)
     × (records_in (counts_left.group 0) Refc ≡ counted 30 20 (2 ^ 32 - 1) ∷ [])
+
+-- ---- a piece of an unwritten mapping is made written, where a stray record begins behind it: as one edit the two join, and
+-- what is left behind the piece meets nothing
+
+abbrev pub overlaid : State
+overlaid = file_with (counters_with 60 219 206) (record trees_a {
+  bno = tree_of (1 ∷ []) (span 19 5 ∷ span 32 8 ∷ span 50 206 ∷ []);
+  cnt = tree_of (2 ∷ []) (span 19 5 ∷ span 32 8 ∷ span 50 206 ∷ []);
+  rmap = tree_of (5 ∷ []) (six_mappings ++ owned 24 8 inodes 0 ∷ owned 40 10 195 (2 ^ 61) ∷ owned 45 2 195 5 ∷ []);
+}) (fork_with (unwritten_mapping 0 40 10 ∷ []))
+
+abbrev pub turned_whole : State
+turned_whole = step_mapping (converted (piece 2 42 3) overlaid)
+
+abbrev pub TurnsWhole : Type 0
+TurnsWhole =
+    Leads overlaid (entries.Converted (piece 2 42 3) ∷ done 42 3 ∷ []) turned_whole
+    × (records_in (turned_whole.group 0) Rmap ≡ six_mappings ++ owned 24 8 inodes 0 ∷ owned 40 2 195 (2 ^ 61) ∷ owned 42 5 195 2 ∷ owned 45 5 195 (2 ^ 61 + 5) ∷ [])

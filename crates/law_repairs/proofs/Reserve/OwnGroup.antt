@@ -302,17 +302,17 @@ module _ (a : State) (left : List Kind) (g : ℕ) (unit : ScrubUnit) (b : ℕ) (
   met_maps units.Inode h faults ed =
       some_holds (block_run (number_of Ag) b) (mappings a g)
       (is_not (is_some (find (λ r. holds r (block_run (number_of Ag) b)) (mappings a g)))
-      (either_false (not (is_some (find (λ r. holds r (block_run (number_of Ag) b)) (mappings a g)))) false (either_false _ _
+      (either_false _ _
       (not_faulty (is_among Rmap left) (is_fault (met_by a (entries.Reserved g units.Inode b false) Rmap))
       (each_edited (λ k. is_among k left || not (is_fault (met_by a (entries.Reserved g units.Inode b false) k))) (is_edited [] (a.group g)) (Rmap ∷ []) Rmap faults (inl refl) (well_edited [] (a.group g) Rmap (not_sick left (a.group g) Rmap ed) refl))
-      (not_left left (a.group g) Rmap ed))).0).0)
+      (not_left left (a.group g) Rmap ed))).0)
   met_maps units.Refc h faults ed =
       some_holds (block_run (number_of Ag) b) (mappings a g)
       (is_not (is_some (find (λ r. holds r (block_run (number_of Ag) b)) (mappings a g)))
-      (either_false (not (is_some (find (λ r. holds r (block_run (number_of Ag) b)) (mappings a g)))) false (either_false _ _
+      (either_false _ _
       (not_faulty (is_among Rmap left) (is_fault (met_by a (entries.Reserved g units.Refc b false) Rmap))
       (each_edited (λ k. is_among k left || not (is_fault (met_by a (entries.Reserved g units.Refc b false) k))) (is_edited [] (a.group g)) (Rmap ∷ []) Rmap faults (inl refl) (well_edited [] (a.group g) Rmap (not_sick left (a.group g) Rmap ed) refl))
-      (not_left left (a.group g) Rmap ed))).0).0)
+      (not_left left (a.group g) Rmap ed))).0)
   met_maps units.Free h faults ed = absurd (true≢false (sym h))
   met_maps units.Rmap h faults ed = absurd (true≢false (sym h))
 

@@ -7,9 +7,9 @@ use Rattle.law_accounts.specs.Account.Steps.{NextIsThere}
 use Rattle.fs_change.specs.Chains.{is_change, run_of, takes, word_taken}
 use Rattle.fs_change.specs.Changes.{plain_run}
 use Rattle.fs_change.specs.Edited.{leaves_faults, met_by, met_by_next}
-use Rattle.fs_change.specs.Met.{is_fault, met_gaining, met_losing, met_mapping, met_taking}
+use Rattle.fs_change.specs.Met.{is_fault, met_losing, met_mapping, met_taking}
 use Rattle.fs_change.specs.Parts.{is_edited, records_in, sick_in}
-use Rattle.fs_change.specs.Records.{holder_of, span, take_mapping}
+use Rattle.fs_change.specs.Records.{holder_of, span}
 use Rattle.fs_change.specs.Step.{group_of_inode}
 use Rattle.fs_state.specs.Claims.{unwritten}
 use Rattle.fs_model.specs.declared.entry.Entry.{Entry}
@@ -55,27 +55,21 @@ found_any : (p : RmapRec → Bool) (rs : List RmapRec) → is_some (find p rs) �
 found_any p [] = refl
 found_any p (r ∷ rs) = elim (p r) as (λ b. is_some (cond b (Some r) (find p rs)) ≡ (b || list_any p rs)) [ true ↦ refl | false ↦ found_any p rs ]
 
+first_false : (x y : Bool) → (x || y) ≡ false → x ≡ false
+first_false true y h = absurd (true≢false h)
+first_false false y h = refl
+
 -- what an edit takes out is there where nothing is met
 losing_found : (r : RmapRec) (rs : List RmapRec) → is_fault (met_losing r rs) ≡ false → list_any (λ p. holds p r) rs ≡ true
 losing_found r rs h = sym (found_any (λ p. holds p r) rs) ∙ is_there (is_some (find (λ p. holds p r) rs)) (first_false (met_losing r rs).lacks (met_losing r rs).meets h)
-  where
-    first_false : (x y : Bool) → (x || y) ≡ false → x ≡ false
-    first_false true y k = absurd (true≢false k)
-    first_false false y k = refl
 
 -- ---- an intent's record
-
-turned_lacks : (x y z w : Bool) → ((x || z) || (y || w)) ≡ false → x ≡ false
-turned_lacks true y z w h = absurd (true≢false h)
-turned_lacks false y z w h = refl
 
 there_by_kind : (k : IntentKind) (i : Intent) (recs : List RmapRec) → i.kind ≡ k → is_fault (met_mapping k i recs) ≡ false → takes k ≡ true → list_any (λ p. holds p (run_of i (word_taken i))) recs ≡ true
 there_by_kind RmapRemove i recs e h t =
     subst (λ (j : IntentKind). list_any (λ p. holds p (run_of i (if is_change j then i.word + unwritten else i.word))) recs ≡ true) (sym e) (losing_found (run_of i i.word) recs h)
 there_by_kind RmapChange i recs e h t =
-    let old : RmapRec = run_of i (word_taken i) in
-    let new : RmapRec = run_of i i.word in
-    sym (found_any (λ p. holds p (run_of i (word_taken i))) recs) ∙ is_there (is_some (find (λ p. holds p (run_of i (word_taken i))) recs)) (turned_lacks (met_losing old recs).lacks (met_losing old recs).meets (met_gaining new (take_mapping old recs)).lacks (met_gaining new (take_mapping old recs)).meets h)
+    sym (found_any (λ p. holds p (run_of i (word_taken i))) recs) ∙ is_there (is_some (find (λ p. holds p (run_of i (word_taken i))) recs)) (first_false (met_mapping RmapChange i recs).lacks (met_mapping RmapChange i recs).meets h)
 there_by_kind RmapAdd i recs e h t = absurd (false≢true t)
 there_by_kind RefMore i recs e h t = absurd (false≢true t)
 there_by_kind RefLess i recs e h t = absurd (false≢true t)
@@ -107,10 +101,6 @@ met_all a x left e m none = subst (λ ks. leaves_faults a ks e ≡ true) none m.
 
 held_there : (rs : List SpanRec) (run : SpanRec) → is_fault (met_taking rs run) ≡ false → is_some (holder_of rs run) ≡ true
 held_there rs run h = is_there (is_some (holder_of rs run)) (first_false (met_taking rs run).lacks (met_taking rs run).meets h)
-  where
-    first_false : (x y : Bool) → (x || y) ≡ false → x ≡ false
-    first_false true y k = absurd (true≢false k)
-    first_false false y k = refl
 
 pub mapped_found : MappedFound
 unfolding leaves_faults

@@ -18,5 +18,5 @@ returns c = record {
   inodes = record { taken = refl; given = refl; listed = refl; unlisted = refl };
   forks = record { before = refl; beside = refl; groups = refl; both = refl; most = refl; cut = refl };
   trees = record { empty = refl; leaf = refl; root = refl; mapped = refl; nodes = refl; pairs = refl };
-  faults = record { sound = refl; not_free = refl; left_over = refl; hidden = refl; behind = refl; given_behind = refl; taken_before = refl; counted_behind = refl; listed = refl; unlisted = refl; twice_free = refl; neighbour = refl; lost = refl; not_owned = refl; gained = refl; same_key = refl; risen = refl; beyond = refl; greatest = refl; too_great = refl; freed = refl; not_listed = refl; listed_full = refl };
+  faults = record { sound = refl; not_free = refl; left_over = refl; hidden = refl; behind = refl; given_behind = refl; taken_before = refl; counted_behind = refl; listed = refl; unlisted = refl; twice_free = refl; neighbour = refl; lost = refl; not_owned = refl; gained = refl; same_key = refl; turned = refl; not_turned = refl; nothing_to_turn = refl; risen = refl; beyond = refl; greatest = refl; too_great = refl; freed = refl; not_listed = refl; listed_full = refl };
 }
