@@ -19,6 +19,7 @@ use Rattle.fs_state.specs.Group.{is_among}
 use Rattle.fs_state.specs.State.{State, Group, Owned, blocks_in, is_readable}
 use Rattle.fs_state.specs.Derive.{is_free}
 use Rattle.fs_state.specs.Records.{all_kinds, tree_owner}
+use Rattle.fs_change.specs.Changes.{trimmed}
 use Rattle.fs_change.specs.Choice.{chosen, free_inode, chunk_run, inode_of}
 use Rattle.fs_change.specs.Edited.{group_of_inode, group_of_entry, is_asked, edited_in, met_by}
 use Rattle.fs_change.specs.Loose.{tree_blocks, owners_in, lost_to, met_by_moves}
@@ -143,6 +144,21 @@ IsWanted a (entries.Trimmed e) = (longest_list < length (a.group e.group).free_l
 IsWanted a (entries.Reserved g units.Free b true) = MayReserve a [] g units.Free b true
 IsWanted a e = ⊥
 
+-- runs that a trimming takes, one after the other, and the state after them
+abbrev pub MayTrimEach : State → ℕ → List Extent → Type 0
+MayTrimEach a g [] = Unit {0}
+MayTrimEach a g (r ∷ rs) = (r.group ≡ g) × MayTrim a r × MayTrimEach (trimmed r a) g rs
+
+abbrev pub trimmed_each : List Extent → State → State
+trimmed_each [] a = a
+trimmed_each (r ∷ rs) a = trimmed_each rs (trimmed r a)
+
+-- so it would after these runs, where it trims
+abbrev pub IsWantedBehind : State → List Extent → Entry → Type 0
+IsWantedBehind a [] e = IsWanted a e
+IsWantedBehind a (r ∷ rs) (entries.Trimmed e) = (longest_list < length (a.group e.group).free_list) × MayTrimEach a e.group (r ∷ rs) × MayTrim (trimmed_each (r ∷ rs) a) e
+IsWantedBehind a (r ∷ rs) e = ⊥
+
 -- a trimming whose batch would be too large is refused, and nothing is marked
 abbrev pub is_refused : Entry → Cause → Bool
 is_refused (entries.Trimmed e) (causes.Large n) = true
@@ -153,15 +169,16 @@ abbrev pub most_alone : State → Entry → ℕ
 most_alone a (entries.Trimmed e) = 3 * length (to_trim (a.group e.group).free_list)
 most_alone a e = most_put 0
 
--- its edit of this tree meets what the cause says
+-- its edit of this tree meets what the cause says; of a trimming after the runs that were trimmed before
 pub record IsStopped (a : State) (g : ℕ) (k : Kind) (cause : Cause) : Type 0 where
   pub entry : Entry
-  pub wanted : IsWanted a entry
+  pub before : List Extent
+  pub wanted : IsWantedBehind a before entry
   pub group : group_of_entry a entry ≡ g
   pub asked : is_asked entry k ≡ true
   pub marks : is_refused entry cause ≡ false
   pub edits : is_among k (edited_in a [] entry) ≡ true
-  pub explains : Explains a entry k (met_by a entry k) (most_alone a entry) cause
+  pub explains : Explains (trimmed_each before a) entry k (met_by (trimmed_each before a) entry k) (most_alone a entry) cause
 
 -- blocks of the inode btrees have one owner, and those of the list and of the other trees that are edited with them another
 abbrev pub may_turn : Owned → Bool

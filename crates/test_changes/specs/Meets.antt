@@ -1,15 +1,19 @@
 -- What edits of damaged trees meet, where only the order or the whole of an edit decides.
-use Rattle.std.specs.Prelude.{◌≡◌, ◌-◌, ◌^◌, ◌+◌, true, false, [], ◌∷◌, ◌++◌}
+use Rattle.std.specs.Prelude.{◌≡◌, ◌-◌, ◌^◌, ◌+◌, true, false, [], ◌∷◌, ◌++◌, List}
 use Rattle.fs_model.specs.declared.entry.Entry.TheVariants as entries
 use Rattle.fs_model.specs.declared.entry.Piece.{Piece}
-use Rattle.fs_model.specs.declared.fault.Cause.TheVariants.{Missing}
-use Rattle.sblock.specs.declared.kind.Kind.TheVariants.{Rmap, Refc}
+use Rattle.fs_model.specs.declared.fault.Cause.TheVariants.{Missing, Overlap}
+use Rattle.rmap_recs.specs.declared.records.RmapRec.{RmapRec}
+use Rattle.sblock.specs.declared.kind.Kind.TheVariants.{Rmap, Refc, Cnt}
 use Rattle.fs_state.specs.State.{State}
-use Rattle.fs_change.specs.Changes.{unmapped, converted, shared, rmap_done, ref_done, marked}
+use Rattle.fs_state.specs.Lists.{numbers}
+use Rattle.fs_change.specs.Changes.{unmapped, converted, shared, rmap_done, ref_done, marked, trimmed}
 use Rattle.fs_change.specs.Choice.{extent}
+use Rattle.fs_change.specs.Edited.{met_by}
+use Rattle.fs_change.specs.Met.{is_fault, nothing}
 use Rattle.fs_change.specs.Parts.{in_group, change_tree, records_in}
 use Rattle.fs_change.specs.Run.{Leads}
-use Rattle.test_states.specs.Images.{counters_with, trees_a, tree_of, file_with, fork_with, span, shared as counted, mapped as owned, inodes}
+use Rattle.test_states.specs.Images.{counters_with, trees_a, tree_of, file_with, fork_with, span, shared as counted, mapped as owned, inodes, image, group_with, cores_to, no_forks, fs, ag, inobt, refc}
 use Rattle.test_states.specs.Rows.{shared_forty, six_mappings}
 use Rattle.test_changes.specs.Files.{piece, done, first_of, rest_of, step_mapping, unwritten_mapping}
 use Rattle.test_changes.specs.Refused.{third_place}
@@ -66,3 +70,23 @@ abbrev pub TurnsWhole : Type 0
 TurnsWhole =
     Leads overlaid (entries.Converted (piece 2 42 3) ∷ done 42 3 ∷ []) turned_whole
     × (records_in (turned_whole.group 0) Rmap ≡ six_mappings ++ owned 24 8 inodes 0 ∷ owned 40 2 195 (2 ^ 61) ∷ owned 42 5 195 2 ∷ owned 45 5 195 (2 ^ 61 + 5) ∷ [])
+
+-- ---- a list of 65 blocks is trimmed by two runs, with a free block between them: what the second joins has the key of a
+-- stray record by count, and that of the first run alone meets none. So the mark stands at the second
+
+abbrev pub five_mappings : List RmapRec
+five_mappings = owned 0 1 fs 0 ∷ owned 1 2 ag 0 ∷ owned 3 2 inobt 0 ∷ owned 5 1 ag 0 ∷ owned 6 1 refc 0 ∷ []
+
+abbrev pub stray : State
+stray = image (group_with (numbers 32 19 ++ numbers 52 46) (counters_with 61 176 158) (record trees_a {
+  bno = tree_of (1 ∷ []) (span 7 17 ∷ span 51 1 ∷ span 98 158 ∷ []);
+  cnt = tree_of (2 ∷ []) (span 51 1 ∷ span 7 17 ∷ span 32 50 ∷ span 98 158 ∷ []);
+  rmap = tree_of (5 ∷ []) (five_mappings ++ owned 24 8 inodes 0 ∷ owned 32 19 ag 0 ∷ owned 52 46 ag 0 ∷ []);
+})) (cores_to 194) no_forks
+
+abbrev pub TrimsBehind : Type 0
+TrimsBehind =
+    Leads stray (entries.Marked 0 Cnt Overlap ∷ []) (marked 0 Cnt stray)
+    × (met_by stray (entries.Trimmed (extent 0 32 19)) Cnt ≡ nothing)
+    × (met_by stray (entries.Trimmed (extent 0 52 30)) Cnt ≡ nothing)
+    × (is_fault (met_by (trimmed (extent 0 32 19) stray) (entries.Trimmed (extent 0 52 30)) Cnt) ≡ true)

@@ -12,6 +12,6 @@ pub use rows::{
     no_block_left, no_file, not_to_be_freed, not_to_be_given, not_to_be_marked, not_to_be_shared,
     not_to_be_switched, not_to_be_taken, nothing_to_do, owned_space, owner_found,
     rebuilt_free_space, rebuilt_inodes, rebuilt_mappings, rises_too_far, say_too_much,
-    shared_piece, shrinking_file, tree_sizes, trims_front, trims_long, turns_front, turns_whole,
-    uncounted,
+    shared_piece, shrinking_file, tree_sizes, trims_behind, trims_front, trims_long, turns_front,
+    turns_whole, uncounted,
 };

@@ -3,7 +3,7 @@ ghost use Rattle.test_changes.specs.Crashes.{ClaimsKept, CutReserved, CutRun, Cu
 ghost use Rattle.test_changes.specs.Scans.{BehindCursor, HeldInode};
 ghost use Rattle.test_changes.specs.Files.{ConvertedPiece, CutUnmapping, GrowingFile, MappedHalfway, MarkedOnce, OwnerFound, SharedPieceRow, ShrinkingFile};
 ghost use Rattle.test_changes.specs.Lists.{ChunkMade, Forgotten, InodeBlocks, LeftAlone, ListMoves, NeedGrows};
-ghost use Rattle.test_changes.specs.Meets.{RisesTooFar, TurnsWhole};
+ghost use Rattle.test_changes.specs.Meets.{RisesTooFar, TrimsBehind, TurnsWhole};
 ghost use Rattle.test_changes.specs.Refused.{NotToBeFreed, NotToBeGiven, NotToBeMarked, NotToBeShared, NotToBeSwitched, NotToBeTaken, NothingToDo, OwnedSpace, SayTooMuch};
 ghost use Rattle.test_changes.specs.Repairs.{NoBlockLeft, RebuiltFreeSpace, RebuiltInodes, RebuiltMappings, TreeSizes};
 
@@ -265,4 +265,9 @@ pub fn rises_too_far()
 /// A piece is made written beside a stray record, which it joins: as one edit nothing is met.
 pub fn turns_whole()
     ensures { TurnsWhole }
+{}
+
+/// A run that is trimmed after another is marked for what both make together.
+pub fn trims_behind()
+    ensures { TrimsBehind }
 {}
