@@ -10,7 +10,7 @@ use Rattle.dinode_core.specs.declared.mapping.ForkFault.{ForkFault}
 use Rattle.std.specs.Prelude.{Result, Ok, Err, if◌then◌else◌}
 use Rattle.fs_state.specs.Frame.{SameFork}
 use Rattle.fs_state.specs.Kinds.{RecOf}
-use Rattle.fs_state.specs.State.{State, Group, Index, Owned, Reading, Readable, Unreadable, ForkList, recs_of, blocks_of}
+use Rattle.fs_state.specs.State.{State, Group, Index, Owned, Reading, Readable, Unreadable, ForkList, recs_of, blocks_of, pairs_of}
 use Rattle.fs_change.specs.Changes.{follow}
 use Rattle.fs_change.specs.Laws.{AreWords, DecidedStands}
 use Rattle.fs_change.specs.Loose.{Loosely, Inside, InodesStay, MovesBlocks, begins_with, count_used, list_room, may_join, laid_out, owners_follow, owners_in, lost_to, met_by_moves, tree_blocks, block_counter}
@@ -74,7 +74,7 @@ edit_nothing false p = refl
 
 -- nobody's owner changes
 no_moves : (p : Group) → is_fault (met_by_moves p p) ≡ false
-no_moves p = ap (λ os. is_fault (met_moving os os (records_in p Rmap))) (none_lost (owners_in p) (owners_in p) (λ o e. e))
+no_moves p = ap (λ os. is_fault (met_moving (pairs_of os) (pairs_of os) (records_in p Rmap))) (none_lost (owners_in p) (owners_in p) (λ o e. e))
 
 and_false : (x y : Bool) → y ≡ false → (x && y) ≡ false
 and_false true y h = h
@@ -82,7 +82,7 @@ and_false false y h = refl
 
 owners_stay : (left : List Kind) (p : Group) → owners_follow left p p ≡ p
 owners_stay left p =
-    ap (λ os. edit left Rmap (λ recs. give_each os (take_each os recs)) p) (none_lost (owners_in p) (owners_in p) (λ o e. e))
+    ap (λ os. edit left Rmap (λ recs. give_each (pairs_of os) (take_each (pairs_of os) recs)) p) (none_lost (owners_in p) (owners_in p) (λ o e. e))
     ∙ edit_nothing (is_edited left p Rmap) p
 
 -- ---- counters

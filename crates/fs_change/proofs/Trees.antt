@@ -28,7 +28,7 @@ use Rattle.fs_state.specs.Records.{kinds_of}
 use Rattle.fs_state.specs.Lists.{numbers}
 use Rattle.fs_change.specs.Changes.{mapped, unmapped, converted, shared, rmap_done, ref_done, freed, taken, given, refilled, trimmed, marked, judged, judge, reserved, released, reaped, changes_count, change_count, owner_of_run, joins_no_space, take_free, give_free, give_owner, take_owner, extent_of, data_of, do_mapping, new_count, inodes_follow, turn, list_chunk, chunk_extent, make_chunk, is_in_extent, own_new, leave, block_extent, leave_limbo, reap_in, by_count, known_spans, plain_run, free_chunk}
 use Rattle.fs_change.specs.Laws.{KeepsOtherTrees, changed_kinds, with_owners}
-use Rattle.fs_change.specs.Loose.{Inside, MovesBlocks, count_used, owners_follow, owners_in, lost_to}
+use Rattle.fs_change.specs.Loose.{Inside, MovesBlocks, count_used, lost_in, owners_follow}
 use Rattle.fs_change.specs.Met.{give_each, take_each}
 use Rattle.fs_change.specs.Parts.{in_group, tree_only, change_tree, in_blocks, in_trees, with_recs, set_trust, set_trusts, edit, is_edited, sick_in, records_in}
 use Rattle.fs_change.specs.Records.{is_unwritten_at, set_count, span, by_start, take_span, give_span, give_mapping, take_mapping, put_chunk, turn_inode, follow_inode}
@@ -108,7 +108,7 @@ pub taken_owner : (left : List Kind) (owner : ℕ) (e : Extent) (j : Kind) (p : 
 taken_owner left owner e j p h = edited left Rmap j (take_mapping (plain_run owner e)) p h
 
 followed : (left : List Kind) (p q : Group) (j : Kind) → Not j Rmap → (owners_follow left p q).tree j ≡ q.tree j
-followed left p q j h = edited left Rmap j (λ recs. give_each (lost_to (owners_in q) (owners_in p)) (take_each (lost_to (owners_in p) (owners_in q)) recs)) q h
+followed left p q j h = edited left Rmap j (λ recs. give_each (lost_in q p) (take_each (lost_in p q) recs)) q h
 
 -- the group itself
 pub in_itself : (g : ℕ) (f : Group → Group) (a : State) → (in_group g f a).group g ≡ f (a.group g)

@@ -13,7 +13,7 @@ use Rattle.sblock.specs.declared.kind.Kind.TheVariants.{Bno, Cnt, Rmap, Refc, In
 use Rattle.tree_defs.specs.Lists.{is_in, times}
 use Rattle.fs_state.specs.Apart.{is_chunk, is_inode}
 use Rattle.fs_state.specs.Frame.{SameFork}
-use Rattle.fs_state.specs.State.{State, Group, Owned, blocks_of, blocks_in}
+use Rattle.fs_state.specs.State.{State, Group, Owned, blocks_of, blocks_in, pairs_of}
 use Rattle.fs_state.specs.Records.{all_kinds, tree_owner}
 use Rattle.fs_change.specs.Met.{Met, is_fault, take_each, give_each, met_moving}
 use Rattle.fs_change.specs.Parts.{edit, in_trees, is_edited, records_in}
@@ -32,12 +32,17 @@ owners_in p = map (owned_by (number_of Ag)) p.free_list ++ flat_map (λ k. map (
 abbrev pub lost_to : List Owned → List Owned → List Owned
 lost_to os ps = filter (λ o. not (has_owned ps o)) os
 
--- where a moved block's owner differs, reverse mappings follow
+-- the pairs that the first group has and the second hasn't, by block: what comes and goes in between is none of them
+abbrev pub lost_in : Group → Group → List Owned
+lost_in p q = pairs_of (lost_to (owners_in p) (owners_in q))
+
+-- where a moved block's owner differs, reverse mappings follow: from the highest block down all lose the old owner, and
+-- then from the highest down all get the new one
 abbrev pub owners_follow : List Kind → Group → Group → Group
-owners_follow left p q = edit left Rmap (λ recs. give_each (lost_to (owners_in q) (owners_in p)) (take_each (lost_to (owners_in p) (owners_in q)) recs)) q
+owners_follow left p q = edit left Rmap (λ recs. give_each (lost_in q p) (take_each (lost_in p q) recs)) q
 
 abbrev pub met_by_moves : Group → Group → Met
-met_by_moves p q = met_moving (lost_to (owners_in p) (owners_in q)) (lost_to (owners_in q) (owners_in p)) (records_in p Rmap)
+met_by_moves p q = met_moving (lost_in p q) (lost_in q p) (records_in p Rmap)
 
 -- and so do the counters of blocks, those of inode btrees where heads keep them
 abbrev pub block_counter : Bool → Group → Group → Counter → ℕ

@@ -16,7 +16,7 @@ use Rattle.sblock.specs.declared.kind.Kind.TheVariants.{Bno, Cnt, Rmap, Refc, In
 use Rattle.tree_defs.specs.Lists.{AllDiffer, is_in}
 use Rattle.fs_state.specs.Apart.{unit_verifies}
 use Rattle.fs_state.specs.Group.{is_among}
-use Rattle.fs_state.specs.State.{State, Group, Owned, blocks_in, is_readable}
+use Rattle.fs_state.specs.State.{State, Group, Owned, blocks_in, is_readable, pairs_of}
 use Rattle.fs_state.specs.Derive.{is_free}
 use Rattle.fs_state.specs.Records.{all_kinds, tree_owner}
 use Rattle.fs_change.specs.Changes.{trimmed}
@@ -219,7 +219,7 @@ fits_trees ks p old =
     let inos : List Kind = owned_kinds (number_of Inobt) ks in
     nat_le (count_owned (number_of Ag) old) (most_taken p inos (most_put 0)) && nat_le (count_owned (number_of Inobt) old) (most_given p inos)
 
--- or reverse mappings couldn't follow blocks that it would have moved, into an inode btree or out of one
+-- or reverse mappings couldn't follow blocks that it would have moved, into an inode btree or out of one, in their order
 pub record IsStuck (a : State) (g : ℕ) (cause : Cause) : Type 0 where
   pub entry : Entry
   pub wanted : IsWanted a entry
@@ -231,7 +231,7 @@ pub record IsStuck (a : State) (g : ℕ) (cause : Cause) : Type 0 where
   pub turned : do_turn (kinds_before entry (edited_in a [] entry)) (edited_in a [] entry) (a.group g) old new ≡ true
   pub fits : fits_trees (edited_in a [] entry) (a.group g) old ≡ true
   pub once : AllDiffer (blocks_in old) × AllDiffer (blocks_in new)
-  pub explains : Explains a entry Rmap (met_moving old new (records_in (a.group g) Rmap)) (most_put (length old)) cause
+  pub explains : Explains a entry Rmap (met_moving (pairs_of old) (pairs_of new) (records_in (a.group g) Rmap)) (most_put (length old)) cause
 
 -- a spare block isn't reserved where its edits of free space and of reverse mappings both meet a fault
 pub record IsUnnoted (a : State) (g : ℕ) (cause : Cause) : Type 0 where

@@ -114,7 +114,8 @@ met_mapping RefMore i rs = nothing
 met_mapping RefLess i rs = nothing
 met_mapping Free i rs = nothing
 
--- blocks that change their owner, one after the other: all lose the old one first
+-- blocks that change their owner, one after the other, the last of the list first: all lose the old one before any gets
+-- the new one
 abbrev pub one_block : Owned → RmapRec
 one_block o = record { start = o.block; count = 1; owner = o.owner; word = 0 }
 

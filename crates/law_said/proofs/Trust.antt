@@ -6,7 +6,7 @@ use Rattle.fs_change.proofs.Beside.{changes_one_group}
 use Rattle.fs_change.proofs.Trees.{in_itself, keeps_other_trees}
 use Rattle.fs_change.specs.Changes.{block_extent, change_count, changes_count, chunk_extent, converted, do_mapping, extent_of, free_chunk, freed, give_free, give_owner, given, inodes_follow, is_in_extent, joins_no_space, judge, judged, leave, leave_limbo, list_chunk, make_chunk, mapped, new_count, own_new, owner_of_run, plain_run, reap_in, reaped, ref_done, refilled, released, marked, reserved, rmap_done, shared, take_free, take_owner, taken, trimmed, turn, unmapped, data_of}
 use Rattle.fs_change.specs.Edited.{edited_in, group_of_entry, group_of_inode}
-use Rattle.fs_change.specs.Loose.{Inside, MovesBlocks, count_used, lost_to, owners_in}
+use Rattle.fs_change.specs.Loose.{Inside, MovesBlocks, count_used, lost_in}
 use Rattle.fs_change.specs.Met.{give_each, take_each}
 use Rattle.fs_change.specs.Parts.{edit, in_group, in_trees, records_in, set_blocks, set_trust, set_trusts}
 use Rattle.fs_change.specs.Records.{follow_inode, give_mapping, give_span, is_unwritten_at, put_chunk, set_count, take_mapping, take_span, turn_inode}
@@ -212,7 +212,7 @@ moved_trust : (kept : Bool) (left ks : List Kind) (p q : Group) (k : Kind) → M
 moved_trust kept left ks p q k m =
     let r : Group = record (in_trees m.blocks ks p) { free_list = drop (count_used p.free_list q.free_list) p.free_list ++ m.freed; limbo = m.limbo } in
     ap (λ (s : Group). (s.tree k).trust) m.is
-    ∙ edit_trust left Rmap k (λ recs. give_each (lost_to (owners_in r) (owners_in p)) (take_each (lost_to (owners_in p) (owners_in r)) recs)) r
+    ∙ edit_trust left Rmap k (λ recs. give_each (lost_in r p) (take_each (lost_in p r) recs)) r
     ∙ placed m.blocks ks p k
 
 inside_trust : (kept : Bool) (left ks : List Kind) (p q : Group) (k : Kind) → Inside kept left ks p q → SameTrust p q k

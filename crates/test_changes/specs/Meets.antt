@@ -1,19 +1,24 @@
 -- What edits of damaged trees meet, where only the order or the whole of an edit decides.
-use Rattle.std.specs.Prelude.{◌≡◌, ◌-◌, ◌^◌, ◌+◌, true, false, [], ◌∷◌, ◌++◌, List}
+use Rattle.std.specs.Prelude.{◌≡◌, ◌-◌, ◌^◌, ◌+◌, true, false, [], ◌∷◌, ◌++◌, List, ℕ, map, None}
 use Rattle.fs_model.specs.declared.entry.Entry.TheVariants as entries
 use Rattle.fs_model.specs.declared.entry.Piece.{Piece}
+use Rattle.fs_model.specs.declared.fault.Counter.{Counter}
+use Rattle.fs_model.specs.declared.fault.Counter.TheVariants.{Fblocks}
 use Rattle.fs_model.specs.declared.fault.Cause.TheVariants.{Missing, Overlap}
 use Rattle.rmap_recs.specs.declared.records.RmapRec.{RmapRec}
-use Rattle.sblock.specs.declared.kind.Kind.TheVariants.{Rmap, Refc, Cnt}
-use Rattle.fs_state.specs.State.{State}
+use Rattle.sblock.specs.declared.kind.Kind.{Kind}
+use Rattle.sblock.specs.declared.kind.Kind.TheVariants.{Rmap, Refc, Cnt, Ino, Fino}
+use Rattle.fs_state.specs.State.{State, Owned}
 use Rattle.fs_state.specs.Lists.{numbers}
-use Rattle.fs_change.specs.Changes.{unmapped, converted, shared, rmap_done, ref_done, marked, trimmed}
+use Rattle.fs_change.specs.Changes.{unmapped, converted, shared, rmap_done, ref_done, marked, trimmed, taken}
 use Rattle.fs_change.specs.Choice.{extent}
 use Rattle.fs_change.specs.Edited.{met_by}
-use Rattle.fs_change.specs.Met.{is_fault, nothing}
+use Rattle.fs_change.specs.Loose.{laid_out, tree_blocks}
+use Rattle.fs_change.specs.Met.{is_fault, nothing, met_moving}
 use Rattle.fs_change.specs.Parts.{in_group, change_tree, records_in}
 use Rattle.fs_change.specs.Run.{Leads}
-use Rattle.test_states.specs.Images.{counters_with, trees_a, tree_of, file_with, fork_with, span, shared as counted, mapped as owned, inodes, image, group_with, cores_to, no_forks, fs, ag, inobt, refc}
+use Rattle.fs_change.specs.Switch.{owned_by}
+use Rattle.test_states.specs.Images.{counters_with, trees_a, tree_of, file_with, fork_with, span, shared as counted, mapped as owned, inodes, image, group_with, cores_to, no_forks, fs, ag, inobt, refc, chunk, mask}
 use Rattle.test_states.specs.Rows.{shared_forty, six_mappings}
 use Rattle.test_changes.specs.Files.{piece, done, first_of, rest_of, step_mapping, unwritten_mapping}
 use Rattle.test_changes.specs.Refused.{third_place}
@@ -90,3 +95,39 @@ TrimsBehind =
     × (met_by stray (entries.Trimmed (extent 0 32 19)) Cnt ≡ nothing)
     × (met_by stray (entries.Trimmed (extent 0 52 30)) Cnt ≡ nothing)
     × (is_fault (met_by (trimmed (extent 0 32 19) stray) (entries.Trimmed (extent 0 52 30)) Cnt) ≡ true)
+
+-- ---- the free inode btree gives its two leaves, blocks 40 and 41, to the list, and reverse mappings have block 41 twice. The
+-- higher block goes first, so nothing is met; the lower one first would leave a second record of block 41
+
+abbrev pub three_counted : Counter → ℕ
+three_counted Fblocks = 3
+three_counted name = counters_with 61 227 214 name
+
+abbrev pub spread : State
+spread = image (group_with (numbers 7 12) three_counted (record trees_a {
+  bno = tree_of (1 ∷ []) (span 19 5 ∷ span 32 8 ∷ span 42 214 ∷ []);
+  cnt = tree_of (2 ∷ []) (span 19 5 ∷ span 32 8 ∷ span 42 214 ∷ []);
+  fino = tree_of (4 ∷ 41 ∷ 40 ∷ []) (chunk 192 61 mask ∷ []);
+  rmap = tree_of (5 ∷ []) (six_mappings ++ owned 24 8 inodes 0 ∷ owned 40 2 inobt 0 ∷ owned 41 1 inobt 0 ∷ []);
+})) (cores_to 194) no_forks
+
+abbrev pub spread_taken : State
+spread_taken = taken 0 195 195 7 None spread
+
+abbrev pub in_one : Kind → List ℕ
+in_one Fino = 4 ∷ []
+in_one k = tree_blocks (spread_taken.group 0) k
+
+abbrev pub gathered : State
+gathered = in_group 0 (laid_out true [] (Rmap ∷ Ino ∷ Fino ∷ []) in_one (numbers 7 12 ++ 41 ∷ 40 ∷ []) []) spread_taken
+
+abbrev pub pairs_from : ℕ → List ℕ → List Owned
+pairs_from owner blocks = map (owned_by owner) blocks
+
+abbrev pub MovesByBlock : Type 0
+MovesByBlock =
+    Leads spread (entries.Taken 1 195 7 None ∷ []) gathered
+    × (records_in (gathered.group 0) Rmap ≡ six_mappings ++ owned 24 8 inodes 0 ∷ owned 40 2 ag 0 ∷ owned 41 1 inobt 0 ∷ [])
+    × ((gathered.group 0).counters Fblocks ≡ 1)
+    × (is_fault (met_moving (pairs_from inobt (40 ∷ 41 ∷ [])) (pairs_from ag (40 ∷ 41 ∷ [])) (records_in (spread.group 0) Rmap)) ≡ false)
+    × (is_fault (met_moving (pairs_from inobt (41 ∷ 40 ∷ [])) (pairs_from ag (41 ∷ 40 ∷ [])) (records_in (spread.group 0) Rmap)) ≡ true)

@@ -3,7 +3,7 @@ ghost use Rattle.test_changes.specs.Crashes.{ClaimsKept, CutReserved, CutRun, Cu
 ghost use Rattle.test_changes.specs.Scans.{BehindCursor, HeldInode};
 ghost use Rattle.test_changes.specs.Files.{ConvertedPiece, CutUnmapping, GrowingFile, MappedHalfway, MarkedOnce, OwnerFound, SharedPieceRow, ShrinkingFile};
 ghost use Rattle.test_changes.specs.Lists.{ChunkMade, Forgotten, InodeBlocks, LeftAlone, ListMoves, NeedGrows};
-ghost use Rattle.test_changes.specs.Meets.{RisesTooFar, TrimsBehind, TurnsWhole};
+ghost use Rattle.test_changes.specs.Meets.{MovesByBlock, RisesTooFar, TrimsBehind, TurnsWhole};
 ghost use Rattle.test_changes.specs.Refused.{NotToBeFreed, NotToBeGiven, NotToBeMarked, NotToBeShared, NotToBeSwitched, NotToBeTaken, NothingToDo, OwnedSpace, SayTooMuch};
 ghost use Rattle.test_changes.specs.Repairs.{NoBlockLeft, RebuiltFreeSpace, RebuiltInodes, RebuiltMappings, TreeSizes};
 
@@ -270,4 +270,9 @@ pub fn turns_whole()
 /// A run that is trimmed after another is marked for what both make together.
 pub fn trims_behind()
     ensures { TrimsBehind }
+{}
+
+/// Blocks that a btree gives to the list change their owner from the highest down.
+pub fn moves_by_block()
+    ensures { MovesByBlock }
 {}

@@ -10,7 +10,7 @@ use Rattle.law_accounts.proofs.Account.Mappings.{edited_recs}
 use Rattle.law_accounts.specs.Account.Steps.{IsWritten}
 use Rattle.law_accounts.specs.Account.Accounts.{at_span, covers_at}
 use Rattle.law_writers.proofs.Change.Members.{both_ways}
-use Rattle.fs_change.specs.Loose.{MovesBlocks, count_used, lost_to, met_by_moves, owners_follow, owners_in, tree_blocks}
+use Rattle.fs_change.specs.Loose.{MovesBlocks, count_used, lost_in, lost_to, met_by_moves, owners_follow, owners_in, tree_blocks}
 use Rattle.fs_change.specs.Met.{Met, give_each, is_fault, met_gaining_each, met_losing, met_losing_each, one_block, take_each}
 use Rattle.fs_change.specs.Parts.{change_tree, edit, in_blocks, in_trees, is_edited, is_sick, records_in, with_recs}
 use Rattle.fs_change.specs.Switch.{has_owned}
@@ -18,8 +18,10 @@ use Rattle.fs_state.specs.Records.{all_kinds, tree_owner}
 use Rattle.fs_model.specs.declared.unit.Trust.{Trust}
 use Rattle.fs_state.specs.Group.{is_among}
 use Rattle.fs_state.specs.Kinds.{RecOf}
-use Rattle.fs_state.specs.State.{Group, Owned, Index, Readable, Reading, Unreadable, blocks_in, is_readable, recs_of}
+use Rattle.fs_state.specs.State.{Group, Owned, Index, Readable, Reading, Unreadable, blocks_in, is_readable, pairs_of, recs_of}
+use Rattle.law_repairs.proofs.Move.Claiming.{owned_times}
 use Rattle.law_repairs.proofs.Move.Pairs.{Among, among_of, block_in, blocks_are, has_of, with_block}
+use Rattle.law_repairs.proofs.Repair.Totals.{limbo_weight, owned_by, pairs_weight}
 use Rattle.rmap_recs.specs.Owners.{number_of}
 use Rattle.rmap_recs.specs.declared.owner.Owner.TheVariants.{Ag}
 use Rattle.rmap_recs.specs.declared.records.RmapRec.{RmapRec}
@@ -88,6 +90,28 @@ lost_alike k os ps same most = elim (cases_order (times k (blocks_in os)) 0) [
       (λ h. has_of p.0 os (subst (λ (r : Owned). Among r os) (same_at k ps o.0 p.0 again (among_of o.0 ps h) p.1 o.2 p.2) o.1)))
       ∙ sym (one_kept (λ r. not (has_owned ps r)) k os o.0 once o.1 o.2)
 ]
+
+-- a set has a block as often as a list that has it once
+pub once_in_set : (k : ℕ) (os : List Owned) → times k (blocks_in os) ≤ 1 → times k (blocks_in (pairs_of os)) ≡ times k (blocks_in os)
+once_in_set k os most =
+    let listed = owned_times k os in
+    let set = owned_times k (pairs_of os) in
+    let less = (pairs_weight (limbo_weight (owned_by k)) os).0 in
+    elim (cases_order (times k (blocks_in os)) 0) [
+      | inl none ↦ omega (arith, less, listed, set, none)
+      | inr (inl below) ↦ absurd (omega (arith, below))
+      | inr (inr some) ↦
+          let more = (pairs_weight (limbo_weight (owned_by k)) os).1 (omega (arith, some, listed)) in
+          omega (arith, less, more, listed, set, some, most)
+    ]
+
+-- so it is lost as often as it is gained in the order of blocks too
+alike_in_order : (k : ℕ) (os ps : List Owned) → times k (blocks_in ps) ≡ times k (blocks_in os) → times k (blocks_in os) ≤ 1
+    → times k (blocks_in (pairs_of (lost_to ps os))) ≡ times k (blocks_in (pairs_of (lost_to os ps)))
+alike_in_order k os ps same most =
+    let new = fewer (λ r. not (has_owned os r)) k ps in
+    let old = fewer (λ r. not (has_owned ps r)) k os in
+    once_in_set k (lost_to ps os) (omega (arith, new, same, most)) ∙ lost_alike k os ps same most ∙ sym (once_in_set k (lost_to os ps) (omega (arith, old, most)))
 
 -- ---- mappings that follow
 
@@ -190,7 +214,7 @@ module _ (kept : Bool) (left ks : List Kind) (p q : Group) (m : MovesBlocks kept
   laid = record (in_trees m.blocks ks p) { free_list = drop (count_used p.free_list q.free_list) p.free_list ++ m.freed; limbo = m.limbo }
 
   abbrev follow_in : Group → List RmapRec → List RmapRec
-  follow_in r recs = give_each (lost_to (owners_in r) (owners_in p)) (take_each (lost_to (owners_in p) (owners_in r)) recs)
+  follow_in r recs = give_each (lost_in r p) (take_each (lost_in p r) recs)
 
   parts : SameParts laid (owners_follow left p laid)
   parts = edit_parts left Rmap (follow_in laid) laid
@@ -213,10 +237,10 @@ module _ (kept : Bool) (left ks : List Kind) (p q : Group) (m : MovesBlocks kept
   times_now k = ap (times k) (blocks_are q) ∙ m.none_lost k ∙ sym (ap (times k) (blocks_are p))
 
   abbrev pub gone : List Owned
-  gone = lost_to (owners_in p) (owners_in q)
+  gone = lost_in p q
 
   abbrev pub came : List Owned
-  came = lost_to (owners_in q) (owners_in p)
+  came = lost_in q p
 
   -- mappings stay, or what is gone leaves them, which they had, and what came joins them
   pub maps_now : (((is_edited left p Rmap ≡ true) × ((met_losing_each gone (records_in p Rmap)).lacks ≡ false)) × (records_in q Rmap ≡ give_each came (take_each gone (records_in p Rmap)))) ⊎ (records_in q Rmap ≡ records_in p Rmap)
@@ -227,7 +251,7 @@ module _ (kept : Bool) (left ks : List Kind) (p q : Group) (m : MovesBlocks kept
       elim (edit_cases left (follow_in laid) laid) [
         | inl made ↦
             let edited : is_edited left p Rmap ≡ true = ap (λ (t : Trust). if is_sick t then false else if is_among Rmap left then false else true) (sym trust) ∙ made.0 in
-            inl ((edited, lacking edited), now ∙ made.1 ∙ ap (follow_in laid) same ∙ (λ i. give_each (lost_to (sym owners_now i) (owners_in p)) (take_each (lost_to (owners_in p) (sym owners_now i)) (records_in p Rmap))))
+            inl ((edited, lacking edited), now ∙ made.1 ∙ ap (follow_in laid) same ∙ (λ i. give_each (pairs_of (lost_to (sym owners_now i) (owners_in p))) (take_each (pairs_of (lost_to (owners_in p) (sym owners_now i))) (records_in p Rmap))))
         | inr none ↦ inr (now ∙ none ∙ same)
       ]
     where
@@ -243,7 +267,7 @@ module _ (kept : Bool) (left ks : List Kind) (p q : Group) (m : MovesBlocks kept
   covers_now k most = elim maps_now [
     | inr none ↦ ap (λ rs. covers_at rs k) none
     | inl made ↦
-        let moved = lost_alike k (owners_in p) (owners_in q) (times_now k) most in
+        let moved = alike_in_order k (owners_in p) (owners_in q) (times_now k) most in
         let less = taken_each gone (records_in p Rmap) k made.0.1 in
         let more = given_each came (take_each gone (records_in p Rmap)) k in
         ap (λ rs. covers_at rs k) made.1 ∙ back _ _ _ _ _ more less moved
@@ -258,4 +282,4 @@ module _ (kept : Bool) (left ks : List Kind) (p q : Group) (m : MovesBlocks kept
       let stay : MapsStay p (in_trees m.blocks ks p) = placed m.blocks ks p in
       let written : IsWritten left laid = record { edited = ap (λ (t : Trust). if is_sick t then false else if is_among Rmap left then false else true) stay.trust ∙ w.edited; readable = stay.readable ∙ w.readable } in
       ap (λ (r : Group). records_in r Rmap) m.is ∙ edited_recs left (follow_in laid) laid written ∙ ap (follow_in laid) stay.recs
-      ∙ (λ i. give_each (lost_to (sym owners_now i) (owners_in p)) (take_each (lost_to (owners_in p) (sym owners_now i)) (records_in p Rmap)))
+      ∙ (λ i. give_each (pairs_of (lost_to (sym owners_now i) (owners_in p))) (take_each (pairs_of (lost_to (owners_in p) (sym owners_now i))) (records_in p Rmap)))

@@ -1,5 +1,5 @@
 -- Mappings that tell settled owners follow blocks that move from one owner to another.
-use Rattle.std.proofs.Common.{◌≡◌, ℕ, ◌+◌, ◌^◌, ◌<◌, ◌≤◌, ◌==◌, ◌&&◌, ◌||◌, Bool, true, false, not, cond, nat_le, nat_lt, List, [], ◌∷◌, ◌++◌, filter, flat_map, map, refl, sym, ap, ap₂, subst, ◌∙◌, arith, eqb-true, eq-eqb}
+use Rattle.std.proofs.Common.{◌≡◌, ℕ, zero, suc, ◌+◌, ◌^◌, ◌<◌, ◌≤◌, ◌==◌, ◌&&◌, ◌||◌, Bool, true, false, not, cond, nat_le, nat_lt, List, [], ◌∷◌, ◌++◌, filter, flat_map, map, refl, sym, ap, ap₂, subst, ◌∙◌, arith, eqb-true, eq-eqb}
 use Rattle.std.specs.Prelude.{if◌then◌else◌}
 use Rattle.std.proofs.lemmas.Bool.{false≢true, lt-ltb, true≢false}
 use Rattle.std.proofs.lemmas.Bool.Decides.{nat_tests}
@@ -20,16 +20,17 @@ use Rattle.fs_state.specs.Derive.{mappings}
 use Rattle.fs_state.specs.Lists.{numbers}
 use Rattle.fs_state.specs.Own.{set_of, tuple_of}
 use Rattle.fs_model.specs.declared.claim.Claim.TheVariants.{Limbo}
-use Rattle.fs_state.specs.State.{Group, Owned, State, blocks_in}
+use Rattle.fs_state.specs.State.{Group, Owned, State, blocks_in, pairs_of}
 use Rattle.geom.specs.Apart.{Splits}
 use Rattle.law_repairs.proofs.Move.Claiming.{metadata_is, owned_plain, owned_times, owner_plain, total_is}
 use Rattle.law_repairs.proofs.Move.Kept.{loose_alike}
 use Rattle.law_repairs.proofs.Move.Pairs.{blocks_are}
+use Rattle.law_repairs.proofs.Order.Tidy.{pairs_less}
 use Rattle.law_accounts.proofs.Owner.Finished.{run_given, run_taken}
 use Rattle.law_accounts.proofs.Owner.Members.{metadata_same, runs_by, settled_is}
 use Rattle.law_accounts.specs.Owner.Told.{AreTold}
 use Rattle.law_repairs.proofs.Repair.Same.{chunks_same, forks_same}
-use Rattle.law_repairs.proofs.Repair.Totals.{chunk_part, front_part, has_weight, is_owner, limbo_weight, owned_by, weigh}
+use Rattle.law_repairs.proofs.Repair.Totals.{chunk_part, front_part, has_weight, is_owner, limbo_weight, owned_by, pairs_weight, weigh}
 use Rattle.law_repairs.specs.Repair.Alike.{AlikeInodes}
 use Rattle.rmap_recs.specs.Rmap.{has_end}
 use Rattle.rmap_recs.specs.Runs.{AreRuns, has, is_same, tuple_at}
@@ -139,9 +140,19 @@ pub owned_has : (ps : List Owned) (o : Owned) → has (map tuple_for ps) (tuple_
 owned_has [] o = refl
 owned_has (p ∷ ps) o = ap₂ (λ (y z : Bool). y || z) (pair_same o p) (owned_has ps o)
 
-lost_has : (ps qs : List Owned) (t : Tuple) → has (map tuple_for (lost_to ps qs)) t ≡ (has (map tuple_for ps) t && not (has (map tuple_for qs) t))
-lost_has [] qs t = refl
-lost_has (o ∷ ps) qs t = by (is_same t (tuple_for o)) refl (not (has_owned qs o)) refl (lost_has ps qs t)
+-- a set has what its list has
+in_set : (os : List Owned) (t : Tuple) → has (map tuple_for (pairs_of os)) t ≡ has (map tuple_for os) t
+in_set os t =
+    let weight : Owned → ℕ = limbo_weight (is_owner t) in
+    has_pairs (pairs_of os) t ∙ any_left (weigh weight (pairs_of os)) (weigh weight os) (pairs_weight weight os) ∙ sym (has_pairs os t)
+  where
+    any_left : (m n : ℕ) → (m ≤ n) × (1 ≤ n → 1 ≤ m) → nat_lt 0 m ≡ nat_lt 0 n
+    any_left m zero h = let less = h.0 in let none : m ≡ 0 = omega (arith, less) in ap (nat_lt 0) none
+    any_left m (suc n) h = let some = h.1 (omega arith) in lt-ltb 0 m (omega (arith, some)) ∙ sym (lt-ltb 0 (suc n) (omega arith))
+
+listed_has : (ps qs : List Owned) (t : Tuple) → has (map tuple_for (lost_to ps qs)) t ≡ (has (map tuple_for ps) t && not (has (map tuple_for qs) t))
+listed_has [] qs t = refl
+listed_has (o ∷ ps) qs t = by (is_same t (tuple_for o)) refl (not (has_owned qs o)) refl (listed_has ps qs t)
   where
     now : is_same t (tuple_for o) ≡ true → has (map tuple_for qs) t ≡ has_owned qs o
     now e = ap (has (map tuple_for qs)) (same_is t (tuple_for o) e) ∙ owned_has qs o
@@ -156,6 +167,9 @@ lost_has (o ∷ ps) qs t = by (is_same t (tuple_for o)) refl (not (has_owned qs 
     by true e false f rest = rest ∙ out (has (map tuple_for ps) t) (not (has (map tuple_for qs) t)) (ap not (now e) ∙ f)
     by false e true f rest = ap (λ (z : Bool). z || has (map tuple_for (lost_to ps qs)) t) e ∙ rest
     by false e false f rest = rest
+
+lost_has : (ps qs : List Owned) (t : Tuple) → has (map tuple_for (pairs_of (lost_to ps qs))) t ≡ (has (map tuple_for ps) t && not (has (map tuple_for qs) t))
+lost_has ps qs t = in_set (lost_to ps qs) t ∙ listed_has ps qs t
 
 -- ---- one pair after the other
 
@@ -311,10 +325,18 @@ module _ (x b : State) (g : ℕ) (kept : Bool) (left ks : List Kind) (splits : S
   once_then k = let s = stands_once x g k (may.sound k) in let same = times_now kept left ks p q m k in omega (arith, s, same)
 
   lost_once : (k : ℕ) → times k (blocks_in lost) ≤ 1
-  lost_once k = let s = stands_once x g k (may.sound k) in let l = fewer (λ o. not (has_owned (owners_in q) o)) k (owners_in p) in omega (arith, s, l)
+  lost_once k =
+      let s = stands_once x g k (may.sound k) in
+      let l = fewer (λ o. not (has_owned (owners_in q) o)) k (owners_in p) in
+      let set = pairs_less k (lost_to (owners_in p) (owners_in q)) in
+      omega (arith, s, l, set)
 
   new_once : (k : ℕ) → times k (blocks_in new) ≤ 1
-  new_once k = let s = once_then k in let l = fewer (λ o. not (has_owned (owners_in p) o)) k (owners_in q) in omega (arith, s, l)
+  new_once k =
+      let s = once_then k in
+      let l = fewer (λ o. not (has_owned (owners_in p) o)) k (owners_in q) in
+      let set = pairs_less k (lost_to (owners_in q) (owners_in p)) in
+      omega (arith, s, l, set)
 
   its_block : (t : Tuple) → 1 ≤ times t.block (blocks_in (owners_in p)) → t.block < 2 ^ 32
   its_block t some = let e = pool_times t.block in may.small t.block (omega (arith, some, e))

@@ -6,7 +6,7 @@ use Rattle.fs_change.proofs.Beside.{changes_one_group}
 use Rattle.fs_change.proofs.Trees.{in_itself}
 use Rattle.fs_change.specs.Changes.{give_free, joins_no_space, judge, judged, leave_limbo, marked, owner_of_run, plain_run, reap_in, reaped, released, take_owner}
 use Rattle.fs_change.specs.Edited.{edited_in, group_of_entry}
-use Rattle.fs_change.specs.Loose.{Inside, MovesBlocks, count_used, lost_to, owners_in}
+use Rattle.fs_change.specs.Loose.{Inside, MovesBlocks, count_used, lost_in}
 use Rattle.fs_change.specs.Met.{give_each, take_each}
 use Rattle.fs_change.specs.Parts.{in_trees, set_blocks, set_trust, set_trusts}
 use Rattle.fs_change.specs.Records.{give_span, take_mapping}
@@ -122,7 +122,7 @@ moved_trust : (kept : Bool) (left ks : List Kind) (p q : Group) → MovesBlocks 
 moved_trust kept left ks p q m =
     let r : Group = record (in_trees m.blocks ks p) { free_list = drop (count_used p.free_list q.free_list) p.free_list ++ m.freed; limbo = m.limbo } in
     ap (λ (s : Group). (s.tree Rmap).trust) m.is
-    ∙ edit_trust left Rmap Rmap (λ recs. give_each (lost_to (owners_in r) (owners_in p)) (take_each (lost_to (owners_in p) (owners_in r)) recs)) r
+    ∙ edit_trust left Rmap Rmap (λ recs. give_each (lost_in r p) (take_each (lost_in p r) recs)) r
     ∙ placed m.blocks ks p
 
 inside_trust : (kept : Bool) (left ks : List Kind) (p q : Group) → Inside kept left ks p q → (q.tree Rmap).trust ≡ (p.tree Rmap).trust

@@ -3,7 +3,7 @@ use Rattle.std.proofs.Common.{◌≡◌, ◌⊎◌, ℕ, ◌==◌, ◌&&◌, ◌
 use Rattle.std.specs.List.{list_all, list_any}
 use Rattle.std.proofs.lemmas.Bool.{and_parts, true≢false}
 use Rattle.law_accounts.proofs.Account.Framed.{SameParts}
-use Rattle.fs_change.specs.Loose.{Inside, MovesBlocks, count_used, lost_to, may_join, owners_follow, owners_in, pool_of, tree_blocks}
+use Rattle.fs_change.specs.Loose.{Inside, MovesBlocks, count_used, lost_in, may_join, owners_follow, pool_of, tree_blocks}
 use Rattle.fs_change.specs.Met.{give_each, take_each}
 use Rattle.fs_change.specs.Parts.{in_blocks, in_trees}
 use Rattle.fs_change.specs.Switch.{has_owned}
@@ -100,7 +100,7 @@ module _ (kept : Bool) (left ks : List Kind) (p q : Group) (m : MovesBlocks kept
   laid = record (in_trees m.blocks ks p) { free_list = drop (count_used p.free_list q.free_list) p.free_list ++ m.freed; limbo = m.limbo }
 
   followed : Stays laid (owners_follow left p laid)
-  followed = edit_stays left Rmap (λ recs. give_each (lost_to (owners_in laid) (owners_in p)) (take_each (lost_to (owners_in p) (owners_in laid)) recs)) laid
+  followed = edit_stays left Rmap (λ recs. give_each (lost_in laid p) (take_each (lost_in p laid) recs)) laid
 
   limbo_is : q.limbo ≡ m.limbo
   limbo_is = ap (λ (r : Group). r.limbo) m.is ∙ followed.parts.limbo

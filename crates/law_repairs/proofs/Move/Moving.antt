@@ -5,7 +5,7 @@ use Rattle.std.specs.List.{list_all, list_any}
 use Rattle.std.proofs.lemmas.Bool.{and_parts, true≢false}
 use Rattle.std.proofs.lemmas.List.{length-append}
 use Rattle.fs_change.specs.Changes.{follow}
-use Rattle.fs_change.specs.Loose.{Inside, MovesBlocks, block_counter, count_used, laid_out, lost_to, may_join, owners_follow, owners_in, pool_of, tree_blocks}
+use Rattle.fs_change.specs.Loose.{Inside, MovesBlocks, block_counter, count_used, laid_out, lost_in, may_join, owners_follow, owners_in, pool_of, tree_blocks}
 use Rattle.fs_change.specs.Met.{give_each, take_each}
 use Rattle.fs_change.specs.Parts.{change_tree, edit, in_blocks, in_trees, is_edited, set_blocks, tree_only, with_recs}
 use Rattle.fs_change.specs.Switch.{has_owned}
@@ -15,7 +15,7 @@ use Rattle.fs_model.specs.declared.fault.Counter.TheVariants.{Count, Freecount, 
 use Rattle.fs_model.specs.declared.unit.Trust.{Trust}
 use Rattle.fs_state.specs.Group.{is_among}
 use Rattle.fs_state.specs.Kinds.{RecOf}
-use Rattle.fs_state.specs.State.{Group, Index, Owned, Readable, Reading, Unreadable, blocks_in, blocks_of, is_readable, recs_of}
+use Rattle.fs_state.specs.State.{Group, Index, Owned, Readable, Reading, Unreadable, blocks_in, blocks_of, is_readable, recs_of, pairs_of}
 use Rattle.rmap_recs.specs.Owners.{number_of}
 use Rattle.rmap_recs.specs.declared.owner.Owner.TheVariants.{Ag}
 use Rattle.sblock.specs.declared.kind.Kind.{Kind}
@@ -157,7 +157,7 @@ module _ (kept : Bool) (left ks : List Kind) (p q : Group) (m : MovesBlocks kept
   followed = owners_follow left p laid
 
   parts : SameParts laid followed
-  parts = edit_parts left Rmap (λ recs. give_each (lost_to (owners_in laid) (owners_in p)) (take_each (lost_to (owners_in p) (owners_in laid)) recs)) laid
+  parts = edit_parts left Rmap (λ recs. give_each (lost_in laid p) (take_each (lost_in p laid) recs)) laid
 
   list_is : q.free_list ≡ laid.free_list
   list_is = ap (λ (r : Group). r.free_list) m.is ∙ parts.list
@@ -251,7 +251,7 @@ module _ (kept : Bool) (left ks : List Kind) (p q : Group) (m : MovesBlocks kept
 
   -- so reverse mappings have nothing to follow
   nothing_follows : followed ≡ edit left Rmap (λ recs. recs) laid
-  nothing_follows = ap₂ (λ (new old : List Owned). edit left Rmap (λ recs. give_each new (take_each old recs)) laid)
+  nothing_follows = ap₂ (λ (new old : List Owned). edit left Rmap (λ recs. give_each (pairs_of new) (take_each (pairs_of old) recs)) laid)
       (none_lost (owners_in laid) (owners_in p) pair_came) (none_lost (owners_in p) (owners_in laid) pair_stays)
 
   tree_now : (k : Kind) → q.tree k ≡ laid.tree k

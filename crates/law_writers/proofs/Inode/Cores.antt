@@ -7,7 +7,7 @@ use Rattle.byte_fields.proofs.BelowLemmas.{each_below}
 use Rattle.law_writers.proofs.Change.Members.{leads_back}
 use Rattle.fs_change.proofs.Alike.{recs_at}
 use Rattle.fs_change.proofs.Trees.{edited}
-use Rattle.fs_change.specs.Loose.{Inside, count_used, lost_to, owners_in}
+use Rattle.fs_change.specs.Loose.{Inside, count_used, lost_in}
 use Rattle.fs_change.specs.Met.{give_each, take_each}
 use Rattle.fs_change.specs.Parts.{in_blocks, in_trees, records_in}
 use Rattle.fs_change.specs.Records.{put_chunk}
@@ -136,7 +136,7 @@ open_records kept left [] p q k other m = ap (λ (r : Group). records_in r k) m
 open_records kept left (j ∷ ks) p q k other m =
     let r : Group = record (in_trees m.blocks (j ∷ ks) p) { free_list = drop (count_used p.free_list q.free_list) p.free_list ++ m.freed; limbo = m.limbo } in
     ap (λ (s : Group). records_in s k) m.is
-    ∙ ap (λ t. recs_of t.reading) (edited left Rmap k (λ recs. give_each (lost_to (owners_in r) (owners_in p)) (take_each (lost_to (owners_in p) (owners_in r)) recs)) r other)
+    ∙ ap (λ t. recs_of t.reading) (edited left Rmap k (λ recs. give_each (lost_in r p) (take_each (lost_in p r) recs)) r other)
     ∙ in_place m.blocks (j ∷ ks) p k
 
 -- ---- a chunk that is new: from v on, 64 free inodes
