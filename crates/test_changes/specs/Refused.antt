@@ -36,6 +36,10 @@ SayTooMuch =
     (Step image_a [] (entries.Verdict 0 units.Rmap Good) (without_list 0 (judged 0 units.Rmap Good image_a)) → ⊥)
     × (Step two [] (entries.Marked 0 Bno Missing) (without_list 1 (marked 0 Bno two)) → ⊥)
 
+-- one that empties that of a group behind the last one
+abbrev pub BehindStays : Type 0
+BehindStays = Step image_a [] (entries.Verdict 0 units.Rmap Good) (without_list 7 (judged 0 units.Rmap Good image_a)) → ⊥
+
 -- a step of a chain that owes nothing; a piece that isn't mapped there; a piece of no blocks
 abbrev pub NothingToDo : Type 0
 NothingToDo =

@@ -4,7 +4,7 @@ ghost use Rattle.test_changes.specs.Scans.{BehindCursor, HeldInode};
 ghost use Rattle.test_changes.specs.Files.{ConvertedPiece, CutUnmapping, GrowingFile, MappedHalfway, MarkedOnce, OwnerFound, SharedPieceRow, ShrinkingFile};
 ghost use Rattle.test_changes.specs.Lists.{ChunkMade, Forgotten, InodeBlocks, LeftAlone, ListMoves, NeedGrows};
 ghost use Rattle.test_changes.specs.Meets.{MovesByBlock, RisesTooFar, TrimsBehind, TurnsWhole};
-ghost use Rattle.test_changes.specs.Refused.{NotToBeFreed, NotToBeGiven, NotToBeMarked, NotToBeShared, NotToBeSwitched, NotToBeTaken, NothingToDo, OwnedSpace, SayTooMuch};
+ghost use Rattle.test_changes.specs.Refused.{BehindStays, NotToBeFreed, NotToBeGiven, NotToBeMarked, NotToBeShared, NotToBeSwitched, NotToBeTaken, NothingToDo, OwnedSpace, SayTooMuch};
 ghost use Rattle.test_changes.specs.Repairs.{NoBlockLeft, RebuiltFreeSpace, RebuiltInodes, RebuiltMappings, TreeSizes};
 
 /// A file is made, and grows by six blocks and by one.
@@ -275,4 +275,9 @@ pub fn trims_behind()
 /// Blocks that a btree gives to the list change their owner from the highest down.
 pub fn moves_by_block()
     ensures { MovesByBlock }
+{}
+
+/// A verdict changes no group behind the last one.
+pub fn behind_stays()
+    ensures { BehindStays }
 {}
