@@ -69,6 +69,7 @@ pub fn put(limbo: &mut Vec<LimboRun>, block: u32, owner: u64)
     requires room { vec_len limbo.old < vec_capacity limbo.old }
     ensures limbo { IsLimbo limbo.new.items }
     ensures exact { (b o : ℕ) → has limbo.new.items b o ≡ (has limbo.old.items b o || covers (record { start = block; count = 1; owner = owner }) b o) }
+    ensures len { vec_len limbo.new ≤ vec_len limbo.old + 1 }
     ensures capacity { vec_capacity limbo.new ≡ vec_capacity limbo.old }
 {
     let run = LimboRun {
@@ -100,6 +101,7 @@ pub fn take_off(limbo: &mut Vec<LimboRun>, run: &LimboRun)
     requires next { next_of limbo.old.items ≡ Some run.now }
     ensures limbo { IsLimbo limbo.new.items }
     ensures exact { (b o : ℕ) → has limbo.new.items b o ≡ (has limbo.old.items b o && not (covers run.now b o)) }
+    ensures len { vec_len limbo.new ≤ vec_len limbo.old }
     ensures capacity { vec_capacity limbo.new ≡ vec_capacity limbo.old }
 {
     let first = limbo.remove(0);
