@@ -1,4 +1,5 @@
 ghost use Rattle.std.specs.Prelude.{◌≡◌, ◌+◌, ◌-◌, ◌≤◌, length, take, drop, ◌++◌, IfOk, OnOk};
+ghost use Rattle.std.specs.Vec.{vec_capacity};
 ghost use Rattle.ag_headers.specs.Ring.{entries};
 ghost use Rattle.edit_blocks.specs.Choice.{need_of, chosen, for_list, for_limbo, IsSameList, HasRoomFor};
 
@@ -60,7 +61,8 @@ fn put_all(list: &mut Agfl, blocks: &[u32])
 // Puts these blocks into limbo, which has room for them.
 fn push_all(limbo: &mut Vec<u32>, blocks: &[u32])
     requires room { HasRoomFor limbo.old blocks.now }
-    ensures { limbo.new.items ≡ limbo.old.items ++ blocks.now }
+    ensures items { limbo.new.items ≡ limbo.old.items ++ blocks.now }
+    ensures capacity { vec_capacity limbo.new ≡ vec_capacity limbo.old }
 {
     let mut rest = blocks;
     while let Some((block, later)) = rest.split_first() {
@@ -80,6 +82,7 @@ pub fn make_room(
 ) -> Result<(), AllocError>
     requires enough { taken ≤ length (entries list.now) }
     ensures same { limbo.new.items ≡ limbo.old.items }
+    ensures capacity { vec_capacity limbo.old ≤ vec_capacity limbo.new }
     ensures room { OnOk result (HasRoomFor limbo.new (for_limbo (drop taken (entries list.now)) freed.now)) }
 {
     let room = (LIST_MOST - (list.len() - taken)) as usize;
@@ -93,6 +96,7 @@ pub fn give_back(list: &mut Agfl, limbo: &mut Vec<u32>, freed: &[u32])
     requires room { HasRoomFor limbo.old (for_limbo (entries list.old) freed.now) }
     ensures list { entries list.new ≡ entries list.old ++ for_list (entries list.old) freed.now }
     ensures limbo { limbo.new.items ≡ limbo.old.items ++ for_limbo (entries list.old) freed.now }
+    ensures capacity { vec_capacity limbo.new ≡ vec_capacity limbo.old }
     ensures same { IsSameList list.old list.new }
     ensures most { length (entries list.old) ≤ LIST_MOST }
 {

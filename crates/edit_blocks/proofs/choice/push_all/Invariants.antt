@@ -6,6 +6,7 @@ abbrev pub invariant-loop-block : goal.invariant-loop-block
 invariant-loop-block l = record {
   limbo : l.limbo.items ++ l.rest ≡ l.initial.limbo.items ++ l.blocks;
   room : vec_len l.limbo + length l.rest ≤ vec_capacity l.limbo;
+  capacity : vec_capacity l.limbo ≡ vec_capacity l.initial.limbo;
 }
 
 abbrev pub decreases-loop-block : goal.decreases-loop-block
