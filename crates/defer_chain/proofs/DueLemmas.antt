@@ -9,7 +9,7 @@ use Rattle.fs_state.specs.declared.intent.IntentKind.{IntentKind}
 use Rattle.fs_state.specs.declared.intent.IntentKind.TheVariants.{RmapAdd, RmapRemove, RmapChange, RefMore, RefLess, Free}
 use Rattle.defer_chain.specs.declared.kinds.Due.{Due}
 use Rattle.defer_chain.specs.declared.kinds.Due.TheVariants.{Entries, Blocks, Deltas}
-use Rattle.defer_chain.specs.Steps.{is_rmap, is_ref, is_less, is_free, amount_of, entries_of, steps_of, due_of, stretched, freed_if, left_if, freed, left_of}
+use Rattle.defer_chain.specs.Steps.{is_rmap, is_ref, is_less, is_free, amount_of, entries_of, steps_of, due_of, deltas_of, stretched, freed_if, left_if, freed, left_of}
 use Rattle.defer_chain.specs.Falls.{IsStretch, DueFalls}
 
 due_is : (what : Due) (is : List Intent) → due_of what is ≡ sum_by (amount_of what) is
@@ -122,5 +122,48 @@ blocks_fall n b i is h =
     let sum = blocks_sum (is_less i.kind) b (amount_if (Blocks i.group) b n i) (amount_left (Blocks i.group) (n == i.count) n i) (due_of (Blocks i.group) is) i.count n h.some h.inside h.falls (freed_blocks b n i) (steps_left (n == i.count) n i h.kind) in
     omega (arith, now, old, e, sum)
 
+-- what a stretch leaves and frees is of the same group
+other_group : (t : Bool) (n : ℕ) → t ≡ false → (if t then n else 0) ≡ 0
+other_group true n e = absurd (false≢true (sym e))
+other_group false n e = refl
+
+others_freed : (b : Bool) (g n : ℕ) (i : Intent) → (i.group == g) ≡ false → amount_if (Blocks g) b n i ≡ 0
+others_freed true g n i e = other_group (i.group == g) 160 e
+others_freed false g n i e = refl
+
+others_left : (t : Bool) (g n : ℕ) (i : Intent) → (i.group == g) ≡ false → amount_left (Blocks g) t n i ≡ 0
+others_left true g n i e = refl
+others_left false g n i e = other_group (i.group == g) (160 * steps_of (left_of n i)) e
+
+others_stay : (g n : ℕ) (b : Bool) (i : Intent) (is : List Intent) → (i.group == g) ≡ false → due_of (Blocks g) (stretched n b (i ∷ is)) ≡ due_of (Blocks g) is
+others_stay g n b i is e =
+    let now = due_stretched (Blocks g) n b i is in
+    let freed_none = others_freed b g n i e in
+    let left_none = others_left (n == i.count) g n i e in
+    omega (arith, now, freed_none, left_none)
+
+no_delta : (k : IntentKind) → is_ref k ≡ true → deltas_of k ≡ 0
+no_delta RmapAdd h = absurd (false≢true h)
+no_delta RmapRemove h = absurd (false≢true h)
+no_delta RmapChange h = absurd (false≢true h)
+no_delta RefMore h = refl
+no_delta RefLess h = refl
+no_delta Free h = absurd (false≢true h)
+
+deltas_freed : (b : Bool) (n : ℕ) (i : Intent) → amount_if Deltas b n i ≡ 0
+deltas_freed true n i = refl
+deltas_freed false n i = refl
+
+deltas_left : (t : Bool) (n : ℕ) (i : Intent) → is_ref i.kind ≡ true → amount_left Deltas t n i ≡ 0
+deltas_left true n i h = refl
+deltas_left false n i h = no_delta i.kind h
+
+deltas_stay : (n : ℕ) (b : Bool) (i : Intent) (is : List Intent) → is_ref i.kind ≡ true → due_of Deltas (stretched n b (i ∷ is)) ≡ due_of Deltas is
+deltas_stay n b i is h =
+    let now = due_stretched Deltas n b i is in
+    let freed_none = deltas_freed b n i in
+    let left_none = deltas_left (n == i.count) n i h in
+    omega (arith, now, freed_none, left_none)
+
 pub due_falls : DueFalls
-due_falls = record { leaves = leaves; entries = entries_fall; blocks = blocks_fall }
+due_falls = record { leaves = leaves; entries = entries_fall; blocks = blocks_fall; others = others_stay; deltas = deltas_stay }

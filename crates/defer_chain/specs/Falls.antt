@@ -1,5 +1,5 @@
 -- Each step lowers what is due by what it may use.
-use Rattle.std.specs.Prelude.{◌≡◌, ◌<◌, ◌≤◌, ℕ, ◌+◌, ◌*◌, Bool, true, List, ◌∷◌}
+use Rattle.std.specs.Prelude.{◌≡◌, ◌<◌, ◌≤◌, ◌==◌, ℕ, ◌+◌, ◌*◌, Bool, true, false, List, ◌∷◌}
 use Rattle.fs_state.specs.declared.intent.Intent.{Intent}
 use Rattle.defer_chain.specs.declared.kinds.Due.{Due}
 use Rattle.defer_chain.specs.declared.kinds.Due.TheVariants.{Entries, Blocks, Deltas}
@@ -18,3 +18,6 @@ pub record DueFalls : Type 0 where
   -- a step of a count may add three entries, and free 160 blocks of its group
   pub entries : (n : ℕ) (frees : Bool) (i : Intent) (is : List Intent) → IsStretch n frees i → due_of Entries (stretched n frees (i ∷ is)) + 3 ≤ due_of Entries (i ∷ is)
   pub blocks : (n : ℕ) (frees : Bool) (i : Intent) (is : List Intent) → IsStretch n frees i → due_of (Blocks i.group) (stretched n frees (i ∷ is)) + 160 ≤ due_of (Blocks i.group) (i ∷ is)
+  -- of other groups nothing is due to it, and no differences of owners
+  pub others : (g n : ℕ) (frees : Bool) (i : Intent) (is : List Intent) → (i.group == g) ≡ false → due_of (Blocks g) (stretched n frees (i ∷ is)) ≡ due_of (Blocks g) is
+  pub deltas : (n : ℕ) (frees : Bool) (i : Intent) (is : List Intent) → is_ref i.kind ≡ true → due_of Deltas (stretched n frees (i ∷ is)) ≡ due_of Deltas is

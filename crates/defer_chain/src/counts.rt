@@ -19,6 +19,8 @@ pub fn first_stretch(block: u32, count: u32, over: Option<RefcRec>, next: Option
     requires over { IfSome over (λ r. Reaches r block) }
     requires next { IfSome next (λ s. block < s) }
     ensures count { result.count ≡ stretch_count block count over next }
+    ensures some { 0 < count → 0 < result.count }
+    ensures inside { result.count ≤ count }
     ensures owners { result.owners ≡ owners_of over }
 {
     let (left, owners) = match over {
