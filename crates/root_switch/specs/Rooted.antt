@@ -1,5 +1,8 @@
 -- What a switch makes of the heads of its group ("AG Free Space Block", "AG Inode Management").
-use Rattle.std.specs.Prelude.{ℕ, Bool, true, false, Option, unwrap_or}
+use Rattle.std.specs.Prelude.{ℕ, List, Bool, true, false, Option, unwrap_or}
+use Rattle.ag_headers.specs.Agf.{agf_written}
+use Rattle.ag_headers.specs.Agi.{agi_written}
+use Rattle.ag_headers.specs.Fields.{sector, with_sector}
 use Rattle.ag_headers.specs.Tests.{IsOfGroup}
 use Rattle.geom.specs.Layout.{Layout}
 use Rattle.ag_headers.specs.declared.agf.Agf.{Agf}
@@ -32,6 +35,10 @@ rooted_heads (Inode ino fino count freecount counts) h = record h { agi = record
 rooted_heads (Rmap t btreeblks) h = record h { agf = with_rmap t btreeblks h.agf }
 rooted_heads (Free bno cnt freeblks longest btreeblks) h = record h { agf = record (with_free bno cnt btreeblks h.agf) { freeblks = freeblks; longest = longest } }
 rooted_heads (Refc t) h = record h { agf = with_refc t h.agf }
+
+-- What is block 0 with both heads? Each in its sector, over the bytes that are there.
+abbrev pub heads_put : Heads → List ℕ → List ℕ
+heads_put h block = with_sector 2 (with_sector 1 block (agf_written h.agf (sector 1 block))) (agi_written h.agi (sector 2 block))
 
 -- a head is one of this group
 abbrev pub IsAgfOf : Layout → ℕ → Agf → Type 0

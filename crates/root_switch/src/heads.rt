@@ -3,7 +3,8 @@ ghost use Rattle.ag_headers.specs.Agf.{agf_of, agf_fault};
 ghost use Rattle.ag_headers.specs.Agi.{agi_of, agi_fault};
 ghost use Rattle.ag_headers.specs.Fields.{sector};
 ghost use Rattle.geom.specs.Layout.{Layout};
-ghost use Rattle.root_switch.specs.Rooted.{IsAgfOf, IsAgiOf, rooted_heads, with_free, with_inodes, with_refc, with_rmap};
+ghost use Rattle.root_switch.specs.Standing.{HeadsStand};
+ghost use Rattle.root_switch.specs.Rooted.{IsAgfOf, IsAgiOf, heads_put, rooted_heads, with_free, with_inodes, with_refc, with_rmap};
 
 use ag_headers::{Agf, Agi};
 use byte_fields::Block;
@@ -163,6 +164,7 @@ pub fn rooted(heads: &Heads, switch: &Switch) -> Heads
 pub fn put_heads(heads: &Heads, block: &mut Block)
     ensures agf { agf_of block.new.bytes ≡ heads.now.agf }
     ensures agi { agi_of block.new.bytes ≡ heads.now.agi }
+    ensures bytes { block.new.bytes ≡ heads_put heads.now block.old.bytes }
     ensures elsewhere { (k : ℕ) → k ≢ 1 → k ≢ 2 → sector k block.new.bytes ≡ sector k block.old.bytes }
     ensures agf_accepted { (at : Layout) (g : ℕ) → IsAgfOf at g heads.now.agf → agf_fault at g block.new.bytes ≡ None }
     ensures agi_accepted { (at : Layout) (g : ℕ) → IsAgiOf at g heads.now.agi → agi_fault at g block.new.bytes ≡ None }
@@ -170,3 +172,10 @@ pub fn put_heads(heads: &Heads, block: &mut Block)
     heads.agf.encode(block);
     heads.agi.encode(block);
 }
+
+/// A law: heads that were accepted name their group, and a switch leaves that, so that what `put_heads`
+/// writes of them is accepted again
+/// (XFS Algorithms and Data Structures, "AG Free Space Block", "AG Inode Management").
+pub fn heads_stand()
+    ensures { HeadsStand }
+{}

@@ -5,5 +5,5 @@
 mod heads;
 mod totals;
 
-pub use heads::{Heads, NewTree, Switch, put_heads, rooted};
+pub use heads::{Heads, NewTree, Switch, heads_stand, put_heads, rooted};
 pub use totals::{InodeTotals, SpaceTotals, blocks_beside_roots, inode_totals, space_totals};
