@@ -1,5 +1,6 @@
 -- The cores of inodes that are taken, given back, or made with their chunk ("On-disk Inode").
 use Rattle.std.specs.Prelude.{ℕ, ◌*◌, List, take, drop, replicate}
+use Rattle.dinode_core.specs.Encoded.{encoded}
 use Rattle.dinode_core.specs.declared.inode.Core3.{Core3}
 
 -- a new regular file: its mode, its owner and one link, both forks empty; the rest of the core stays
@@ -45,6 +46,10 @@ free_core ino uuid = record {
   uuid = uuid;
   literal = replicate 336 0;
 }
+
+-- and its bytes: the core, and zeros where no field is
+abbrev pub free_bytes : ℕ → List ℕ → List ℕ
+free_bytes ino uuid = encoded (free_core ino uuid) (replicate 512 0)
 
 -- the bytes of one of the eight inodes of a block
 abbrev pub slot_of : List ℕ → ℕ → List ℕ

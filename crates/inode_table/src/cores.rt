@@ -3,7 +3,7 @@ ghost use Rattle.std.specs.List.{splice};
 ghost use Rattle.dinode_core.specs.Core.{core_fault, core_of};
 ghost use Rattle.geom.specs.Layout.{inode_at};
 ghost use Rattle.geom.specs.Places.{HasBlock, layout};
-ghost use Rattle.inode_table.specs.Cores.{fresh_file, given_back, free_core, slot_of};
+ghost use Rattle.inode_table.specs.Cores.{fresh_file, given_back, free_bytes, free_core, slot_of};
 
 use byte_fields::Block;
 use dinode_core::{Core3, encode_core};
@@ -89,6 +89,7 @@ fn core_of_free(ino: u64, uuid: &[u8; 16]) -> Core3
 // The bytes of a free inode.
 #[tactic(auto, unfolding(crate::specs::Cores::free_core))]
 fn free_inode(ino: u64, uuid: &[u8; 16]) -> [u8; 512]
+    ensures bytes { result ≡ free_bytes ino uuid.now }
     ensures core { core_of result ≡ free_core ino uuid.now }
     ensures sound { core_fault result ino uuid.now ≡ None }
 {
@@ -120,6 +121,7 @@ fn put_slot(bytes: &mut [u8], slot: usize, inode: &[u8; 512])
 fn put_inodes(geo: &Geometry, group: u32, block: u32, bytes: &mut [u8])
     requires place { HasBlock geo.now group block }
     requires long { length bytes.old ≡ 4096 }
+    ensures slots { (s : ℕ) → s < 8 → slot_of bytes.new s ≡ free_bytes (inode_at (layout geo.now) group block s) geo.now.uuid }
     ensures cores { (s : ℕ) → s < 8 → core_of (slot_of bytes.new s) ≡ free_core (inode_at (layout geo.now) group block s) geo.now.uuid }
     ensures sound { (s : ℕ) → s < 8 → core_fault (slot_of bytes.new s) (inode_at (layout geo.now) group block s) geo.now.uuid ≡ None }
 {
@@ -133,6 +135,7 @@ fn put_inodes(geo: &Geometry, group: u32, block: u32, bytes: &mut [u8])
 /// verifies (XFS Algorithms and Data Structures, "Inode Allocation").
 pub fn free_block(geo: &Geometry, group: u32, block: u32) -> Block
     requires { HasBlock geo.now group block }
+    ensures slots { (s : ℕ) → s < 8 → slot_of result.bytes s ≡ free_bytes (inode_at (layout geo.now) group block s) geo.now.uuid }
     ensures cores { (s : ℕ) → s < 8 → core_of (slot_of result.bytes s) ≡ free_core (inode_at (layout geo.now) group block s) geo.now.uuid }
     ensures sound { (s : ℕ) → s < 8 → core_fault (slot_of result.bytes s) (inode_at (layout geo.now) group block s) geo.now.uuid ≡ None }
 {
