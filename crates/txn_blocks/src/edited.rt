@@ -1,8 +1,12 @@
 ghost use Rattle.std.proofs.Props.{props};
-ghost use Rattle.std.specs.Prelude.{◌≡◌, ◌+◌, ◌*◌, ◌^◌, ◌<◌, ◌≤◌, length, IfOk};
+ghost use Rattle.std.specs.Prelude.{◌≡◌, ◌+◌, ◌*◌, ◌^◌, ◌<◌, ◌≤◌, length, IfErr, IfOk, IfSome};
 ghost use Rattle.blk_device.specs.Reading.{OnlyRead};
 ghost use Rattle.blk_device.specs.Causes.{HasCause};
+ghost use Rattle.tree_blocks.specs.Meets.{IsNoMemory};
 ghost use Rattle.tree_blocks.specs.Reading.{is_failed};
+ghost use Rattle.tree_find.specs.Find.{find_in, way_of};
+ghost use Rattle.tree_find.specs.Laws.{IsFound};
+ghost use Rattle.tree_find.specs.Meets.{Meets};
 ghost use Rattle.tree_walk.specs.Meets.{MeetsTreeAt};
 ghost use Rattle.tree_walk.specs.Trails.{AreSound, LieInside};
 ghost use Rattle.txn_blocks.specs.Through.{OfEdited, Counts, FindsIn, Lasts};
@@ -76,7 +80,13 @@ pub fn find_edited<K: RecKind, D: Device, L: Ledger>(
     tree: &TreeAt,
     key: &K::Key,
 ) -> Result<Option<K::Rec>, WalkFault>
+    ensures exact { OfEdited edit.old.site edit.old.txn.now (D.content edit.old.dev.now)
+        (λ m. Meets (find_in K.form edit.old.site m tree.now.root tree.now.levels key.now) result) }
     ensures right { OfEdited edit.old.site edit.old.txn.now (D.content edit.old.dev.now) (λ m. FindsIn K.form edit.old.site m tree.now key.now result) }
+    ensures sound { IfOk result (λ found. IfSome found (λ rec. IsFound K.form edit.old.site.bounds key.now rec)) }
+    ensures no_memory { IfErr result IsNoMemory }
+    ensures few { edit.new.steps.now.reads ≤ edit.old.steps.now.reads + way_of tree.now.levels }
+    ensures site { edit.new.site ≡ edit.old.site }
     ensures joined { edit.new.txn.now ≡ edit.old.txn.now }
     ensures reading { OnlyRead D.Device edit.old.dev.now edit.new.dev.now edit.old.steps.now edit.new.steps.now }
     ensures lasts { Lasts D.Device edit.old.dev edit.new.dev edit.old.cache edit.new.cache edit.old.steps edit.new.steps edit.old.txn edit.new.txn }

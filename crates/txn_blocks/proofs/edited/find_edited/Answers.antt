@@ -13,3 +13,9 @@ returns-clause-right g c =
     told (g.D.Device.content edit.dev.now) _
     (λ m e. right_in_tree g.K.RecKind.form g.met.K.RecKind.lawful edit.site (group_blocks edit.site (written (m Image) edit.txn.now)) c.args.tree.now.root c.args.tree.now.levels c.args.key.now c.find_site.result
     (c.find_site.ensures.exact (group_blocks edit.site (written (m Image) edit.txn.now)) (ap (changed edit.site edit.txn.now) e)))
+
+pub returns-clause-exact : goal.returns-clause-exact
+returns-clause-exact g c =
+    let edit = c.args.edit.now in
+    told (g.D.Device.content edit.dev.now) _
+    (λ m e. c.find_site.ensures.exact (group_blocks edit.site (written (m Image) edit.txn.now)) (ap (changed edit.site edit.txn.now) e))
