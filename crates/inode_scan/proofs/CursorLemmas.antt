@@ -1,7 +1,9 @@
 -- The next inode group by group.
 use Rattle.std.proofs.Common.{◌≡◌, ℕ, ◌+◌, ◌-◌, ◌<◌, ◌≤◌, Bool, true, false, List, [], ◌∷◌, length, Option, Some, None, Ok, refl, sym, ap, subst, ◌∙◌, arith}
-use Rattle.std.specs.Prelude.{nat_lt, if◌then◌else◌, IfSome}
-use Rattle.geom.specs.Layout.{Layout}
+use Rattle.std.specs.Prelude.{◌/◌, nat_lt, if◌then◌else◌, is_some, IfSome}
+use Rattle.geom.proofs.ApartLemmas.{splits_in}
+use Rattle.geom.specs.Apart.{HasFitting}
+use Rattle.geom.specs.Layout.{Layout, fs_block_of, group_len_of, split_of}
 use Rattle.tree_blocks.specs.Meets.{Refuses}
 use Rattle.tree_blocks.specs.declared.tree.TreeAt.{TreeAt}
 use Rattle.tree_blocks.specs.declared.tree.WalkFault.{WalkFault}
@@ -78,6 +80,14 @@ module _ (at : Layout) (image : ℕ → List ℕ) (c : ℕ) (t : TreeAt) (rest l
 
 pub range_of : (from end n : ℕ) (o : Option ℕ) → o ≡ Some n → IfSome o (λ k. (from ≤ k) × (k < end)) → (from ≤ n) × (n < end)
 range_of from end n o is h = subst (λ (p : Option ℕ). IfSome p (λ k. (from ≤ k) × (k < end))) is h
+
+-- a number below those of a group is that of an inode with a place
+pub has_place : (at : Layout) → HasFitting at → (g first end n k : ℕ) → g < at.agcount → first ≡ first_number at g → end ≡ numbers_in at g → n < end → k ≡ n → is_some (split_of at ((first + k) / 8)) ≡ true
+unfolding first_number
+has_place at fits g first end n k inside f e below same =
+    let block : (first + k) / 8 ≡ fs_block_of at g (n / 8) = omega (arith, f, same) in
+    let lies : n / 8 < group_len_of at g = omega (arith, e, below) in
+    ap (λ m. is_some (split_of at m)) block ∙ ap is_some (splits_in at fits g (n / 8) inside lies)
 
 pub no_reads : (at : Layout) (image : ℕ → List ℕ) (c : ℕ) (rest : List TreeAt) → length rest ≡ 0 → reads_in_trees at image c rest ≡ 0
 unfolding reads_in_trees

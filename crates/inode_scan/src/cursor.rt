@@ -1,8 +1,9 @@
-ghost use Rattle.std.specs.Prelude.{◌≡◌, ◌+◌, ◌^◌, ◌<◌, ◌≤◌, IfOk, IfErr, IfSome, OnOk};
+ghost use Rattle.std.specs.Prelude.{◌≡◌, ◌+◌, ◌/◌, ◌^◌, ◌<◌, ◌≤◌, true, is_some, IfOk, IfErr, IfSome, OnOk};
 ghost use Rattle.blk_cache.specs.Cache.{AgreesTold};
 ghost use Rattle.blk_device.specs.Causes.{HasCause};
 ghost use Rattle.blk_device.specs.Reading.{OnlyRead};
 ghost use Rattle.blk_device.specs.declared.device.Region.TheVariants.{Image};
+ghost use Rattle.geom.specs.Layout.{split_of};
 ghost use Rattle.geom.specs.Places.{layout};
 ghost use Rattle.sblock.specs.declared.kind.Kind.TheVariants.{Ino};
 ghost use Rattle.tree_blocks.specs.Meets.{IsNoMemory};
@@ -79,6 +80,7 @@ fn next_in_tree<D: Device, L: Ledger>(
     requires agreed { AgreesTold cache.old (D.content dev.old) }
     ensures exact { IfSome (D.content dev.old) (λ m. Meets (next_of_tree (layout geo.now) (m Image) at tree.now) result) }
     ensures above { IfOk result (λ found. IfSome found (λ ino. at < ino)) }
+    ensures place { IfOk result (λ found. IfSome found (λ ino. is_some (split_of (layout geo.now) (ino / 8)) ≡ true)) }
     ensures no_memory { IfErr result IsNoMemory }
     ensures reading { OnlyRead D.Device dev.old dev.new steps.old steps.new }
     ensures cause { HasCause is_failed (D.faults dev.old) (D.faults dev.new) result }
@@ -124,6 +126,7 @@ impl Cursor {
         ensures exact { IfSome (D.content dev.old) (λ m. Meets (next_in_trees (layout geo.now) (m Image) self.now.at trees.now) result) }
         ensures right { IfSome (D.content dev.old) (λ m. IsRightNext (layout geo.now) (m Image) self.now.at trees.now result) }
         ensures above { IfOk result (λ found. IfSome found (λ ino. self.now.at < ino)) }
+        ensures place { IfOk result (λ found. IfSome found (λ ino. is_some (split_of (layout geo.now) (ino / 8)) ≡ true)) }
         ensures no_memory { IfErr result IsNoMemory }
         ensures reading { OnlyRead D.Device dev.old dev.new steps.old steps.new }
         ensures cause { HasCause is_failed (D.faults dev.old) (D.faults dev.new) result }

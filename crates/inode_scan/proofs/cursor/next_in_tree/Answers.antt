@@ -3,7 +3,7 @@ use Rattle.std.proofs.lemmas.Result.{err_from_is_err_and}
 use Rattle.blk_device.specs.declared.device.Region.TheVariants.{Image}
 use Rattle.geom.specs.Places.{layout}
 use Rattle.tree_blocks.proofs.ReadingLemmas.{told, each_told}
-use Rattle.inode_scan.proofs.CursorLemmas.{count_none, count_one, going_reads, none_reads, range_of, start_is, all_passed, told_none, told_some, told_fault}
+use Rattle.inode_scan.proofs.CursorLemmas.{count_none, count_one, going_reads, none_reads, has_place, range_of, start_is, all_passed, told_none, told_some, told_fault}
 use Rattle.inode_scan.proofs.cursor.next_in_tree.Goals as goal
 
 pub returns-in_default-clause-exact : goal.returns-in_default-clause-exact
@@ -58,3 +58,8 @@ returns-clause-counted g c =
     told (g.D.Device.content c.args.dev.now) _
     (λ m e. count_one c.args.steps.now.reads c.next_in_group.new.steps.reads _ _ (going_reads (layout c.args.geo.now) (m Image) c.args.at c.args.tree.now c.first_number-first.result c.numbers_in-end.result c.first_number-first.ensures.value c.numbers_in-end.ensures c.in-Some.from (sym c.in-Some.is ∙ c.start_in.ensures))
     (each_told (g.D.Device.content c.args.dev.now) _ m c.in_ok-found.ensures.counted e))
+
+pub returns-clause-place : goal.returns-clause-place
+returns-clause-place g c =
+    let small = range_of c.in-Some.from c.numbers_in-end.result c.in-Some-found.number c.in_ok-found.found c.in-Some-found.is c.in_ok-found.ensures.range in
+    has_place (layout c.args.geo.now) c.args.geo.now.fitting c.args.tree.now.group c.first_number-first.result c.numbers_in-end.result c.in-Some-found.number c.from.result c.requires.tree.group c.first_number-first.ensures.value c.numbers_in-end.ensures small.1 c.from.ensures
