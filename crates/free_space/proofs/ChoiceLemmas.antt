@@ -6,10 +6,11 @@ use Rattle.std.specs.List.{list_any}
 use Rattle.std.proofs.lemmas.Bool.Decides.{nat_tests}
 use Rattle.std.proofs.lemmas.List.Folds.{list_any-append}
 use Rattle.fs_model.specs.declared.entry.Extent.{Extent}
+use Rattle.span_recs.specs.declared.span.SpanRec.{SpanRec}
 use Rattle.free_space.specs.declared.choice.GroupSpace.{GroupSpace}
 use Rattle.free_space.specs.declared.choice.Search.{Search}
 use Rattle.free_space.specs.declared.choice.NoRun.{NoRun}
-use Rattle.free_space.specs.Choice.{first_in, lower_by, lowest, StandsFor, fit_in, last_in, closed_in, sick_in, has_large, choice, chosen}
+use Rattle.free_space.specs.Choice.{LastUnasked, first_in, lower_by, lowest, StandsFor, fit_in, last_in, closed_in, sick_in, has_large, choice, chosen}
 
 none_is_none : is_some (let o : Option Extent = None in o) ≡ true → ⊥
 none_is_none h = cc
@@ -87,3 +88,22 @@ unfolding choice
 settled wanted gs more s h e =
     let i = subst (λ (o : Option Extent). is_some o ≡ true) h.fit e in
     chosen_by (first_in (fit_in wanted) gs) (first_in (fit_in wanted) (gs ++ more)) _ _ _ _ i (first_stays (fit_in wanted) gs more i)
+
+-- ---- a last record that isn't asked for
+
+same_fits : (wanted : ℕ) (before behind : List GroupSpace) (s : GroupSpace) (last : Option SpanRec) → first_in (fit_in wanted) (before ++ record s { last = last } ∷ behind) ≡ first_in (fit_in wanted) (before ++ s ∷ behind)
+same_fits wanted [] behind s last = refl
+same_fits wanted (g ∷ gs) behind s last = ap (option_or (fit_in wanted g)) (same_fits wanted gs behind s last)
+
+in_two : (before behind : List GroupSpace) (s : GroupSpace) → (before ++ s ∷ []) ++ behind ≡ before ++ s ∷ behind
+in_two [] behind s = refl
+in_two (g ∷ gs) behind s = ap (λ gs. g ∷ gs) (in_two gs behind s)
+
+pub last_unasked : LastUnasked
+unfolding choice
+last_unasked wanted before behind s last h =
+    let fit : GroupSpace → Option Extent = fit_in wanted in
+    let told : List GroupSpace = before ++ s ∷ behind in
+    let other : List GroupSpace = before ++ record s { last = last } ∷ behind in
+    let some : is_some (first_in fit told) ≡ true = ap is_some (ap (first_in fit) (sym (in_two before behind s)) ∙ first_stays fit (before ++ s ∷ []) behind h) ∙ h in
+    chosen_by (first_in fit told) (first_in fit other) _ _ _ _ some (same_fits wanted before behind s last)

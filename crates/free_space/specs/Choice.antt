@@ -1,5 +1,5 @@
 -- Which run of free space these groups give, in the order in which they are tried ("AG Free Space B+trees").
-use Rattle.std.specs.Prelude.{◌≡◌, ℕ, Bool, true, false, not, ◌&&◌, ◌||◌, nat_lt, List, [], ◌∷◌, Option, Some, None, Result, Ok, Err, is_none, is_some, option_map, if◌then◌else◌}
+use Rattle.std.specs.Prelude.{◌≡◌, ℕ, Bool, true, false, not, ◌&&◌, ◌||◌, nat_lt, List, [], ◌∷◌, ◌++◌, Option, Some, None, Result, Ok, Err, is_none, is_some, option_map, if◌then◌else◌}
 use Rattle.std.specs.List.{list_any}
 use Rattle.std.specs.Option.{option_or}
 use Rattle.fs_model.specs.declared.entry.Extent.{Extent}
@@ -74,6 +74,11 @@ unfoldable pub choice : ℕ → List GroupSpace → Result Extent NoRun
 choice wanted gs =
     chosen (option_or (first_in (fit_in wanted) gs) (first_in (last_in wanted) gs))
     (refusal (lowest_closed gs) (lowest_sick gs) (list_any has_large gs))
+
+-- where a group fits, or one before it, its last record isn't asked for
+abbrev pub LastUnasked : Type 0
+LastUnasked = (wanted : ℕ) (before behind : List GroupSpace) (s : GroupSpace) (last : Option SpanRec) → is_some (first_in (fit_in wanted) (before ++ s ∷ [])) ≡ true
+    → choice wanted (before ++ record s { last = last } ∷ behind) ≡ choice wanted (before ++ s ∷ behind)
 
 -- the search has looked at these groups
 pub record StandsFor (wanted : ℕ) (gs : List GroupSpace) (s : Search) : Type 0 where

@@ -1,6 +1,6 @@
-ghost use Rattle.std.specs.Prelude.{◌≡◌, ◌<◌, ◌+◌, ◌%◌, ◌++◌, [], ◌∷◌, ℕ, List, Option, IsTrue, ◌||◌, option_map, Some, None};
+ghost use Rattle.std.specs.Prelude.{◌≡◌, ◌<◌, ◌+◌, ◌%◌, ◌++◌, [], ◌∷◌, ℕ, List, Option, IsTrue, ◌||◌, is_some, option_map, Some, None};
 ghost use Rattle.std.specs.Option.{option_or};
-ghost use Rattle.free_space.specs.Choice.{StandsFor, choice, closed_in, extent_of, fit_in, has_large, is_usable as is_usable_of, last_in, lower_by, sick_in};
+ghost use Rattle.free_space.specs.Choice.{LastUnasked, StandsFor, choice, closed_in, extent_of, first_in, fit_in, has_large, is_usable as is_usable_of, last_in, lower_by, sick_in};
 ghost use Rattle.free_space.specs.declared.choice.GroupSpace.{GroupSpace as GhostSpace};
 
 use crate::spans::front;
@@ -188,7 +188,8 @@ impl Search {
 
     /// Whether a record that is long enough was met, so that no further group changes the answer.
     pub fn is_settled(&self) -> bool
-        ensures { (wanted : ℕ) (gs more : List GhostSpace) → StandsFor wanted gs self.now → IsTrue result → choice wanted (gs ++ more) ≡ choice wanted gs }
+        ensures exact { (wanted : ℕ) (gs : List GhostSpace) → StandsFor wanted gs self.now → result ≡ is_some (first_in (fit_in wanted) gs) }
+        ensures settled { (wanted : ℕ) (gs more : List GhostSpace) → StandsFor wanted gs self.now → IsTrue result → choice wanted (gs ++ more) ≡ choice wanted gs }
     {
         self.fit.is_some()
     }
@@ -216,3 +217,8 @@ impl Search {
         Err(NoRun::NoSpace)
     }
 }
+
+/// A law: where a group fits, or one before it, its last record needn't be known.
+pub fn last_unasked()
+    ensures { LastUnasked }
+{}

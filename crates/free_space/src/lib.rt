@@ -6,7 +6,7 @@ mod choice;
 mod list;
 mod spans;
 
-pub use choice::{GroupSpace, NoRun, Search, SickGroup, group_tried};
+pub use choice::{GroupSpace, NoRun, Search, SickGroup, group_tried, last_unasked};
 pub use list::{
     LEAST_LISTED, ListGoal, MOST_LISTED, Memory, WANTED_LISTED, blocks_to_give, list_goal,
 };
