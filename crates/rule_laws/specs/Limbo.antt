@@ -1,5 +1,5 @@
 -- Limbo as runs, and as a state has it; the counters that a switch sets.
-use Rattle.std.specs.Prelude.{◌≡◌, ◌&&◌, not, ℕ, List}
+use Rattle.std.specs.Prelude.{◌≡◌, ◌&&◌, ◌||◌, not, ℕ, List, [], ◌∷◌}
 use Rattle.fs_model.specs.declared.entry.Extent.{Extent}
 use Rattle.fs_model.specs.declared.unit.Unit.{Unit as ScrubUnit}
 use Rattle.fs_state.specs.State.{Owned, Group}
@@ -9,7 +9,7 @@ use Rattle.block_reap.specs.Limbo.{covers, has, owner_of_unit}
 use Rattle.block_reap.specs.declared.runs.LimboRun.{LimboRun}
 use Rattle.root_switch.specs.Totals as totals
 use Rattle.fs_change.specs.Changes.{last_count, leave_limbo}
-use Rattle.fs_change.specs.Switch.{has_owned, owned_by, unit_owner}
+use Rattle.fs_change.specs.Switch.{has_owned, join_limbo, owned_by, unit_owner}
 
 -- the owner of a unit's blocks in limbo
 abbrev pub OwnersAlike : Type 0
@@ -27,6 +27,12 @@ abbrev pub LeavesAlike : Type 0
 LeavesAlike =
     (p : Group) (g : ℕ) (runs left : List LimboRun) (run : LimboRun) → StandFor runs p.limbo
     → ((b o : ℕ) → has left b o ≡ (has runs b o && not (covers run b o))) → StandFor left (leave_limbo run.owner (extent_of g run) p).limbo
+
+-- and what there is once a block joined them is what joined the state's
+abbrev pub JoinsAlike : Type 0
+JoinsAlike =
+    (limbo : List Owned) (runs joined : List LimboRun) (block owner : ℕ) → StandFor runs limbo
+    → ((b o : ℕ) → has joined b o ≡ (has runs b o || covers (record { start = block; count = 1; owner = owner }) b o)) → StandFor joined (join_limbo (owned_by owner block ∷ []) limbo)
 
 -- the longest run of free space
 abbrev pub LongestAlike : Type 0

@@ -6,10 +6,11 @@ ghost use Rattle.span_recs.specs.declared.refcount.RefcRec.{RefcRec};
 ghost use Rattle.rule_laws.specs.Forks.{AddsAlike, ConvertsAlike, OccupiedAlike, PieceAlike, TakesAlike};
 ghost use Rattle.rule_laws.specs.Groups.{ChoosesAlike, CountsAlike, QuietAlike};
 ghost use Rattle.rule_laws.specs.Inodes.{CoresAlike, FindsLowest, FindsNone, GivesInode, MakesAlike, TakesInode, TurnsAlike};
-ghost use Rattle.rule_laws.specs.Limbo.{LeavesAlike, LongestAlike, OwnersAlike};
+ghost use Rattle.rule_laws.specs.Limbo.{JoinsAlike, LeavesAlike, LongestAlike, OwnersAlike};
 ghost use Rattle.rule_laws.specs.Switches.{LastIsGreatest, SumsAlike, SwitchesAlike};
 
 use free_space::{MOST_LISTED, WANTED_LISTED};
+use fs_state::limbo_is_a_set;
 
 /// A law: a mapping that the rule adds to a fork's list in order makes the list that a step has, and the
 /// rule finds an offset occupied where a step would not find all of the mapping's free
@@ -64,6 +65,14 @@ pub fn leaves_alike()
     ensures left { LeavesAlike }
     ensures owner { OwnersAlike }
 {}
+
+/// A law: a block that joins limbo with its owner joins the limbo of the state
+/// (XFS Online Fsck Design, "Reaping After Repairing Ondisk Metadata").
+pub fn joins_alike()
+    ensures { JoinsAlike }
+{
+    limbo_is_a_set();
+}
 
 /// A law: the longest run of free space that the heads get at a switch is that of a step
 /// (XFS Algorithms and Data Structures, "AG Free Space Block").

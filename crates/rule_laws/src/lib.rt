@@ -5,6 +5,6 @@ mod laws;
 
 pub use laws::{
     adds_alike, chooses_alike, chunks_alike, converts_alike, cores_alike, counters_alike,
-    counts_alike, inodes_alike, leaves_alike, quiet_alike, switches_alike, takes_alike,
-    totals_alike, trims_alike,
+    counts_alike, inodes_alike, joins_alike, leaves_alike, quiet_alike, switches_alike,
+    takes_alike, totals_alike, trims_alike,
 };
