@@ -1,10 +1,6 @@
 //! One change of one group: its six trees, free list and heads, as a transaction has them, edit by
-//! edit, and the one commit that writes all of it or nothing.
-//! The device of a core with all that an event needs beside it: the geometry, the blocks that are kept
-//! of the device, and the edit of a group.
-//! What a rebuild of a unit does to the indexes of its group: it reserves a block of the free list or a
-//! spare one, and reaps a run from limbo. Each makes the edits up to the one commit, which is a call of
-//! its own.
+//! edit, and the one commit that writes all of it or nothing; with the store of device, cache and edit
+//! that an event needs, and what a unit's rebuild edits: a block reserved, a run reaped from limbo.
 #![tactic(auto)]
 
 mod blank;
