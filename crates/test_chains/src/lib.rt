@@ -1,4 +1,6 @@
-//! Tests of the rules of chains, drains and forks, over public calls alone.
+//! The rules of chains and forks: what a chain owes, who holds an inode, when a group closes, how
+//! many chains are open at most; where a list of mappings is full, and what a piece taken out of it
+//! leaves.
 #![tactic(auto)]
 
 #[cfg(test)]

@@ -1,5 +1,5 @@
-//! Worked rows: journals of writers and of repairs on small images, entry by entry, and entries that are
-//! no step, as equations that hold by computing.
+//! Rows that compute: journals of writers and of repairs on the images of `test_states`, entry by
+//! entry with the state after each; and entries that are no step.
 #![tactic(auto)]
 
 mod rows;

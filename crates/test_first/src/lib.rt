@@ -1,4 +1,8 @@
-//! Tests of the first events by which writers change a file, over an image in memory.
+//! The first events by which writers change a file, over an image in memory: which chain begins and
+//! which inode is refused, which piece is unmapped, converted, mapped, shared or stripped, what
+//! each event answers, which step is owed next, and how many mappings the file has then.
+//!
+//! Of the tests only their safety is proved.
 #![tactic(auto)]
 
 #[cfg(test)]

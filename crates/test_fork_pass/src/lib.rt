@@ -1,4 +1,5 @@
-//! Tests of the pass over forks, over public calls alone: a new image whose inodes are made by hand.
+//! The pass over the forks of all inodes, over a new image whose inodes are made by hand: what
+//! forks claim by what they map, and the first fork that can't be read.
 #![tactic(auto)]
 
 #[cfg(test)]

@@ -1,5 +1,6 @@
-//! Tests of what is added to a fork's list of mappings, of what of it is made written, of the list in its
-//! inode, and of stretches of reference counts, over public calls alone.
+//! A file's list of mappings with one added, or a piece of it made written: what is joined, what
+//! stays two, the greatest offset and length, refusals; how the list stands in its inode; where a
+//! stretch of one reference count ends.
 #![tactic(auto)]
 
 #[cfg(test)]

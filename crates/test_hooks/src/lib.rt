@@ -1,4 +1,5 @@
-//! Tests of who hears of a scan, and of what a shadow keeps, over public calls alone.
+//! Who hears of a scan, and what its shadow keeps: runs added, cut and joined beside other owners;
+//! changes at random against a plain table; which inodes of a new image a scan comes to.
 #![tactic(auto)]
 
 #[cfg(test)]

@@ -1,4 +1,6 @@
-//! Tests of the notes of writers: each refusal with its code, blocks done, the inode begun, and replies.
+//! Tests of core_notes: the code of each refusal of a writer, which refusals don't count, and what
+//! a reply says of the last one, the blocks done and the inode begun. Expected values are worked
+//! rows.
 #![tactic(auto)]
 
 #[cfg(test)]

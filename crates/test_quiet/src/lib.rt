@@ -1,4 +1,6 @@
-//! Tests of the full check, over public calls alone: images on devices in memory, and what is found.
+//! The full check over devices in memory: each counter and record of inodes changed, each evidence
+//! against inodes, trees that can't be read, refused heads, a core that fails its tests, and a
+//! device that fails at each read.
 #![tactic(auto)]
 
 #[cfg(test)]

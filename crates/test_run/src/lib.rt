@@ -1,5 +1,6 @@
-//! Tests of what no contract says: whole runs over images in memory, and the words that a person
-//! reads.
+//! Whole runs over images in memory: words that ask for nothing, a sound image, faults before their
+//! verdict, each read of a device that may fail, every superblock and head that is refused, redo
+//! files, new images, what is heard of a long check, and each last line with its status.
 #![tactic(auto)]
 
 #[cfg(test)]

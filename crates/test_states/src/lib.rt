@@ -1,4 +1,5 @@
-//! Worked rows: what the definitions give for small images, as equations that hold by computing.
+//! Rows that compute: which state a small image stands for, what its indexes should hold, and which
+//! faults they have. They are equations that try the definitions of fs_state.
 #![tactic(auto)]
 
 mod rows;

@@ -1,5 +1,6 @@
-//! Tests of what no contract says: checks of whole images in memory, unit by unit, with each kind of
-//! fault and of evidence.
+//! Checks of images in memory, unit by unit: free space by start and by count, reference counts,
+//! reverse mappings, inodes and counters, each with a fault more and one less; evidence for which a
+//! unit is given up; trees that can't be read, and trees of two levels.
 #![tactic(auto)]
 
 #[cfg(test)]
