@@ -1,6 +1,6 @@
-//! The open unit of a group: its btrees, read leaf by leaf, and the claims on the group's blocks; the
-//! evidence or the lists that follow, and the comparison with its btrees; and a rebuild: the blocks that
-//! are reserved, the new blocks that are staged on them, and what a switch then writes.
+//! The open unit of a group, from its btrees as they are read leaf by leaf and the claims on the group's
+//! blocks to the evidence and the lists that follow, the comparison with its btrees, and a rebuild: the
+//! blocks that are reserved, the new blocks that are staged on them, and what a switch then writes.
 #![tactic(auto)]
 
 mod choice;

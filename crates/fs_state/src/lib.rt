@@ -1,6 +1,7 @@
-//! What an image of an XFS file system stands for: the plain state, who claims which block of it, what
-//! each index of a group should hold and where it differs from that, and what an event that writes some
-//! blocks leaves as it was.
+//! What an image of an XFS file system stands for: the plain state, who claims which block of it, and
+//! what an event that writes some blocks leaves as it was.
+//! What each index of a group should hold, where it differs from that, and what contradicts the
+//! derivation: definitions over the plain state.
 #![tactic(auto)]
 
 mod derive_laws;
