@@ -10,6 +10,6 @@ fn drill_seven(rt: HostRuntime) {
     let report = "drill 7\nrepaired 2\naccepted 148\nmapped 400\nshared 64\nrebuilt 12\nfaults 0\n";
     for _ in 0..2 {
         let image = small_image(alloc).expect(&rt, MEMORY);
-        expect_run(&rt, alloc, (image, "", &["drill", "7"]), &NoGate, 0, report);
+        let _host = expect_run(&rt, alloc, (image, "", &["drill", "7"]), &NoGate, 0, report);
     }
 }

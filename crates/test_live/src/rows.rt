@@ -14,7 +14,7 @@ fn a_file_is_made_and_removed(rt: HostRuntime) {
         "writer 1\ncreate a 1000\nmap a 0 4\nconvert a 0 4\nshare a 0 2 a 8\nunmap a 8 1\nremove a\n";
     let report =
         "0 inode good\n0 rmap good\n0 free good\n0 refc good\n1 2 0 0\n1 3 0 4\n1 4 0 4\n1 5 0 2\n1 6 0 1\n1 7 0 5\n";
-    expect_run(&rt, alloc, (image, script, &WORDS), &NoGate, 0, report);
+    let _host = expect_run(&rt, alloc, (image, script, &WORDS), &NoGate, 0, report);
 }
 
 #[test]
@@ -24,7 +24,7 @@ fn refusals_have_codes(rt: HostRuntime) {
     let script = "writer 1\ncreate a 0\nmap a 0 2\nmap a 1 2\nunmap a 5 1\nmap b 0 1\n";
     let report =
         "0 inode good\n0 rmap good\n0 free good\n0 refc good\n1 2 0 0\n1 3 0 2\n1 4 2 0\n1 5 3 0\n1 6 1 0\n";
-    expect_run(&rt, alloc, (image, script, &WORDS), &NoGate, 0, report);
+    let _host = expect_run(&rt, alloc, (image, script, &WORDS), &NoGate, 0, report);
 }
 
 #[test]
@@ -32,7 +32,7 @@ fn a_wrong_line_is_named(rt: HostRuntime) {
     let alloc: Global = rt.alloc();
     let image = small_image(alloc).expect(&rt, MEMORY);
     let script = "writer 1\nmap a 0 0\n";
-    expect_run(
+    let _host = expect_run(
         &rt,
         alloc,
         (image, script, &WORDS),
@@ -47,7 +47,7 @@ fn no_script_is_a_fault_of_the_host(rt: HostRuntime) {
     let alloc: Global = rt.alloc();
     let image = small_image(alloc).expect(&rt, MEMORY);
     let words = ["run", "a.img", "--redo", "r", "--script", "t"];
-    expect_run(&rt, alloc, (image, "", &words), &NoGate, 5, "host failed\n");
+    let _host = expect_run(&rt, alloc, (image, "", &words), &NoGate, 5, "host failed\n");
 }
 
 #[test]
@@ -55,7 +55,7 @@ fn a_section_may_be_empty(rt: HostRuntime) {
     let alloc: Global = rt.alloc();
     let image = small_image(alloc).expect(&rt, MEMORY);
     let report = "0 inode good\n0 rmap good\n0 free good\n0 refc good\n";
-    expect_run(
+    let _host = expect_run(
         &rt,
         alloc,
         (image, "writer 16\n", &WORDS),
@@ -70,7 +70,7 @@ fn other_words_go_on(rt: HostRuntime) {
     let alloc: Global = rt.alloc();
     let image = small_image(alloc).expect(&rt, MEMORY);
     let report = "0 inode good\n0 rmap good\n0 free good\n0 refc good\n";
-    expect_run(
+    let _host = expect_run(
         &rt,
         alloc,
         (image, "", &["check", "a.img"]),

@@ -54,7 +54,7 @@ pub(crate) fn report_of<'a>(rt: &impl Abort, host: &'a MemHost) -> &'a str {
     str::from_utf8(host.report.as_slice()).expect(rt, "a report is text")
 }
 
-/// Asserts how a run of these words ends, and what it reports.
+/// Asserts how a run of these words ends, and what it reports; the host then.
 pub(crate) fn expect_run<R: Threads + Wait + Sync + Abort, G: Gate + Sync>(
     rt: &R,
     alloc: Global,
@@ -62,9 +62,10 @@ pub(crate) fn expect_run<R: Threads + Wait + Sync + Abort, G: Gate + Sync>(
     gate: &G,
     status: u8,
     report: &str,
-)
+) -> MemHost
     requires { IsSync R.row }
 {
     let (end, host) = run_with(rt, alloc, run.0, run.1, run.2, gate);
     same(rt, (end.status, report_of(rt, &host)), (status, report));
+    host
 }

@@ -156,3 +156,12 @@ fn an_image_that_is_cut_is_refused(rt: HostRuntime) {
         expect_too_short(&rt, rt.alloc(), size);
     }
 }
+
+#[test]
+fn an_image_that_is_not_there_is_a_fault_of_the_host(rt: HostRuntime) {
+    let mut host = host_of(&rt, rt.alloc(), small_image(rt.alloc()));
+    let words = ["repair", "b.img", "--redo", "b"];
+    expect_run(&rt, rt.alloc(), &mut host, &words, (5, "host failed\n"));
+    let before = small_image(rt.alloc()).expect(&rt, MEMORY);
+    expect_same(&rt, &host, &before, (0, 256));
+}

@@ -127,6 +127,17 @@ pub(crate) fn word_of(host: &MemHost, number: u64, at: usize) -> u32 {
     word_in(&block, at)
 }
 
+/// The number in the four bytes at a place of a block of the host's redo file.
+pub(crate) fn redo_word(host: &MemHost, number: u64, at: usize) -> u32 {
+    match host.redos.get("b") {
+        Some(redo) => match redo.blocks.get(&number) {
+            Some(block) => word_in(block, at),
+            None => 0,
+        },
+        None => 0,
+    }
+}
+
 /// Asserts numbers of four bytes, each with its block and its place there.
 pub(crate) fn expect_words(rt: &impl Abort, host: &MemHost, words: &[(u64, usize, u32)]) {
     for (number, at, wanted) in words {

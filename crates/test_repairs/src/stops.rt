@@ -1,7 +1,7 @@
 //! Repairs of which one call to the device fails: at each, the old root or the new one is there, whole, and a further
 //! repair ends well.
 use crate::files::{emptied, owned_but};
-use crate::runs::{MEMORY, REPAIR, expect_good, host_of, run, word_of};
+use crate::runs::{MEMORY, REPAIR, expect_good, host_of, redo_word, run, word_of};
 use crate::same::same;
 use fresh_image::fresh_block;
 use image_hosts::{MemHost, MemImage};
@@ -81,6 +81,29 @@ fn fails_at(rt: &impl Abort, alloc: Global, row: usize, call: u64) -> bool {
     true
 }
 
+// Whether this call of a repair of free space comes after the copy, in the redo file, of the heads that name the
+// new root: where it fails, the copy is there, or the repair was over.
+fn is_after_copy(rt: &impl Abort, alloc: Global, call: u64) -> bool {
+    let mut host = host_failing(rt, alloc, 0, call);
+    let end: RunEnd = run(rt, alloc, &mut host, &REPAIR);
+    end.status == 0 || redo_word(&host, 2, 528) == 7
+}
+
+// The first call of such a repair that comes after the copy of these heads.
+fn first_after_copy(rt: &impl Abort, alloc: Global) -> u64 {
+    let mut below = 0u64;
+    let mut above = 1024u64;
+    for _ in 0..10u32 {
+        let middle = below.saturating_add(above) / 2;
+        if is_after_copy(rt, alloc, middle) {
+            above = middle;
+        } else {
+            below = middle;
+        }
+    }
+    above
+}
+
 // Fails each second call of a repair in turn, from this one on. Answers how many there are.
 fn fail_each(rt: &impl Abort, alloc: Global, row: usize, first: u64) -> u64 {
     for i in 0..1000u64 {
@@ -89,6 +112,21 @@ fn fail_each(rt: &impl Abort, alloc: Global, row: usize, first: u64) -> u64 {
         }
     }
     1000
+}
+
+// Table and copy are written, and synced; then the gate is.
+#[test]
+fn each_write_of_a_switch_may_fail(rt: HostRuntime) {
+    let first = first_after_copy(&rt, rt.alloc());
+    same(&rt, first > 1 && first < 1000, true);
+    for more in 0..4u64 {
+        let call = first.saturating_sub(1).saturating_add(more);
+        same(
+            &rt,
+            (call, fails_at(&rt, rt.alloc(), 0, call)),
+            (call, true),
+        );
+    }
 }
 
 #[test]

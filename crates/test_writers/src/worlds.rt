@@ -26,13 +26,13 @@ use std::marker::Brand;
 use std::process::Abort;
 use std::sync::ledger::{Blank, Ledger};
 
-const FITS: &str = "memory is there";
+pub(crate) const FITS: &str = "memory is there";
 
 const READS: &str = "it can be read";
 
 // Block 24 with regular files in the places of inodes 195, which has these blocks, and 196, which is
 // empty.
-fn chunk(blocks: &[Stretch], count: u64) -> Block {
+pub(crate) fn chunk(blocks: &[Stretch], count: u64) -> Block {
     let mut block = fresh_block(1, 256, 24);
     let first = Core3 {
         nblocks: count,
@@ -52,13 +52,13 @@ fn chunk(blocks: &[Stretch], count: u64) -> Block {
 }
 
 // A leaf of one of the two inode btrees, with these two inodes taken.
-fn leaf(number: u8) -> Block {
+pub(crate) fn leaf(number: u8) -> Block {
     let block = fresh_block(1, 256, u64::from(number));
     mended(altered(altered(block, 60, 0x0000_403b), 68, 0xffff_ffe0))
 }
 
 // Block 0 of a group with these two inodes taken.
-fn heads(group: &Group) -> Block {
+pub(crate) fn heads(group: &Group) -> Block {
     mended_heads(altered(heads_of(group), 1052, 59))
 }
 
@@ -142,7 +142,7 @@ fn opened<D: Device + Drop, L: Ledger>(
 }
 
 // A core over an image.
-fn core_over<L: Ledger>(
+pub(crate) fn core_over<L: Ledger>(
     rt: &impl Abort,
     alloc: Global,
     image: MemImage,
@@ -176,7 +176,7 @@ fn may_ask(groups: u32, ask: Ask) -> bool
 }
 
 // One event.
-fn asked<D: Device, L: Ledger>(
+pub(crate) fn asked<D: Device, L: Ledger>(
     rt: &impl Abort,
     alloc: Global,
     core: &mut Core<D>,
@@ -218,9 +218,9 @@ fn done<D: Device, L: Ledger>(
         let Some(step) = step_of(next) else {
             return answer;
         };
-        let (answered, behind) = asked(rt, alloc, core, step, steps);
+        let (answered, glance) = asked(rt, alloc, core, step, steps);
         same(rt, answered, Answer::Done);
-        next = behind.next;
+        next = glance.next;
     }
     panic!(rt; "steps end")
 }
@@ -318,7 +318,7 @@ fn left<L: Ledger>(
 }
 
 /// Does these events, each of which is to answer so, on a core over this image, asserts that a scrubber
-/// finds all four units good behind them, and answers the last entry of their journal.
+/// finds all four units good after them, and answers the last entry of their journal.
 pub(crate) fn expect_rows(
     rt: &impl Abort,
     alloc: Global,

@@ -1,64 +1,8 @@
+use super::asks::{begin, convert, end, map, note, refused, share, strip, unmap};
 use super::same::same;
 use super::worlds::{expect_rows, full_file, two_files};
 use core_calls::{Answer, Ask, WriteFault};
 use fs_model::{Entry, EventKind, Refused};
-
-fn begin(first: u64, second: Option<u64>) -> Ask {
-    Ask::Begin {
-        writer: 1,
-        first,
-        second,
-    }
-}
-
-fn map(offset: u64, count: u32) -> Ask {
-    Ask::MapFirst {
-        chain: 0,
-        offset,
-        count,
-    }
-}
-
-fn unmap(offset: u64, count: u32) -> Ask {
-    Ask::UnmapFirst {
-        chain: 0,
-        offset,
-        count,
-    }
-}
-
-fn convert(offset: u64, count: u32) -> Ask {
-    Ask::ConvertFirst {
-        chain: 0,
-        offset,
-        count,
-    }
-}
-
-fn share(offset: u64, to_offset: u64, count: u32) -> Ask {
-    Ask::ShareFirst {
-        chain: 0,
-        offset,
-        to_offset,
-        count,
-    }
-}
-
-fn strip() -> Ask {
-    Ask::StripFirst { chain: 0 }
-}
-
-fn end() -> Ask {
-    Ask::End { chain: 0 }
-}
-
-fn note() -> Ask {
-    Ask::Note { writer: 1, line: 7 }
-}
-
-fn refused(fault: WriteFault) -> Answer {
-    Answer::Write(fault)
-}
 
 #[test]
 fn a_file_is_unmapped_and_stripped(rt: HostRuntime) {
