@@ -4,7 +4,7 @@
     tests/damage_tree.py IMAGE --rows SEED:SINGLES:PAIRS [--groups N]
     tests/damage_tree.py IMAGE --on ROW ..
     tests/damage_tree.py SOUND --damaged IMAGE REPORT
-    tests/damage_tree.py SOUND --kept IMAGE
+    tests/damage_tree.py SOUND --kept IMAGE [-l LOG]
     tests/damage_tree.py IMAGE --model
     tests/damage_tree.py --lines
 
@@ -15,7 +15,7 @@ IMAGE has to report: `same`, or `lost` where a chunk of the sound image isn't to
 up; a line `status N`; and then the lines of REPORT that aren't as they should be. --kept compares a repaired image
 with the sound one, and prints what is wrong: all is good by the model, xfs_db prints the same records of all trees,
 and each inode in use, its forks, the bytes of the blocks that chunks, forks and the log have, and the heads'
-other fields are as before. With --lines each line of standard input has the words of one call; what it prints is
+other fields are as before; -l names to xfs_db a log that is another file. With --lines each line of standard input has the words of one call; what it prints is
 followed by a line `done`, or by one that begins with `failed: `.
 
 A ROW is one of
@@ -424,7 +424,7 @@ def head_faults(before, after):
                     yield f"group {group}: another {of} in {name}"
 
 
-def print_kept(sound, image):
+def print_kept(sound, image, *words):
     before, after = told_of(sound), told_of(image)
     for line in after.lines:
         if line.split(" ")[2] != "good":
@@ -438,7 +438,7 @@ def print_kept(sound, image):
             at = differs(old, new, start, count)
             if at is not None:
                 print(f"block {at} has other bytes")
-    for line in [*head_faults(before.system, after.system), *faults_by_db(image, after)]:
+    for line in [*head_faults(before.system, after.system), *faults_by_db(image, after, words)]:
         print(line)
 
 
@@ -455,9 +455,9 @@ ROOTS = {
 }
 
 
-def records_by_db(path, groups):
-    """The records of each tree of each group, as xfs_db prints them."""
-    words = ["xfs_db", "-r"]
+def records_by_db(path, groups, words):
+    """The records of each tree of each group, as xfs_db prints them that is started with these words."""
+    words = ["xfs_db", "-r", *words]
     for group in range(groups):
         for head, root in ROOTS.values():
             words += ["-c", f"{head} {group}", "-c", f"addr {root}", "-c", "btdump"]
@@ -486,9 +486,9 @@ def as_by_db(name, record):
     return record
 
 
-def faults_by_db(path, told):
-    """What xfs_db reads differently of the trees."""
-    found, complaint = records_by_db(path, told.system.groups)
+def faults_by_db(path, told, words):
+    """What xfs_db reads differently of the trees, started with these words."""
+    found, complaint = records_by_db(path, told.system.groups, words)
     if complaint:
         yield complaint.strip().splitlines()[0]
     trees = [(group, name) for group in told.groups for name in ROOTS]

@@ -77,6 +77,7 @@ start_damages
 few_files
 new_trees
 many_groups
+log_elsewhere
 aged_trees
 for image in "${images[@]}"; do
   used_trees "$image"
@@ -85,6 +86,7 @@ done
 if [ -n "$repairs" ]; then
   large_trees
   lean_trees
+  three_levels
   refused_heads
   stops
   bad_redo_files

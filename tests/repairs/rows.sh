@@ -30,10 +30,13 @@ left_aside='^Phase |^        - |^No modify flag|^Cannot get host filesystem geom
 left_aside+='^the image and the host filesystem|^sb_(icount|ifree|fdblocks|frextents) |^would have reset inode [0-9]+ nlinks'
 left_aside+='|^entry "|^bad (hash|directory)|^would (rebuild|clear) (directory|entry)|^disconnected |^$'
 
+# The words that name to xfs_repair and xfs_db a log that is another file.
+elsewhere=()
+
 # by_xfs_repair IMAGE: what xfs_repair -n says of heads and trees is in $said_of.
 by_xfs_repair() {
-  local told=()
-  [ "$group_count" != 1 ] || told=(-o force_geometry)
+  local told=("${elsewhere[@]}")
+  [ "$group_count" != 1 ] || told+=(-o force_geometry)
   said_of=$(xfs_repair -n "${told[@]}" "$1" 2>&1 </dev/null | grep -vE "$left_aside")
 }
 
@@ -60,7 +63,7 @@ whole() {
   why=()
   found=$("$program" check "$image" 2>stderr </dev/null)
   [ "$? $found" = "0 $(goods)" ] || why+=('a check finds:' "$found" "$(head -n 3 stderr)")
-  tool sound.img --kept "$image"
+  tool sound.img --kept "$image" "${elsewhere[@]}"
   why+=("${answered[@]}")
   by_xfs_repair "$image"
   [ -z "$said_of" ] || why+=('xfs_repair -n says:' "$said_of")
@@ -208,6 +211,20 @@ many_groups() {
   rows 5 2 4
 }
 
+# An image whose log is another file, which stays as it was.
+log_elsewhere() {
+  prototype
+  group_count=3
+  real 'a log elsewhere' 48M -m "$required,inobtcount=0" -l logdev=log.img -d agcount=3 -p prototype || return
+  elsewhere=(-l log.img)
+  copy log.img sound.log
+  begin 'a log elsewhere'
+  rows 4 1 2
+  cmp -s sound.log log.img
+  verdict "$built: the log is as it was" $?
+  elsewhere=()
+}
+
 # Images in which files were taken out and blocks shared, with trees of more than one leaf.
 aged_trees() {
   local name
@@ -270,6 +287,26 @@ lean_trees() {
   [ "$ended $(cat said)" = "0 $(goods | sed 's/good$/rebuilt/')" ]
   verdict 'lean trees are rebuilt' $? "found status $ended:" "$(cat said)"
   all_good 'lean trees are good' real.img
+}
+
+# highest TREE: the highest level of a tree of group 0 of real.img, counted from 0.
+highest() {
+  make_image real.img --on --tree "0:$1" && lines "${printed[@]}" | sed -n '$s/ .*//p'
+}
+
+# Reverse mappings of three levels, a node of which can't be read: the new btree has three levels too.
+three_levels() {
+  group_count=1
+  make_image three.img --groups 1 --blocks 40000 --pieces 15600 --half && copy three.img real.img || {
+    verdict 'three levels' 1 "${printed[@]}"
+    return
+  }
+  rm -f redo
+  tool real.img --on 0:rmap:byte:1:0:70
+  repair real.img
+  [ "$ended $(highest rmap) $(tail -n 1 said)" = '0 2 0 refc good' ]
+  verdict 'three levels are repaired' $? "found status $ended, level $(highest rmap):" "$(tail -n 4 said)"
+  all_good 'three levels are good' real.img
 }
 
 # A head that is refused, in the group that isn't the first.
