@@ -1,11 +1,12 @@
 // Whether a run has another owner, by the records of reverse mappings that have a block of it.
-ghost use Rattle.std.specs.Prelude.{◌≡◌, ◌<◌};
+ghost use Rattle.std.specs.Prelude.{◌≡◌, ◌<◌, IfOk};
 ghost use Rattle.blk_device.specs.Causes.{HasCause};
 ghost use Rattle.tree_blocks.specs.Reading.{is_failed};
 ghost use Rattle.core_edit.specs.Open.{is_device};
 ghost use Rattle.sblock.specs.declared.kind.Kind.TheVariants.{Rmap};
 ghost use Rattle.core_edit.specs.Ready.{IsReady};
 ghost use Rattle.core_edit.specs.Opened.{EditsStore};
+ghost use Rattle.core_edit.specs.Owned.{IsAloneIn, IsFirstIn, Shows, ShowsIn, WhereAlone, rmap_in};
 
 use crate::place::EditPlace;
 use crate::{Stop, Store};
@@ -28,7 +29,7 @@ pub(crate) enum Owners {
     Met(Cause),
 }
 
-// What the next record over a run tells.
+// What the next record over a run shows.
 #[derive(Clone, Copy)]
 enum Over {
     Known(Owners),
@@ -39,6 +40,7 @@ enum Over {
 fn rmap_tree(place: &EditPlace) -> TreeAt
     ensures kind { result.kind ≡ Rmap }
     ensures group { result.group ≡ place.now.group }
+    ensures is { result ≡ rmap_in place.now }
 {
     TreeAt {
         kind: Kind::Rmap,
@@ -49,8 +51,10 @@ fn rmap_tree(place: &EditPlace) -> TreeAt
     }
 }
 
-// What a record over a run, or the lack of one, tells.
-fn told_by(found: Option<RmapRec>, run: &LimboRun) -> Over {
+// What a record over a run, or the lack of one, shows.
+fn told_by(found: Option<RmapRec>, run: &LimboRun) -> Over
+    ensures { Shows run.now result found }
+{
     match found {
         None => Over::Known(Owners::Alone),
         Some(rec) => {
@@ -76,6 +80,7 @@ fn record_over<D: Device, L: Ledger>(
     ensures edits { EditsStore D.Device store.old store.new steps.old steps.new }
     ensures edit { store.new.edit ≡ store.old.edit }
     ensures cause { HasCause is_failed (D.faults store.old.dev) (D.faults store.new.dev) result }
+    ensures first { IfOk result (IsFirstIn D.Device store.old place.now run.now after) }
 {
     let tree = rmap_tree(place);
     let asked = Run {
@@ -93,7 +98,7 @@ fn record_over<D: Device, L: Ledger>(
     )
 }
 
-// What the first record over a run tells, of those above a key.
+// What the first record over a run shows, of those above a key.
 fn next_over<D: Device, L: Ledger>(
     store: &mut Store<D>,
     place: &EditPlace,
@@ -106,6 +111,7 @@ fn next_over<D: Device, L: Ledger>(
     ensures edits { EditsStore D.Device store.old store.new steps.old steps.new }
     ensures edit { store.new.edit ≡ store.old.edit }
     ensures cause { HasCause is_device (D.faults store.old.dev) (D.faults store.new.dev) result }
+    ensures over { IfOk result (ShowsIn D.Device store.old place.now run.now after) }
 {
     match record_over(store, place, run, after, steps) {
         Ok(found) => Ok(told_by(found, run)),
@@ -119,8 +125,9 @@ fn next_over<D: Device, L: Ledger>(
     }
 }
 
-/// Who has blocks of a run, by the tree of reverse mappings that the kept heads name. A bad block that is
-/// met is told as the cause; the edit that is open isn't looked at.
+/// Who has blocks of a run, by the tree of reverse mappings that the kept heads name: its owner alone,
+/// where no record of another one has a block of it. A bad block that is met is told as the cause; the
+/// edit that is open isn't looked at.
 pub(crate) fn owners_over<D: Device, L: Ledger>(
     store: &mut Store<D>,
     place: &EditPlace,
@@ -132,6 +139,7 @@ pub(crate) fn owners_over<D: Device, L: Ledger>(
     ensures edits { EditsStore D.Device store.old store.new steps.old steps.new }
     ensures edit { store.new.edit ≡ store.old.edit }
     ensures cause { HasCause is_device (D.faults store.old.dev) (D.faults store.new.dev) result }
+    ensures alone { IfOk result (WhereAlone (IsAloneIn D.Device store.old place.now run.now)) }
 {
     let mut after = None;
     for _ in 0..u64::MAX {

@@ -1,9 +1,10 @@
 // A run that is reaped from limbo.
-ghost use Rattle.std.specs.Prelude.{◌≡◌, ◌<◌, OnOk};
+ghost use Rattle.std.specs.Prelude.{◌≡◌, ◌<◌, IfOk, OnOk};
 ghost use Rattle.blk_device.specs.Causes.{HasCause};
 ghost use Rattle.core_edit.specs.Open.{is_device};
 ghost use Rattle.core_edit.specs.Ready.{IsReady, KeepsStore};
 ghost use Rattle.core_edit.specs.Opened.{EditsStore, IsOpen};
+ghost use Rattle.core_edit.specs.Owned.{IsAloneIn, IsOwned, WhereFreed};
 
 use crate::edits::{begin, cut_owner, give_space};
 use crate::owners::{Owners, owners_over};
@@ -85,6 +86,7 @@ fn reap_owned<D: Device, L: Ledger>(
     ensures opened { IsOpen D.Device place.now.group store.new }
     ensures edits { EditsStore D.Device store.old store.new steps.old steps.new }
     ensures cause { HasCause is_device (D.faults store.old.dev) (D.faults store.new.dev) result }
+    ensures owned { IfOk result IsOwned }
 {
     let rmap = cut_run(alloc, store, place, run, steps)?;
     Ok(Reap::Done {
@@ -127,7 +129,8 @@ fn reap_alone<D: Device, L: Ledger>(
 /// Opens an edit of the group and reaps a run of one owner from limbo, where reverse mappings are good:
 /// the owner leaves it there, also where a fault leaves them, and the run goes to both indexes of free
 /// space, but not where one of them is sick or another owner has a block of it. A bad block that is met
-/// while owners are asked is the answer, and then nothing is changed
+/// while owners are asked is the answer, and then nothing is changed. Where the answer is that no other
+/// owner was found, no record of reverse mappings gives a block of the run to one
 /// (XFS Online Fsck Design, "Reaping After Repairing Ondisk Metadata").
 pub fn reap_run<D: Device, L: Ledger>(
     alloc: Global,
@@ -143,6 +146,7 @@ pub fn reap_run<D: Device, L: Ledger>(
     ensures opened { OnOk result (IsOpen D.Device place.now.group store.new) }
     ensures edits { EditsStore D.Device store.old store.new steps.old steps.new }
     ensures cause { HasCause is_device (D.faults store.old.dev) (D.faults store.new.dev) result }
+    ensures alone { IfOk result (WhereFreed (IsAloneIn D.Device store.old place.now run.now)) }
 {
     begin(store, place, steps)?;
     match owners_over(store, place, run, steps)? {

@@ -1,3 +1,6 @@
+use Rattle.std.proofs.Common.{ap}
+use Rattle.geom.specs.Places.{layout}
+use Rattle.core_edit.proofs.OwnedLemmas.{alone_at, alone_freed, owned_freed}
 use Rattle.core_edit.proofs.UnitLemmas.{edits_on, group_after, keeps_after, ready_after}
 use Rattle.core_edit.proofs.reap.reap_run.Goals as goal
 
@@ -105,3 +108,12 @@ pub returns-in-Met-clause-keeps : goal.returns-in-Met-clause-keeps
 returns-in-Met-clause-keeps g c =
     let met = g.met.D.Device in
     keeps_after g.D.Device c.args.store.now c.owners_over.new.store c.args.steps.now c.owners_over.new.steps (edits_on g.D.Device met.only_now met.counts_now c.args.store.now c.begin.new.store c.owners_over.new.store c.args.steps.now c.begin.new.steps c.owners_over.new.steps (c.begin.ensures.edits) (c.owners_over.ensures.edits))
+
+pub returns-in-Other-clause-alone : goal.returns-in-Other-clause-alone
+returns-in-Other-clause-alone g c = owned_freed _ c.reap_owned.result c.reap_owned.ensures.owned
+
+pub returns-in-Alone-clause-alone : goal.returns-in-Alone-clause-alone
+returns-in-Alone-clause-alone g c =
+    alone_freed _ c.reap_alone.result
+    (alone_at (layout c.args.store.now.geo) (layout c.begin.new.store.geo) c.args.place.now c.args.run.now (g.D.Device.content c.args.store.now.dev) (g.D.Device.content c.begin.new.store.dev) c.in_ok-cause.field-0
+    (ap layout c.begin.ensures.edits.geometry) c.begin.ensures.edits.left.same c.in-Alone.is c.in_ok-cause.ensures.alone)
