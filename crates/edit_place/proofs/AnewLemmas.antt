@@ -9,7 +9,7 @@ use Rattle.tree_defs.specs.declared.site.Site.{Site}
 use Rattle.tree_edit.specs.Edited.{IsEdited}
 use Rattle.tree_edit.specs.Prepared.{Held}
 use Rattle.tree_edit.proofs.BlockLemmas.{in_either, in_first, in_rest}
-use Rattle.edit_place.specs.Changed.{IsChanged}
+use Rattle.edit_place.specs.Changed.{IsChanged, IsSettled}
 use Rattle.edit_place.proofs.NumberLemmas.{where_in, moved_back}
 
 module _ {R K : Type 0} (form : Form R K) (site : Site) (how : Edit) (rec : R) (lsn : ℕ) (told : Option Contents) (old new : Held) (edit : IsEdited form site how rec lsn told old new) where
@@ -21,26 +21,32 @@ module _ {R K : Type 0} (form : Form R K) (site : Site) (how : Edit) (rec : R) (
         | inr none ↦ ap is_some (edit.others at (λ b there same. elim there [ inl x ↦ none b (in_first b edit.before edit.taken x) same | inr y ↦ none b (in_rest b edit.before edit.taken y) same ])) ∙ was
       ]
 
+  anew_is_settled : IsSettled old new
+  anew_is_settled = record {
+    taken = edit.taken;
+    kept = edit.kept;
+    left = edit.left;
+    front = edit.front;
+    list = edit.list;
+    limbo = edit.limbo;
+    marked = edit.marked;
+    stay = stays;
+    room = omega (arith, edit.count, edit.room);
+  }
+
   pub anew_is_changed : IsChanged form site how rec lsn told old new
+  unfolding anew_is_settled
   anew_is_changed = record {
+    settled = anew_is_settled;
     recs = edit.recs;
     records = edit.records;
     before = edit.before;
     after = edit.after;
-    taken = edit.taken;
-    kept = edit.kept;
-    left = edit.left;
     edits = edit.edits;
     was = edit.was;
     is = edit.is;
-    front = edit.front;
-    list = edit.list;
-    limbo = edit.limbo;
     once = edit.once;
     others = edit.others;
-    marked = edit.marked;
-    stay = stays;
-    room = omega (arith, edit.count, edit.room);
     stamped = edit.stamped;
     left_stays = edit.left_stays;
   }

@@ -1,3 +1,4 @@
+pub mod AlongLemmas
 pub mod AnewLemmas
 pub mod DeviceLemmas
 pub mod NumberLemmas

@@ -15,6 +15,7 @@ use Rattle.tree_defs.specs.Sites.{group_blocks}
 use Rattle.tree_defs.specs.Tree.{read_tree}
 use Rattle.tree_defs.specs.declared.site.Site.{Site}
 use Rattle.tree_blocks.specs.declared.tree.TreeAt.{TreeAt}
+use Rattle.tree_walk.specs.Trails.{LieInside}
 use Rattle.tree_blocks.proofs.ReadingLemmas.{told as is_told}
 use Rattle.join_blocks.specs.Joins.{is_joined, placed_in}
 use Rattle.join_blocks.proofs.PutLemmas.{puts_others}
@@ -26,7 +27,7 @@ use Rattle.draft_check.proofs.DraftLemmas.{keeps_joined, puts_stamped, read_join
 use Rattle.tree_edit.specs.Prepared.{Held, held}
 use Rattle.tree_edit.proofs.EditLemmas.{put_below}
 use Rattle.tree_edit.proofs.BlockLemmas.{lie_of_inside}
-use Rattle.edit_place.specs.Changed.{IsChanged}
+use Rattle.edit_place.specs.Changed.{IsChanged, IsSettled}
 use Rattle.edit_place.specs.Checked.{HasBlocks, IsChecked}
 use Rattle.edit_place.specs.Placed.{IsPlaced}
 use Rattle.edit_place.proofs.NumberLemmas.{in_or_not, moved}
@@ -37,6 +38,25 @@ same_read form site m root root' levels levels' read at tall is =
     ap (λ (r : ℕ). read_tree form site m r levels') at
     ∙ ap (λ (l : ℕ). read_tree form site m root l) tall
     ∙ is
+
+module _ (site : Site) (draft : Draft) (old new : Held) (p : IsPlaced site.first draft old new) where
+  -- what is joined is below the image's size, where it was
+  pub place_is_below : LieInside site.bounds.length (placed_in draft.placed.items) → (size : ℕ) → site.first + site.bounds.length ≤ size → AreBelow size old.joined.blocks → AreBelow size new.joined.blocks
+  place_is_below inside size room below =
+      subst (AreBelow size) (sym p.joined) (put_below size site.first draft.placed.items old.joined.blocks below (lie_of_inside size site.first site.bounds.length (placed_in draft.placed.items) room inside))
+
+  pub place_is_settled : IsSettled old new
+  place_is_settled = record {
+    taken = take draft.taken old.listed;
+    kept = drop draft.taken old.listed;
+    left = draft.freed.items;
+    front = sym (take-append-drop draft.taken old.listed);
+    list = p.list;
+    limbo = p.limbo;
+    marked = p.marked;
+    stay = λ at was. ap (λ (ps : Batch). is_joined ps at) p.joined ∙ keeps_joined site.first at draft.placed.items old.joined.blocks was;
+    room = p.room;
+  }
 
 module _ {R K : Type 0} (form : Form R K) (ask : Ask R) (tree : TreeAt) (txn : Joined) (listed limbo : List ℕ) (about : Option Contents) (draft : Draft) where
   abbrev old_held : Held
@@ -64,14 +84,13 @@ module _ {R K : Type 0} (form : Form R K) (ask : Ask R) (tree : TreeAt) (txn : J
         ]
 
     pub place_is_changed : IsChanged form ask.site ask.how ask.rec tree.lsn about old_held new
+    unfolding place_is_settled
     place_is_changed = record {
+      settled = place_is_settled ask.site draft old_held new p;
       recs = k.recs;
       records = k.records;
       before = k.before;
       after = k.after;
-      taken = take draft.taken listed;
-      kept = drop draft.taken listed;
-      left = draft.freed.items;
       edits = k.edits;
       was = is_told about _ (λ c e. k.was (group_blocks ask.site (written (c Image) txn)) (ap (changed ask.site txn) e));
       is = is_told about _ (λ c e all_written.
@@ -79,14 +98,8 @@ module _ {R K : Type 0} (form : Form R K) (ask : Ask R) (tree : TreeAt) (txn : J
           let read = k.is m (ap (changed ask.site txn) e) in
           let joined = read_joined form ask.site (c Image) draft.placed.items txn new.joined draft.root draft.levels (Ok (k.records, k.after)) p.joined read in
           (k.after, same_read form ask.site (group_blocks ask.site (written (c Image) new.joined)) draft.root new.root draft.levels new.levels (Ok (k.records, k.after)) p.root p.levels joined, λ b. refl));
-      front = sym (take-append-drop draft.taken listed);
-      list = p.list;
-      limbo = p.limbo;
       once = k.has.once;
       others = λ at none. ap (bytes_at at) p.joined ∙ puts_others ask.site.first at draft.placed.items txn.blocks (λ b there same. none b (k.has.own b there) same);
-      marked = p.marked;
-      stay = λ at was. ap (λ (ps : Batch). is_joined ps at) p.joined ∙ keeps_joined ask.site.first at draft.placed.items txn.blocks was;
-      room = p.room;
       stamped = λ b there. elim (in_or_not b (placed_in draft.placed.items)) [
         | inl made ↦ inl (
             let s = puts_stamped ask.site.first tree.lsn draft.placed.items txn.blocks b k.has.stamped made in
@@ -95,11 +108,6 @@ module _ {R K : Type 0} (form : Form R K) (ask : Ask R) (tree : TreeAt) (txn : J
       ];
       left_stays = λ b there. same_written b (k.has.apart b there);
     }
-
-    -- what is joined is below the image's size, where it was
-    pub place_is_below : (size : ℕ) → ask.site.first + ask.site.bounds.length ≤ size → AreBelow size txn.blocks → AreBelow size new.joined.blocks
-    place_is_below size room below =
-        subst (AreBelow size) (sym p.joined) (put_below size ask.site.first draft.placed.items txn.blocks below (lie_of_inside size ask.site.first ask.site.bounds.length (placed_in draft.placed.items) room k.inside))
 
 -- what the comparisons say of the draft's blocks
 pub has_all : (lsn : ℕ) (before taken after : List ℕ) (draft : Draft) (own_of all_of apart_of stamped_of : List (ℕ × Block)) (apart_from left : List ℕ) → own_of ≡ draft.placed.items → all_of ≡ draft.placed.items → apart_of ≡ draft.placed.items → stamped_of ≡ draft.placed.items → apart_from ≡ draft.freed.items → left ≡ draft.freed.items

@@ -1,5 +1,5 @@
 -- A draft of an edited tree, compared with the edited list and with the blocks that it may have.
-use Rattle.std.specs.Prelude.{◌≡◌, ℕ, ◌+◌, ◌≤◌, ◌⊎◌, List, length, take, Option, Result, Ok}
+use Rattle.std.specs.Prelude.{◌≡◌, ℕ, ◌+◌, ◌≤◌, ◌⊎◌, Bool, true, List, length, take, Option, Result, Ok}
 use Rattle.blk_device.specs.Contents.{Contents}
 use Rattle.ag_headers.specs.Ring.{FreeRing, entries}
 use Rattle.meta_txn.specs.Joined.{Joined}
@@ -18,6 +18,7 @@ use Rattle.over_blocks.specs.Over.{over}
 use Rattle.over_blocks.specs.declared.draft.Draft.{Draft}
 use Rattle.place_plan.specs.declared.ask.Ask.{Ask}
 use Rattle.draft_check.specs.Drafts.{AreStamped}
+use Rattle.way_check.specs.Checks.{IsMade}
 
 -- The tree's blocks are those that it had and those that it takes, less those that it frees. Those
 -- that are made are of these, each that it takes is made and none that it frees, and each has the
@@ -33,7 +34,22 @@ pub record HasBlocks (lsn : ℕ) (before taken after : List ℕ) (draft : Draft)
 abbrev pub reads_draft : {R K : Type 0} → Form R K → Site → Draft → (ℕ → List ℕ) → Result (List R × List ℕ) (ℕ × BlockFault)
 reads_draft form site draft m = read_tree form site (over draft.placed.items m) draft.root draft.levels
 
+-- a draft takes no more than is listed, and each block that it made is one of the group
+pub record IsWithin (size : ℕ) (listed : List ℕ) (draft : Draft) : Type 0 where
+  pub few : draft.taken ≤ length listed
+  pub inside : LieInside size (placed_in draft.placed.items)
+
 module _ {R K : Type 0} (form : Form R K) (ask : Ask R) where
+  -- the tree is readable, where its blocks are told
+  abbrev pub IsReadable : TreeAt → Option (ℕ → List ℕ) → Type 0
+  IsReadable tree told = WhereTold told (λ m. (recs : List R) × (blocks : List ℕ) × (read_tree form ask.site m tree.root tree.levels ≡ Ok (recs, blocks)))
+
+  -- The draft was made along the edit's way alone, of the tree's own blocks.
+  pub record IsAlong (tree : TreeAt) (told : Option (ℕ → List ℕ)) (listed : List ℕ) (draft : Draft) : Type 0 where
+    pub made : IsMade form ask tree told draft
+    pub stamped : AreStamped tree.lsn draft.placed.items
+    pub within : IsWithin ask.site.bounds.length listed draft
+
   -- The tree is read, and the draft, over the same blocks, with the edited list.
   pub record IsChecked (tree : TreeAt) (told : Option (ℕ → List ℕ)) (listed : List ℕ) (draft : Draft) : Type 0 where
     pub recs : List R
@@ -47,6 +63,10 @@ module _ {R K : Type 0} (form : Form R K) (ask : Ask R) where
     pub has : HasBlocks tree.lsn before (take draft.taken listed) after draft
     pub inside : LieInside ask.site.bounds.length (placed_in draft.placed.items)
 
+  -- so it is where the tree is readable, if that is what the caller knows
+  abbrev pub IsCheckedIf : Bool → TreeAt → Option (ℕ → List ℕ) → List ℕ → Draft → Type 0
+  IsCheckedIf known tree told listed draft = (known ≡ true → IsReadable tree told) → IsChecked tree told listed draft
+
   -- the same, of the blocks that are read through a transaction
-  abbrev pub Checks : TreeAt → Joined → Option Contents → FreeRing → Draft → Type 0
-  Checks tree txn told list draft = IsChecked tree (changed ask.site txn told) (entries list) draft
+  abbrev pub Checks : Bool → TreeAt → Joined → Option Contents → FreeRing → Draft → Type 0
+  Checks known tree txn told list draft = IsCheckedIf known tree (changed ask.site txn told) (entries list) draft

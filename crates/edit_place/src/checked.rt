@@ -1,5 +1,5 @@
 // An edit of a tree in memory, and whether it is what it must be.
-ghost use Rattle.std.specs.Prelude.{◌≡◌, ◌≤◌, ℕ, List, Ok, IfOk, true, length, take};
+ghost use Rattle.std.specs.Prelude.{◌≡◌, ◌≤◌, ℕ, List, Ok, IfOk, IfSome, true, length, take};
 ghost use Rattle.ag_headers.specs.Ring.{entries};
 ghost use Rattle.blk_device.specs.Causes.{HasCause};
 ghost use Rattle.list_edit.specs.Edits.{edited};
@@ -7,7 +7,8 @@ ghost use Rattle.tree_blocks.specs.Calls.{Reads};
 ghost use Rattle.tree_blocks.specs.Reading.{is_failed as is_walks};
 ghost use Rattle.tree_blocks.specs.Told.{WhereTold};
 ghost use Rattle.tree_walk.specs.Meets.{MeetsTree};
-ghost use Rattle.edit_place.specs.Checked.{HasBlocks, IsChecked, reads_draft};
+ghost use Rattle.edit_place.specs.Checked.{HasBlocks, IsAlong, IsChecked, IsCheckedIf};
+ghost use Rattle.edit_place.specs.Checked.{IsReadable, IsWithin, reads_draft};
 ghost use Rattle.edit_place.specs.Stops.{is_failed};
 
 use crate::stop::Stop;
@@ -23,6 +24,7 @@ use std::alloc::{AllocError, Global};
 use tree_blocks::{Blocks, TreeAt, TreeRead, WalkFault};
 use tree_defs::Site;
 use tree_walk::walk_site;
+use way_check::is_made;
 
 // The records and blocks of a tree that was made in memory, or its first fault.
 fn walk_draft<K: RecKind, B: Blocks>(
@@ -83,9 +85,32 @@ fn has_blocks(
     are_moved(alloc, before, taken, after, freed)
 }
 
-// The tree edited in memory, where that is the edited list in blocks that it may have; the blocks
-// are only read.
-pub(crate) fn checked<K: RecKind, B: Blocks>(
+// The tree edited in memory, if the blocks on the edit's way alone tell that it is the edit of a tree
+// that is readable; the blocks are only read.
+fn along<K: RecKind, B: Blocks>(
+    alloc: Global,
+    blocks: &mut B,
+    ask: &Ask<K::Rec>,
+    tree: &TreeAt,
+    list: &Agfl,
+) -> Result<Option<Draft>, Stop>
+    requires here { B.place blocks.old ≡ ask.now.site }
+    ensures along { IfOk result (λ found. IfSome found (
+        IsAlong K.form ask.now tree.now (B.told blocks.old) (entries list.now))) }
+    ensures reading { Reads B.Blocks blocks.old blocks.new }
+    ensures cause { HasCause is_failed (B.faults blocks.old) (B.faults blocks.new) result }
+{
+    let draft = apply::<K, B>(alloc, blocks, ask, tree, list)?;
+    let made = is_made::<K, B>(blocks, ask, tree, &draft)?;
+    if !made || !are_stamped(&draft.placed, tree.lsn) {
+        return Ok(None);
+    }
+    Ok(Some(draft))
+}
+
+// The tree edited in memory, where that is the edited list in blocks that it may have: the tree is
+// read whole, before and afterwards. The blocks are only read.
+fn compared<K: RecKind, B: Blocks>(
     alloc: Global,
     blocks: &mut B,
     ask: &Ask<K::Rec>,
@@ -95,6 +120,7 @@ pub(crate) fn checked<K: RecKind, B: Blocks>(
     requires here { B.place blocks.old ≡ ask.now.site }
     ensures checked { IfOk result (
         IsChecked K.form ask.now tree.now (B.told blocks.old) (entries list.now)) }
+    ensures within { IfOk result (IsWithin ask.now.site.bounds.length (entries list.now)) }
     ensures reading { Reads B.Blocks blocks.old blocks.new }
     ensures cause { HasCause is_failed (B.faults blocks.old) (B.faults blocks.new) result }
 {
@@ -110,4 +136,49 @@ pub(crate) fn checked<K: RecKind, B: Blocks>(
         return Err(Stop::Unfit);
     }
     Ok(draft)
+}
+
+// The same, of a tree that is readable: along the edit's way alone, where that tells enough.
+fn looked<K: RecKind, B: Blocks>(
+    alloc: Global,
+    blocks: &mut B,
+    ask: &Ask<K::Rec>,
+    tree: &TreeAt,
+    list: &Agfl,
+) -> Result<Draft, Stop>
+    requires here { B.place blocks.old ≡ ask.now.site }
+    ensures checked { IfOk result (λ draft.
+        IsReadable K.form ask.now tree.now (B.told blocks.old) →
+        IsChecked K.form ask.now tree.now (B.told blocks.old) (entries list.now) draft) }
+    ensures within { IfOk result (IsWithin ask.now.site.bounds.length (entries list.now)) }
+    ensures reading { Reads B.Blocks blocks.old blocks.new }
+    ensures cause { HasCause is_failed (B.faults blocks.old) (B.faults blocks.new) result }
+{
+    let found = along::<K, B>(alloc, blocks, ask, tree, list)?;
+    match found {
+        Some(draft) => Ok(draft),
+        None => compared::<K, B>(alloc, blocks, ask, tree, list),
+    }
+}
+
+// The tree edited in memory, where it may be known to be readable; the blocks are only read.
+pub(crate) fn checked<K: RecKind, B: Blocks>(
+    alloc: Global,
+    blocks: &mut B,
+    ask: &Ask<K::Rec>,
+    tree: &TreeAt,
+    list: &Agfl,
+    known: bool,
+) -> Result<Draft, Stop>
+    requires here { B.place blocks.old ≡ ask.now.site }
+    ensures checked { IfOk result (
+        IsCheckedIf K.form ask.now known tree.now (B.told blocks.old) (entries list.now)) }
+    ensures within { IfOk result (IsWithin ask.now.site.bounds.length (entries list.now)) }
+    ensures reading { Reads B.Blocks blocks.old blocks.new }
+    ensures cause { HasCause is_failed (B.faults blocks.old) (B.faults blocks.new) result }
+{
+    if known {
+        return looked::<K, B>(alloc, blocks, ask, tree, list);
+    }
+    compared::<K, B>(alloc, blocks, ask, tree, list)
 }

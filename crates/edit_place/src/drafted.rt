@@ -1,11 +1,12 @@
 // An edit of a tree in memory, read through a transaction, with room for its blocks.
 ghost use Rattle.std.specs.Prelude.{◌≡◌, ◌+◌, ◌*◌, ◌^◌, ◌<◌, ◌≤◌, true, IfOk};
+ghost use Rattle.ag_headers.specs.Ring.{entries};
 ghost use Rattle.blk_cache.specs.Cache.{AgreesTold};
 ghost use Rattle.blk_device.specs.Causes.{HasCause};
 ghost use Rattle.blk_device.specs.Reading.{OnlyRead};
 ghost use Rattle.blk_device.specs.declared.device.Region.TheVariants.{Image};
 ghost use Rattle.join_blocks.specs.Joins.{placed_in, LieBelow};
-ghost use Rattle.edit_place.specs.Checked.{Checks};
+ghost use Rattle.edit_place.specs.Checked.{Checks, IsWithin};
 ghost use Rattle.edit_place.specs.Placed.{HaveRoom};
 ghost use Rattle.edit_place.specs.Stops.{is_failed};
 
@@ -57,13 +58,15 @@ fn through<K: RecKind, D: Device, L: Ledger>(
     ask: &Ask<K::Rec>,
     tree: &TreeAt,
     list: &Agfl,
+    known: bool,
     steps: &mut Steps<L>,
 ) -> Result<Draft, Stop>
     requires room { ask.now.site.first + ask.now.site.bounds.length ≤ D.blocks dev.old Image }
     requires fits { 8 * (ask.now.site.first + ask.now.site.bounds.length) < 2 ^ 64 }
     requires agreed { AgreesTold cache.old (D.content dev.old) }
     ensures checked { IfOk result (
-        Checks K.form ask.now tree.now txn.old (D.content dev.old) list.now) }
+        Checks K.form ask.now known tree.now txn.old (D.content dev.old) list.now) }
+    ensures within { IfOk result (IsWithin ask.now.site.bounds.length (entries list.now)) }
     ensures txn { txn.new ≡ txn.old }
     ensures reading { OnlyRead D.Device dev.old dev.new steps.old steps.new }
     ensures cause { HasCause is_failed (D.faults dev.old) (D.faults dev.new) result }
@@ -76,7 +79,7 @@ fn through<K: RecKind, D: Device, L: Ledger>(
         site: ask.site,
         steps,
     };
-    checked::<K, Edited<D, L>>(alloc, &mut blocks, ask, tree, list)
+    checked::<K, Edited<D, L>>(alloc, &mut blocks, ask, tree, list, known)
 }
 
 // The draft of the edit, for whose blocks the transaction has room; nothing is changed.
@@ -88,13 +91,15 @@ pub(crate) fn drafted<K: RecKind, D: Device, L: Ledger>(
     ask: &Ask<K::Rec>,
     tree: &TreeAt,
     list: &Agfl,
+    known: bool,
     steps: &mut Steps<L>,
 ) -> Result<Draft, Stop>
     requires room { ask.now.site.first + ask.now.site.bounds.length ≤ D.blocks dev.old Image }
     requires fits { 8 * (ask.now.site.first + ask.now.site.bounds.length) < 2 ^ 64 }
     requires agreed { AgreesTold cache.old (D.content dev.old) }
     ensures checked { IfOk result (
-        Checks K.form ask.now tree.now txn.old (D.content dev.old) list.now) }
+        Checks K.form ask.now known tree.now txn.old (D.content dev.old) list.now) }
+    ensures within { IfOk result (IsWithin ask.now.site.bounds.length (entries list.now)) }
     ensures few { IfOk result (λ draft.
         HaveRoom txn.old ask.now.site.first draft.placed.items) }
     ensures txn { txn.new ≡ txn.old }
@@ -102,7 +107,7 @@ pub(crate) fn drafted<K: RecKind, D: Device, L: Ledger>(
     ensures cause { HasCause is_failed (D.faults dev.old) (D.faults dev.new) result }
     ensures agrees { AgreesTold cache.new (D.content dev.new) }
 {
-    let draft = through::<K, D, L>(alloc, dev, cache, txn, ask, tree, list, steps)?;
+    let draft = through::<K, D, L>(alloc, dev, cache, txn, ask, tree, list, known, steps)?;
     if !has_room(alloc, txn, ask.site.first, &draft.placed)? {
         return Err(Stop::Unfit);
     }

@@ -9,6 +9,6 @@ mod edits;
 mod place;
 mod stop;
 
-pub use edits::edit;
+pub use edits::{edit, edit_along};
 pub use list_edit::Edit;
 pub use tree_edit::EditFault;

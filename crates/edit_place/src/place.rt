@@ -11,7 +11,7 @@ ghost use Rattle.join_blocks.specs.Joins.{placed_in, LieBelow};
 ghost use Rattle.meta_txn.specs.Joined.{AreBelow};
 ghost use Rattle.tree_edit.specs.Faults.{is_devices};
 ghost use Rattle.tree_edit.specs.Stays.{StaySame};
-ghost use Rattle.edit_place.specs.Calls.{Changes};
+ghost use Rattle.edit_place.specs.Calls.{ChangesIf, Settles};
 ghost use Rattle.edit_place.specs.Placed.{HaveRoom, Places, StayAll, StayBut, untaken};
 
 use crate::drafted::drafted;
@@ -69,7 +69,7 @@ fn put<D: Device, L: Ledger>(
 }
 
 // Edits the tree of a group that lies here in place; false where that isn't done, and then nothing
-// is changed.
+// is changed. Where the tree is known to be readable, its way alone may be read.
 pub(crate) fn in_place<K: RecKind, D: Device, L: Ledger>(
     alloc: Global,
     dev: &mut D,
@@ -79,14 +79,17 @@ pub(crate) fn in_place<K: RecKind, D: Device, L: Ledger>(
     list: &mut Agfl,
     limbo: &mut Vec<u32>,
     ask: &Ask<K::Rec>,
+    known: bool,
     steps: &mut Steps<L>,
 ) -> Result<bool, EditFault>
     requires room { ask.now.site.first + ask.now.site.bounds.length ≤ D.blocks dev.old Image }
     requires fits { 8 * (ask.now.site.first + ask.now.site.bounds.length) < 2 ^ 64 }
     requires agreed { AgreesTold cache.old (D.content dev.old) }
     ensures edited { IfOk result (λ is. is ≡ true →
-        Changes K.form ask.now.site ask.now.how ask.now.rec (D.content dev.old)
-        tree.old txn.old list.old limbo.old tree.new txn.new list.new limbo.new) }
+        ChangesIf K.form ask.now.site ask.now.how ask.now.rec (D.content dev.old)
+        tree.old txn.old list.old limbo.old known tree.new txn.new list.new limbo.new) }
+    ensures settled { IfOk result (λ is. is ≡ true →
+        Settles tree.old txn.old list.old limbo.old tree.new txn.new list.new limbo.new) }
     ensures below { IfOk result (λ is. is ≡ true →
         AreBelow (D.blocks dev.old Image) txn.old.blocks →
         AreBelow (D.blocks dev.old Image) txn.new.blocks) }
@@ -103,7 +106,7 @@ pub(crate) fn in_place<K: RecKind, D: Device, L: Ledger>(
     if tree.levels < 2 || tree.levels > 9 {
         return Ok(false);
     }
-    let draft = match drafted::<K, D, L>(alloc, dev, cache, txn, ask, tree, list, steps) {
+    let draft = match drafted::<K, D, L>(alloc, dev, cache, txn, ask, tree, list, known, steps) {
         Ok(draft) => draft,
         Err(Stop::Failed) => return Err(EditFault::Failed),
         Err(Stop::Unfit) => return Ok(false),

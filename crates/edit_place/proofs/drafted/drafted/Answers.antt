@@ -9,4 +9,4 @@ has_room-requires g c =
     let site = c.args.ask.now.site in
     let placed = c.in_ok-draft.draft.placed.items in
     let room : site.first + site.bounds.length ≤ 2 ^ 64 = omega (arith, c.requires.fits) in
-    record { fits = subst (λ (es : List (ℕ × Block)). LieBelow (2 ^ 64) site.first (placed_in es)) (sym c.deref.ensures.value) (lie_of_inside (2 ^ 64) site.first site.bounds.length (placed_in placed) room c.in_ok-draft.ensures.checked.inside) }
+    record { fits = subst (λ (es : List (ℕ × Block)). LieBelow (2 ^ 64) site.first (placed_in es)) (sym c.deref.ensures.value) (lie_of_inside (2 ^ 64) site.first site.bounds.length (placed_in placed) room c.in_ok-draft.ensures.within.inside) }
