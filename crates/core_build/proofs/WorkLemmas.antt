@@ -1,6 +1,6 @@
 -- What is left of a unit after a piece of its reserving.
 use Rattle.std.proofs.Common.{◌≡◌, ◌<◌, ℕ, refl, sym, subst}
-use Rattle.std.specs.Prelude.{Bool, true, false, Result, Ok, Err}
+use Rattle.std.specs.Prelude.{Bool, true, false, Result, Ok, Err, IsErr, IsErrAnd}
 use Rattle.blk_device.specs.declared.device.Device.{Ghosts}
 use Rattle.geom.specs.Layout.{Layout}
 use Rattle.geom.specs.Places.{layout}
@@ -8,7 +8,8 @@ use Rattle.geom.specs.declared.geometry.Geometry.{Geometry}
 use Rattle.core_calls.specs.declared.answers.ScrubFault.{ScrubFault}
 use Rattle.core_calls.specs.declared.answers.ScrubFault.TheVariants as faults
 use Rattle.core_parts.proofs.common.AskLemmas.{steady_self}
-use Rattle.core_parts.specs.Common.Asks.{Answers}
+use Rattle.core_parts.proofs.common.EntryLemmas.{with_err}
+use Rattle.core_parts.specs.Common.Asks.{Answers, IsUsable}
 use Rattle.core_parts.specs.Keeps.{IsGiven, IsLeft}
 use Rattle.core_parts.specs.Safe.{IsKept, IsUnit, IsWork}
 use Rattle.core_parts.specs.declared.desk.Desk.{Desk}
@@ -49,6 +50,12 @@ module _ {D : Type 0} (d : Ghosts D) where
     });
     group = group;
   }
+
+  -- without memory nothing is done
+  pub memory_answers : {T : Type 0} (k : Desk D) (fault : ScrubFault) (r : Result T ScrubFault) → IsUsable d k → fault ≡ faults.Memory → IsErr r × IsErrAnd r (λ e. e ≡ fault) → Answers d k k r
+  memory_answers {T} k fault r u is exit =
+      with_err (λ x. Answers d k k x) fault r exit
+      (subst (λ (f : ScrubFault). Answers {T = T} d k k (Err f)) (sym is) (record { desk = u.desk; steady = steady_self d k; reason = tt; unshut = tt }))
 
   -- nothing changed
   pub left_same : (k : Desk D) (p : GroupKept) (u : UnitState) → IsGiven d k p u → IsLeft d k k p u u

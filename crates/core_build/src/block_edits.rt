@@ -1,7 +1,8 @@
 // Edits and commits of a unit's group over a desk.
-ghost use Rattle.std.specs.Prelude.{◌≡◌, ◌<◌, OnOk};
+ghost use Rattle.std.specs.Prelude.{◌≡◌, ◌<◌, IfErr, OnOk};
 ghost use Rattle.core_build.specs.Pieces.{BookStays, IfMemory};
 ghost use Rattle.core_parts.specs.Common.Asks.{Answers, IsUsable};
+ghost use Rattle.core_parts.specs.Common.Entries.{IsHalt};
 ghost use Rattle.core_edit.specs.Open.{is_device};
 ghost use Rattle.core_parts.specs.Keeps.{IsAsked, failed_by};
 ghost use Rattle.core_edit.specs.Opened.{IsOpen};
@@ -105,6 +106,8 @@ pub(crate) fn edit_listed<D: Device, L: Ledger>(
     ensures answers { Answers D.Device desk.old desk.new result }
     ensures book { OnOk result (BookStays desk.old desk.new) }
     ensures opened { OnOk result (IsOpen D.Device place.now.group desk.new.store) }
+    ensures items { desk.new.book.journal.items ≡ desk.old.book.journal.items }
+    ensures halts { IfErr result IsHalt }
 {
     match ask_listed(alloc, desk, place, steps) {
         Ok(reserved) => left_for(reserved, block),
@@ -126,6 +129,8 @@ pub(crate) fn edit_spare<D: Device, L: Ledger>(
     ensures answers { Answers D.Device desk.old desk.new result }
     ensures book { OnOk result (BookStays desk.old desk.new) }
     ensures opened { OnOk result (IsOpen D.Device place.now.group desk.new.store) }
+    ensures items { desk.new.book.journal.items ≡ desk.old.book.journal.items }
+    ensures halts { IfErr result IsHalt }
 {
     match ask_spare(alloc, desk, place, block, steps) {
         Ok(spare) => Ok(spare),
@@ -145,6 +150,8 @@ pub(crate) fn commit_edit<D: Device, L: Ledger>(
     requires opened { IsOpen D.Device g desk.old.store }
     ensures answers { Answers D.Device desk.old desk.new result }
     ensures book { OnOk result (BookStays desk.old desk.new) }
+    ensures items { desk.new.book.journal.items ≡ desk.old.book.journal.items }
+    ensures halts { IfErr result IsHalt }
 {
     match ask_commit(desk, g, steps) {
         Ok(()) => Ok(()),

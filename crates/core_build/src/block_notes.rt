@@ -1,11 +1,17 @@
 // What is noted once a block was reserved: in the journal, and of the group.
-ghost use Rattle.std.specs.Prelude.{◌≡◌, ◌<◌, ◌≤◌, ◌+◌};
+ghost use Rattle.std.specs.Prelude.{◌≡◌, ◌<◌, ◌≤◌, ◌+◌, ◌∷◌, [], Ok, false};
 ghost use Rattle.std.specs.Vec.{vec_capacity, vec_len};
 ghost use Rattle.block_reap.specs.Limbo.{IsLimbo};
 ghost use Rattle.core_build.specs.Pieces.{IfMemory, MetBy, Notes};
+ghost use Rattle.core_build.specs.Says.{IsUnnoted, reserved_of};
 ghost use Rattle.core_parts.specs.Common.Asks.{Answers, IsUsable};
+ghost use Rattle.core_parts.specs.Common.Entries.{HasMore};
+ghost use Rattle.core_parts.specs.Common.Kinds.{with_trust};
+ghost use Rattle.core_parts.specs.Common.Marks.{mark_of, marks_of, sick_by, sick_if};
 ghost use Rattle.core_parts.specs.Safe.{IsKept};
 ghost use Rattle.core_units.specs.declared.rebuild.Rebuild.{Rebuild};
+ghost use Rattle.fs_model.specs.declared.entry.Entry.TheVariants as entries;
+ghost use Rattle.fs_model.specs.declared.unit.Trust.{Trust};
 
 use blk_device::Device;
 use block_reap::{LimboRun, put};
@@ -34,6 +40,7 @@ pub(crate) fn limbo_room<D: Device>(
     rebuild: &Rebuild,
 ) -> Result<(), ScrubFault>
     ensures limbo { kept.new.limbo.items ≡ kept.old.limbo.items }
+    ensures trust { kept.new.trust ≡ kept.old.trust }
     ensures memory { IfMemory result }
 {
     let freed = &desk.store.edit.freed;
@@ -91,6 +98,7 @@ fn put_all_freed(limbo: &mut Vec<LimboRun>, freed: &Freed)
 fn keep_edited<D: Device>(desk: &Desk<D>, kept: &mut GroupKept)
     requires kept { IsKept kept.old }
     ensures kept { IsKept kept.new }
+    ensures trust { kept.new.trust ≡ kept.old.trust }
 {
     kept.heads = desk.store.edit.heads;
     put_all_freed(&mut kept.limbo, &desk.store.edit.freed);
@@ -102,6 +110,8 @@ fn mark<D: Device>(desk: &mut Desk<D>, kept: &mut GroupKept, group: u32, kind: K
     requires room { vec_len desk.old.book.journal < vec_capacity desk.old.book.journal }
     ensures notes { Notes D.Device 1 desk.old desk.new }
     ensures limbo { kept.new.limbo ≡ kept.old.limbo }
+    ensures more { HasMore desk.old desk.new (entries.Marked group kind cause ∷ []) }
+    ensures trust { kept.new.trust ≡ with_trust kept.old.trust kind Trust.Sick }
 {
     mark_sick(kept, kind);
     add_entry(desk, Entry::Marked { group, kind, cause });
@@ -119,6 +129,8 @@ fn mark_left<D: Device>(
     requires room { vec_len desk.old.book.journal < vec_capacity desk.old.book.journal }
     ensures notes { Notes D.Device 1 desk.old desk.new }
     ensures limbo { kept.new.limbo ≡ kept.old.limbo }
+    ensures more { HasMore desk.old desk.new (mark_of group kind cause) }
+    ensures trust { kept.new.trust ≡ sick_if kind cause kept.old.trust }
 {
     if let Some(met) = cause {
         mark(desk, kept, group, kind, met);
@@ -131,6 +143,8 @@ fn mark_all<D: Device>(desk: &mut Desk<D>, kept: &mut GroupKept, group: u32, lef
     requires room { vec_len desk.old.book.journal + 3 ≤ vec_capacity desk.old.book.journal }
     ensures notes { Notes D.Device 3 desk.old desk.new }
     ensures limbo { kept.new.limbo ≡ kept.old.limbo }
+    ensures more { HasMore desk.old desk.new (marks_of group left.now) }
+    ensures trust { kept.new.trust ≡ sick_by left.now kept.old.trust }
 {
     mark_left(desk, kept, group, Kind::Bno, left.bno);
     mark_left(desk, kept, group, Kind::Cnt, left.cnt);
@@ -142,6 +156,8 @@ fn note_reserved<D: Device>(desk: &mut Desk<D>, place: &EditPlace, taken: &Taken
     requires usable { IsUsable D.Device desk.old }
     requires room { vec_len desk.old.book.journal < vec_capacity desk.old.book.journal }
     ensures notes { Notes D.Device 1 desk.old desk.new }
+    ensures more { HasMore desk.old desk.new (entries.Reserved place.now.group place.now.unit
+        taken.now.block taken.now.is_spare ∷ []) }
 {
     add_entry(
         desk,
@@ -167,6 +183,9 @@ pub(crate) fn note_block<D: Device>(
     requires room { vec_len desk.old.book.journal + 4 ≤ vec_capacity desk.old.book.journal }
     ensures notes { Notes D.Device 4 desk.old desk.new }
     ensures kept { IsKept kept.new }
+    ensures more { HasMore desk.old desk.new (reserved_of place.now.group place.now.unit
+        taken.now.block taken.now.is_spare taken.now.left) }
+    ensures trust { kept.new.trust ≡ sick_by taken.now.left kept.old.trust }
 {
     keep_edited(desk, kept);
     note_reserved(desk, place, taken);
@@ -187,6 +206,8 @@ pub(crate) fn note_unnoted<D: Device>(
     ensures answers { Answers D.Device desk.old desk.new result }
     ensures kept { IsKept kept.new }
     ensures met { (r : Rebuild) → MetBy result r }
+    ensures told { result ≡ Ok false }
+    ensures unnoted { IsUnnoted group kept.old kept.new desk.old desk.new }
 {
     mark(desk, kept, group, Kind::Rmap, cause);
     Ok(false)

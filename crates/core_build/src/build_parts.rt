@@ -1,8 +1,9 @@
 // The parts of a reserving piece that ask neither the device nor the journal.
-ghost use Rattle.std.specs.Prelude.{◌≡◌, ◌<◌, true, IfOk};
+ghost use Rattle.std.specs.Prelude.{◌≡◌, ◌<◌, ◌++◌, ◌∷◌, [], true, IfOk, OnOk};
 ghost use Rattle.core_build.specs.Pieces.{IfMemory, IsMet, KeepsBuild, work_by};
+ghost use Rattle.core_build.specs.Says.{IsNextBy, space_in};
 ghost use Rattle.core_units.specs.Judging.{IsJudging};
-ghost use Rattle.core_units.specs.Rebuilt.{IsRebuilding, IsSpareBelow, IsSteady};
+ghost use Rattle.core_units.specs.Rebuilt.{IsNext, IsRebuilding, IsSpareBelow, IsSteady};
 ghost use Rattle.geom.specs.Places.{layout};
 
 use core_calls::ScrubFault;
@@ -40,6 +41,7 @@ pub(crate) fn begun(
     requires group { g < geo.now.agcount }
     requires judged { IsJudging (layout geo.now) g judging }
     ensures rebuilding { IfOk result (IsRebuilding (layout geo.now) g) }
+    ensures unit { IfOk result (λ rebuild. rebuild.building.unit ≡ judging.unit) }
     ensures memory { IfMemory result }
 {
     let heads = listed(alloc, &kept.heads)?;
@@ -54,6 +56,9 @@ fn next_in(kept: &GroupKept, list: &[u32], rebuild: &mut Rebuild) -> Next
     requires steady { IsSteady rebuild.old }
     ensures keeps { KeepsBuild rebuild.old rebuild.new }
     ensures spare { IsSpareBelow rebuild.new.length result }
+    ensures chosen { IsNext (space_in kept.now.trust) list.now
+        rebuild.old.trees rebuild.old.building result }
+    ensures reserve { rebuild.new.building.reserve ≡ rebuild.old.building.reserve }
 {
     choose_next(space_trust(kept), list, rebuild)
 }
@@ -67,6 +72,8 @@ pub(crate) fn next_of(
     requires steady { IsSteady rebuild.old }
     ensures keeps { KeepsBuild rebuild.old rebuild.new }
     ensures spare { IfOk result (IsSpareBelow rebuild.new.length) }
+    ensures chosen { IfOk result (IsNextBy kept.now rebuild.old) }
+    ensures reserve { OnOk result (rebuild.new.building.reserve ≡ rebuild.old.building.reserve) }
     ensures memory { IfMemory result }
 {
     match free_list(alloc, &kept.heads.list) {
@@ -85,6 +92,8 @@ pub(crate) fn take_block(
     requires steady { IsSteady rebuild.old }
     requires inside { block < rebuild.old.length }
     ensures keeps { KeepsBuild rebuild.old rebuild.new }
+    ensures behind { OnOk result
+        (rebuild.new.building.reserve.items ≡ rebuild.old.building.reserve.items ++ block ∷ []) }
     ensures memory { IfMemory result }
 {
     match take_next(rebuild, block, is_spare) {
@@ -99,6 +108,7 @@ pub(crate) fn made_ready(alloc: Global, rebuild: &mut Rebuild) -> bool
     requires steady { IsSteady rebuild.old }
     ensures keeps { KeepsBuild rebuild.old rebuild.new }
     ensures met { result ≡ true → IsMet rebuild.new }
+    ensures reserve { rebuild.new.building.reserve ≡ rebuild.old.building.reserve }
 {
     match ready(alloc, rebuild) {
         Ok(()) => true,
@@ -111,6 +121,7 @@ pub(crate) fn ready_if(alloc: Global, rebuild: &mut Rebuild, is_met: bool) -> bo
     requires steady { IsSteady rebuild.old }
     ensures keeps { KeepsBuild rebuild.old rebuild.new }
     ensures met { result ≡ true → IsMet rebuild.new }
+    ensures reserve { rebuild.new.building.reserve ≡ rebuild.old.building.reserve }
 {
     if !is_met {
         return false;

@@ -1,7 +1,9 @@
-ghost use Rattle.std.specs.Prelude.{◌<◌, ◌≤◌, ◌+◌};
+ghost use Rattle.std.specs.Prelude.{◌≡◌, ◌<◌, ◌≤◌, ◌+◌, IfErr, IfOk, IsErr, true};
 ghost use Rattle.std.specs.Vec.{vec_capacity, vec_len};
 ghost use Rattle.core_build.specs.Pieces.{IfMemory, KeepsBuild, MetBy};
+ghost use Rattle.core_build.specs.Says.{MayRefuse, SaysFrom, SaysNext, SaysPiece, SaysReserving, SaysTaken};
 ghost use Rattle.core_parts.specs.Common.Asks.{Answers, IsUsable};
+ghost use Rattle.core_parts.specs.Common.Entries.{HasMore, entries_of};
 ghost use Rattle.core_units.specs.Judging.{IsJudging};
 ghost use Rattle.core_parts.specs.Keeps.{IsGiven, IsLeft};
 ghost use Rattle.core_parts.specs.Reasons.{AnswersWell};
@@ -33,6 +35,7 @@ fn met(alloc: Global, rebuild: &mut Rebuild) -> Result<bool, ScrubFault>
     ensures keeps { KeepsBuild rebuild.old rebuild.new }
     ensures met { MetBy result rebuild.new }
     ensures memory { IfMemory result }
+    ensures told { IfOk result (λ is_met. is_met ≡ true) }
 {
     if made_ready(alloc, rebuild) {
         Ok(true)
@@ -51,6 +54,9 @@ fn give_up<D: Device>(
     requires usable { IsUsable D.Device desk.old }
     ensures answers { Answers D.Device desk.old desk.new result }
     ensures met { (r : Rebuild) → MetBy result r }
+    ensures says { HasMore desk.old desk.new (entries_of place.now.group place.now.unit result) }
+    ensures never { IsErr result }
+    ensures gives { IfErr result (MayRefuse (Next.GaveUp reason)) }
 {
     entry_room(desk, 2)?;
     say_verdict(desk, place.group, place.unit, Verdict::GaveUp(reason))?;
@@ -79,6 +85,8 @@ fn keep_block<D: Device, L: Ledger>(
     ensures kept { IsKept kept.new }
     ensures keeps { KeepsBuild rebuild.old rebuild.new }
     ensures met { MetBy result rebuild.new }
+    ensures says { SaysTaken place.now.group place.now.unit taken.now.block taken.now.is_spare
+        rebuild.old rebuild.new kept.old kept.new desk.old desk.new result }
 {
     limbo_room(desk, kept, rebuild)?;
     let is_met = take_block(rebuild, taken.block, taken.is_spare)?;
@@ -105,6 +113,8 @@ fn reserve_listed_block<D: Device, L: Ledger>(
     ensures kept { IsKept kept.new }
     ensures keeps { KeepsBuild rebuild.old rebuild.new }
     ensures met { MetBy result rebuild.new }
+    ensures says { SaysNext place.now.group place.now.unit (Next.Listed block)
+        rebuild.old rebuild.new kept.old kept.new desk.old desk.new result }
 {
     // Never: the list of a group that was decoded has blocks of it alone.
     if block >= rebuild.length {
@@ -141,6 +151,8 @@ fn keep_spare<D: Device, L: Ledger>(
     ensures kept { IsKept kept.new }
     ensures keeps { KeepsBuild rebuild.old rebuild.new }
     ensures met { MetBy result rebuild.new }
+    ensures says { SaysNext place.now.group place.now.unit (Next.Spare edited.0)
+        rebuild.old rebuild.new kept.old kept.new desk.old desk.new result }
 {
     match edited.1 {
         Spare::Noted(left) => {
@@ -174,6 +186,8 @@ fn reserve_spare_block<D: Device, L: Ledger>(
     ensures kept { IsKept kept.new }
     ensures keeps { KeepsBuild rebuild.old rebuild.new }
     ensures met { MetBy result rebuild.new }
+    ensures says { SaysNext place.now.group place.now.unit (Next.Spare block)
+        rebuild.old rebuild.new kept.old kept.new desk.old desk.new result }
 {
     entry_room(desk, 5)?;
     let spare = edit_spare(alloc, desk, place, block, steps)?;
@@ -199,6 +213,8 @@ fn do_next<D: Device, L: Ledger>(
     ensures kept { IsKept kept.new }
     ensures keeps { KeepsBuild rebuild.old rebuild.new }
     ensures met { MetBy result rebuild.new }
+    ensures says { SaysNext place.now.group place.now.unit next
+        rebuild.old rebuild.new kept.old kept.new desk.old desk.new result }
 {
     match next {
         Next::Met => met(alloc, rebuild),
@@ -227,6 +243,8 @@ fn reserve_one<D: Device, L: Ledger>(
     ensures kept { IsKept kept.new }
     ensures keeps { KeepsBuild rebuild.old rebuild.new }
     ensures met { MetBy result rebuild.new }
+    ensures says { SaysPiece place.now.group place.now.unit
+        rebuild.old rebuild.new kept.old kept.new desk.old desk.new result }
 {
     let next = next_of(alloc, kept, rebuild)?;
     do_next(alloc, desk, kept, rebuild, place, next, steps)
@@ -245,6 +263,8 @@ fn reserve_with<D: Device, L: Ledger>(
     requires rebuilding { IsRebuilding (layout desk.old.store.geo) unit.old.group rebuild }
     ensures left { IsLeft D.Device desk.old desk.new kept.new unit.old unit.new }
     ensures reason { AnswersWell desk.new result }
+    ensures says { SaysFrom unit.old.group unit.old.unit rebuild unit.new.work
+        kept.old kept.new desk.old desk.new result }
 {
     let place = edit_place(kept, unit.group, unit.unit);
     let answer = reserve_one(alloc, desk, kept, &mut rebuild, &place, steps);
@@ -265,6 +285,8 @@ fn begin_with<D: Device, L: Ledger>(
     requires judged { IsJudging (layout desk.old.store.geo) unit.old.group judging }
     ensures left { IsLeft D.Device desk.old desk.new kept.new unit.old unit.new }
     ensures reason { AnswersWell desk.new result }
+    ensures says { SaysReserving unit.old.group unit.old.unit (Work.Chosen judging) unit.new.work
+        kept.old kept.new desk.old desk.new result }
 {
     let rebuild = begun(alloc, &desk.store.geo, kept, unit.group, judging)?;
     reserve_with(alloc, desk, kept, unit, rebuild, steps)
@@ -285,6 +307,8 @@ pub fn reserve_piece<D: Device, L: Ledger>(
     requires given { IsGiven D.Device desk.old kept.old unit.old }
     ensures left { IsLeft D.Device desk.old desk.new kept.new unit.old unit.new }
     ensures reason { AnswersWell desk.new result }
+    ensures says { SaysReserving unit.old.group unit.old.unit unit.old.work unit.new.work
+        kept.old kept.new desk.old desk.new result }
 {
     match mem::replace(&mut unit.work, Work::Judged) {
         Work::Chosen(judging) => begin_with(alloc, desk, kept, unit, judging, steps),

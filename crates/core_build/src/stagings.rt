@@ -76,6 +76,7 @@ fn stage_more<D: Device, L: Ledger>(
     requires at { IsAt rebuild.now.building.lists at.old }
     ensures answers { Answers D.Device desk.old desk.new result }
     ensures at { IsAt rebuild.now.building.lists at.new }
+    ensures items { desk.new.book.journal.items ≡ desk.old.book.journal.items }
 {
     match ask_stage(alloc, desk, rebuild, at, steps) {
         Ok(is_done) => Ok(is_done),
@@ -124,6 +125,7 @@ fn switch_made<D: Device>(
     requires ready { IsReady rebuild.now }
     ensures answers { Answers D.Device desk.old desk.new result }
     ensures limbo { IfOk result (λ made. IfSome made (λ staged. IsLimbo staged.limbo.items)) }
+    ensures items { desk.new.book.journal.items ≡ desk.old.book.journal.items }
 {
     switch_room(desk)?;
     let staged = switch_of(alloc, desk, kept, rebuild)?;
@@ -147,6 +149,7 @@ fn stage_one<D: Device, L: Ledger>(
     ensures answers { Answers D.Device desk.old desk.new result }
     ensures limbo { IfOk result (λ made. IfSome made (λ staged. IsLimbo staged.limbo.items)) }
     ensures at { IsAt rebuild.now.building.lists at.new }
+    ensures items { desk.new.book.journal.items ≡ desk.old.book.journal.items }
 {
     if !stage_more(alloc, desk, rebuild, at, steps)? {
         return Ok(None);
@@ -195,6 +198,7 @@ fn stage_with<D: Device, L: Ledger>(
     requires at { IsAt reserved.0.building.lists reserved.1 }
     ensures left { IsLeft D.Device desk.old desk.new kept.new unit.old unit.new }
     ensures reason { AnswersWell desk.new result }
+    ensures items { desk.new.book.journal.items ≡ desk.old.book.journal.items }
 {
     let (rebuild, staging) = reserved;
     let mut at = staging;
@@ -215,6 +219,7 @@ pub fn stage_piece<D: Device, L: Ledger>(
     requires given { IsGiven D.Device desk.old kept.old unit.old }
     ensures left { IsLeft D.Device desk.old desk.new kept.new unit.old unit.new }
     ensures reason { AnswersWell desk.new result }
+    ensures items { desk.new.book.journal.items ≡ desk.old.book.journal.items }
 {
     match mem::replace(&mut unit.work, Work::Judged) {
         Work::Reserved(rebuild, at) => { stage_with(alloc, desk, kept, unit, (rebuild, at), steps) }
