@@ -1,6 +1,6 @@
 // Files that grow, on a new image.
 use super::asks::{begin, map, refused, rmap_step, take};
-use super::lists::{Act, expect_journal, expect_leaves, expect_words, played};
+use super::lists::{Act, expect_journal, expect_leaves, expect_words, play};
 use core_calls::{Answer, Ask, WriteFault};
 use fs_model::{Cause, Entry, Piece};
 use image_hosts::MemImage;
@@ -45,7 +45,7 @@ fn a_new_file_grows_by_the_first_run_that_is_long_enough(rt: HostRuntime) {
         rmap_step(),
         Act::Once(map(6, 1), Answer::Blocks(1)),
     ];
-    let found = played(&rt, rt.alloc(), image, &[&acts[..]]);
+    let found = play(&rt, rt.alloc(), image, &[&acts[..]]);
     let followed = Entry::RmapDone {
         chain: 0,
         ino: 195,
@@ -82,7 +82,7 @@ fn a_taken_inode_is_held(rt: HostRuntime) {
         Act::Once(take(), Answer::Taken(195, 0)),
         Act::Once(other, refused(WriteFault::Busy(195))),
     ];
-    let found = played(&rt, rt.alloc(), image, &[&acts[..]]);
+    let found = play(&rt, rt.alloc(), image, &[&acts[..]]);
     expect_journal(&rt, &found, &[taken()]);
 }
 
@@ -93,7 +93,7 @@ fn a_kept_inode_and_one_that_isnt_listed_are_no_files(rt: HostRuntime) {
         Act::Once(begin(192, None), refused(WriteFault::NoFile)),
         Act::Once(begin(300, None), refused(WriteFault::NoFile)),
     ];
-    let found = played(&rt, rt.alloc(), image, &[&acts[..]]);
+    let found = play(&rt, rt.alloc(), image, &[&acts[..]]);
     expect_journal(&rt, &found, &[]);
 }
 
@@ -120,7 +120,7 @@ fn free_blocks_with_an_owner_are_given_to_no_file(rt: HostRuntime) {
         Act::Once(take(), Answer::Taken(195, 0)),
         Act::Once(map(0, 3), refused(WriteFault::Sick(0, Kind::Bno))),
     ];
-    let found = played(&rt, rt.alloc(), image, &[&acts[..]]);
+    let found = play(&rt, rt.alloc(), image, &[&acts[..]]);
     expect_journal(
         &rt,
         &found,

@@ -74,7 +74,7 @@ fn once<D: Device, L: Ledger>(
     same(rt, (ask, answer), (ask, wanted));
 }
 
-fn act<D: Device, L: Ledger>(
+fn do_act<D: Device, L: Ledger>(
     rt: &impl Abort,
     alloc: Global,
     core: &mut Core<D>,
@@ -101,7 +101,7 @@ fn act_all<D: Device, L: Ledger>(
     ensures safe { IsSafe D.Device core.new.parts }
 {
     for one in acts {
-        act(rt, alloc, core, *one, steps);
+        do_act(rt, alloc, core, *one, steps);
     }
 }
 
@@ -147,7 +147,7 @@ fn reads_of(rt: &impl Abort, alloc: Global, dev: &MemDevice) -> Vec<u64> {
     reads
 }
 
-fn played_counted<L: Ledger>(
+fn play_counted<L: Ledger>(
     rt: &impl Abort,
     alloc: Global,
     image: MemImage,
@@ -174,9 +174,9 @@ fn played_counted<L: Ledger>(
 }
 
 /// Asks for all events of these lists of a core over this image, each of which is to answer so.
-pub(crate) fn played(rt: &impl Abort, alloc: Global, image: MemImage, lists: &[&[Act]]) -> Played {
+pub(crate) fn play(rt: &impl Abort, alloc: Global, image: MemImage, lists: &[&[Act]]) -> Played {
     let blank = Blank::new(3);
-    played_counted::<Brand>(rt, alloc, image, lists, blank)
+    play_counted::<Brand>(rt, alloc, image, lists, blank)
 }
 
 // The number in the four bytes at this place, or 0 where they don't lie in the block.

@@ -1,6 +1,6 @@
 // Rebuilds of the small image, at the switch and after it.
 use super::asks::{at_end, checked, judged, reopened, start, switched, three_scanned};
-use super::lists::{Act, expect_leaves, expect_words, played};
+use super::lists::{Act, expect_leaves, expect_words, play};
 use fresh_image::fresh_block;
 use fs_model::Unit;
 use fs_state::Plan;
@@ -49,7 +49,7 @@ fn free_space_at_the_switch_and_after_it(rt: HostRuntime) {
         &reopened()[..],
     ];
     let image = with_bad_space(rt.alloc()).expect(&rt, FITS);
-    let found = played(&rt, rt.alloc(), image, &lists[..6]);
+    let found = play(&rt, rt.alloc(), image, &lists[..6]);
     let free = [run(19, 5), run(32, 224)];
     expect_leaves(
         &rt,
@@ -62,7 +62,7 @@ fn free_space_at_the_switch_and_after_it(rt: HostRuntime) {
     );
     expect_words(&rt, &found, &[(0, 528, 7), (0, 532, 8), (0, 564, 229)]);
     let image = with_bad_space(rt.alloc()).expect(&rt, FITS);
-    let found = played(&rt, rt.alloc(), image, &lists);
+    let found = play(&rt, rt.alloc(), image, &lists);
     let free = [run(1, 2), run(19, 5), run(32, 224)];
     let [heads, _, inodes, mappings, counts, list, chunk] = small_owned();
     let owners = [heads, inodes, mappings, counts, list, chunk];
@@ -92,7 +92,7 @@ fn reverse_mappings_at_the_switch_and_after_it(rt: HostRuntime) {
         &reopened()[..],
     ];
     let image = with_unowned_chunk(rt.alloc()).expect(&rt, FITS);
-    let found = played(&rt, rt.alloc(), image, &lists[..3]);
+    let found = play(&rt, rt.alloc(), image, &lists[..3]);
     let free = [run(19, 5), run(32, 224)];
     expect_leaves(
         &rt,
@@ -104,7 +104,7 @@ fn reverse_mappings_at_the_switch_and_after_it(rt: HostRuntime) {
     );
     expect_words(&rt, &found, &[(0, 536, 7)]);
     let image = with_unowned_chunk(rt.alloc()).expect(&rt, FITS);
-    let found = played(&rt, rt.alloc(), image, &lists);
+    let found = play(&rt, rt.alloc(), image, &lists);
     let free = [run(5, 1), run(19, 5), run(32, 224)];
     let [heads, space, inodes, _, counts, list, chunk] = small_owned();
     let owners = [heads, space, inodes, counts, list, chunk];
@@ -132,7 +132,7 @@ fn inode_btrees_after_the_switch_and_their_old_blocks(rt: HostRuntime) {
         &reopened()[..],
     ];
     let image = with_unlisted_chunk(rt.alloc()).expect(&rt, FITS);
-    let found = played(&rt, rt.alloc(), image, &lists[..4]);
+    let found = play(&rt, rt.alloc(), image, &lists[..4]);
     let free = [run(19, 5), run(32, 224)];
     let [heads, space, inodes, rmap, counts, _, chunk] = small_owned();
     let (trees, list) = (owned(7, 2, 6), owned(9, 10, 5));
@@ -150,7 +150,7 @@ fn inode_btrees_after_the_switch_and_their_old_blocks(rt: HostRuntime) {
     expect_words(&rt, &found, &[(0, 1044, 7), (0, 1352, 8)]);
     // Their old blocks wait for the unit of reverse mappings.
     let image = with_unlisted_chunk(rt.alloc()).expect(&rt, FITS);
-    let found = played(&rt, rt.alloc(), image, &lists);
+    let found = play(&rt, rt.alloc(), image, &lists);
     let free = [run(3, 2), run(19, 5), run(32, 224)];
     let owners = [heads, space, rmap, counts, trees, list, chunk];
     expect_leaves(

@@ -3,7 +3,7 @@ use super::asks::{
     advance, at_end, begin, checked, close, judged, map, refused, reopened, rmap_step, scan, start,
     switched, take, three_scanned,
 };
-use super::lists::{Act, Played, expect_heard, expect_leaves, expect_words, played};
+use super::lists::{Act, Played, expect_heard, expect_leaves, expect_words, play};
 use super::same::same;
 use super::worlds::two_files;
 use core_calls::{Answer, Ask, ScrubFault, WriteFault};
@@ -38,14 +38,14 @@ fn opened(plan: Plan) -> [Act; 7] {
 // What these lists leave of the image with two files.
 fn on_two_files(rt: &impl Abort, alloc: Global, lists: &[&[Act]]) -> Played {
     let image = two_files(rt, alloc);
-    played(rt, alloc, image, lists)
+    play(rt, alloc, image, lists)
 }
 
 #[test]
 fn a_scan_begins_at_the_lowest_inode(rt: HostRuntime) {
     let image = small_image(rt.alloc()).expect(&rt, FITS);
     let lists = [&opened(Plan::Check)[..], &[advance(192)][..]];
-    let found = played(&rt, rt.alloc(), image, &lists);
+    let found = play(&rt, rt.alloc(), image, &lists);
     expect_heard(&rt, &found, &[]);
 }
 
@@ -57,7 +57,7 @@ fn a_scan_ends_after_the_highest_inode(rt: HostRuntime) {
         &three_scanned()[..],
         &[at_end(), close()][..],
     ];
-    let found = played(&rt, rt.alloc(), image, &lists);
+    let found = play(&rt, rt.alloc(), image, &lists);
     expect_heard(&rt, &found, &[]);
 }
 
@@ -89,7 +89,7 @@ fn a_scan_waits_for_an_inode_that_a_chain_holds(rt: HostRuntime) {
         &three_scanned()[..],
         &[busy, busy][..],
     ];
-    let found = played(&rt, rt.alloc(), image, &lists);
+    let found = play(&rt, rt.alloc(), image, &lists);
     expect_heard(&rt, &found, &[]);
 }
 
@@ -308,7 +308,7 @@ fn a_scan_reads_each_block_of_a_fork_once(rt: HostRuntime) {
         &scanned(195)[..],
         &[at_end(), closed, gathered, compared][..],
     ];
-    let found = played(&rt, rt.alloc(), image, &lists);
+    let found = play(&rt, rt.alloc(), image, &lists);
     expect_good(&rt, &found);
     same(&rt, found.reads.get(39).copied(), Some(1));
 }

@@ -1,7 +1,7 @@
 // Files that shrink, share and are made written.
 use super::asks::{begin, convert, free_step, ref_step, refused, rmap_step, share, unmap};
 use super::lists::{
-    Act, Played, expect_journal, expect_leaves, expect_untouched, expect_words, played,
+    Act, Played, expect_journal, expect_leaves, expect_untouched, expect_words, play,
 };
 use byte_fields::get_u32;
 use core_calls::{Answer, Ask, WriteFault};
@@ -133,7 +133,7 @@ fn first_goes() -> [Act; 4] {
 #[test]
 fn one_of_two_mappings_of_a_block_goes(rt: HostRuntime) {
     let image = twice_mapped(rt.alloc(), 2).expect(&rt, FITS);
-    let found = played(&rt, rt.alloc(), image, &[&second_goes()[..]]);
+    let found = play(&rt, rt.alloc(), image, &[&second_goes()[..]]);
     expect_journal(&rt, &found, &[unmapped(5), owner_gone(), count_fell()]);
     let [first, space, inodes, mappings, counts, list, chunk] = small_owned();
     let file = mapped(40, 1, 195, 0);
@@ -156,7 +156,7 @@ fn one_of_two_mappings_of_a_block_goes(rt: HostRuntime) {
 fn the_last_mapping_of_a_block_frees_it(rt: HostRuntime) {
     let image = twice_mapped(rt.alloc(), 2).expect(&rt, FITS);
     let lists = [&second_goes()[..], &first_goes()[..]];
-    let found = played(&rt, rt.alloc(), image, &lists);
+    let found = play(&rt, rt.alloc(), image, &lists);
     let journal = [
         unmapped(5),
         owner_gone(),
@@ -190,7 +190,7 @@ fn a_count_at_its_end_cant_rise(rt: HostRuntime) {
         Act::Once(share(0, 9, 1), refused(WriteFault::CountMax)),
         Act::Once(Ask::End { chain: 0 }, Answer::Done),
     ];
-    let found = played(&rt, rt.alloc(), image, &[&acts[..]]);
+    let found = play(&rt, rt.alloc(), image, &[&acts[..]]);
     expect_journal(&rt, &found, &[]);
     expect_untouched(&rt, &found, &before);
 }
@@ -210,7 +210,7 @@ fn thrice_owned(alloc: Global) -> Result<MemImage, AllocError> {
 fn a_block_with_another_owner_isnt_freed(rt: HostRuntime) {
     let image = thrice_owned(rt.alloc()).expect(&rt, FITS);
     let lists = [&second_goes()[..], &first_goes()[..]];
-    let found = played(&rt, rt.alloc(), image, &lists);
+    let found = play(&rt, rt.alloc(), image, &lists);
     let marked = Entry::Marked {
         group: 0,
         kind: Kind::Refc,
@@ -243,7 +243,7 @@ fn a_block_with_another_owner_isnt_freed(rt: HostRuntime) {
 }
 
 // Unwritten blocks of a file.
-fn unwritten(offset: u64, block: u64, count: u64) -> Stretch {
+fn not_written(offset: u64, block: u64, count: u64) -> Stretch {
     written((1u64 << 54).saturating_add(offset), block, count)
 }
 
@@ -263,13 +263,13 @@ fn expect_mappings(rt: &impl Abort, found: &Played, stretches: &[Stretch]) {
 #[test]
 fn one_of_two_unwritten_blocks_is_made_written(rt: HostRuntime) {
     let owners = [mapped(40, 2, 195, UNWRITTEN)];
-    let stretches = [unwritten(0, 40, 2)];
+    let stretches = [not_written(0, 40, 2)];
     let image = file_image(rt.alloc(), &stretches, 2, &owners, &[]).expect(&rt, FITS);
     let acts = [
         Act::Once(begin(195, None), Answer::Chain(0)),
         Act::Once(convert(1, 5), Answer::Blocks(1)),
     ];
-    let found = played(&rt, rt.alloc(), image, &[&acts[..]]);
+    let found = play(&rt, rt.alloc(), image, &[&acts[..]]);
     let converted = Entry::Converted(Piece {
         writer: 1,
         chain: 0,
@@ -280,5 +280,5 @@ fn one_of_two_unwritten_blocks_is_made_written(rt: HostRuntime) {
         count: 1,
     });
     expect_journal(&rt, &found, &[converted]);
-    expect_mappings(&rt, &found, &[unwritten(0, 40, 1), written(1, 41, 1)]);
+    expect_mappings(&rt, &found, &[not_written(0, 40, 1), written(1, 41, 1)]);
 }
