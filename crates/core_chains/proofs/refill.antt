@@ -1,1 +1,2 @@
 pub mod HaltLemmas
+pub mod SaidLemmas

@@ -3,4 +3,5 @@ pub mod ChainLemmas
 pub mod FitLemmas
 pub mod PartLemmas
 pub mod Places
+pub mod SaysLemmas
 pub mod WriteLemmas

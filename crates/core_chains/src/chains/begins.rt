@@ -65,6 +65,7 @@ fn check_second<D: Device, L: Ledger>(
     requires groups { length groups.now ≡ desk.old.store.geo.agcount }
     ensures answers { WriteAnswers D.Device desk.old desk.new result }
     ensures geometry { desk.new.store.geo ≡ desk.old.store.geo }
+    ensures items { desk.new.book.journal.items ≡ desk.old.book.journal.items }
 {
     let Some(ino) = second else {
         return Ok(None);
@@ -86,6 +87,7 @@ fn check_pair<D: Device, L: Ledger>(
     requires usable { IsUsable D.Device desk.old }
     requires groups { length groups.now ≡ desk.old.store.geo.agcount }
     ensures answers { WriteAnswers D.Device desk.old desk.new result }
+    ensures items { desk.new.book.journal.items ≡ desk.old.book.journal.items }
 {
     let first = check_inode(desk, groups, wanted.first, steps)?;
     match check_second(desk, groups, wanted.second, steps) {
@@ -132,6 +134,7 @@ fn put_drain<D: Device>(desk: &mut Desk<D>, drain: Drain)
     requires gates { length (gates_of drain) ≡ desk.old.store.geo.agcount }
     ensures usable { IsUsable D.Device desk.new }
     ensures steady { IsSteady D.Device desk.old desk.new }
+    ensures book { desk.new.book ≡ desk.old.book }
 {
     desk.drain = drain;
 }
@@ -148,6 +151,7 @@ fn open_held<D: Device>(
     requires number { number < 16 }
     ensures answers { WriteAnswers D.Device desk.old desk.new result }
     ensures number { IfOk result (λ chain. chain < 16) }
+    ensures items { desk.new.book.journal.items ≡ desk.old.book.journal.items }
 {
     let groups = desk.store.geo.agcount;
     match opened_drain(alloc, &desk.drain, groups, number, chain) {
@@ -173,6 +177,7 @@ fn open_free<D: Device>(
     requires number { number < 16 }
     ensures answers { WriteAnswers D.Device desk.old desk.new result }
     ensures number { IfOk result (λ chain. chain < 16) }
+    ensures items { desk.new.book.journal.items ≡ desk.old.book.journal.items }
 {
     are_free(desk, units, wanted)?;
     let chain = Chain::new(wanted.writer, pair.first, pair.second);
@@ -195,6 +200,7 @@ fn open_chain<D: Device, L: Ledger>(
     requires number { number < 16 }
     ensures answers { WriteAnswers D.Device desk.old desk.new result }
     ensures number { IfOk result (λ chain. chain < 16) }
+    ensures items { desk.new.book.journal.items ≡ desk.old.book.journal.items }
 {
     let pair = check_pair(desk, groups, wanted, steps)?;
     open_free(alloc, desk, units, wanted, pair, number)
@@ -206,6 +212,7 @@ fn has_room<D: Device>(desk: &mut Desk<D>) -> Result<(), WriteFault>
     requires usable { IsUsable D.Device desk.old }
     ensures answers { WriteAnswers D.Device desk.old desk.new result }
     ensures geometry { desk.new.store.geo ≡ desk.old.store.geo }
+    ensures items { desk.new.book.journal.items ≡ desk.old.book.journal.items }
 {
     writer_room(desk, 0)
 }
@@ -224,6 +231,7 @@ fn begin_usable<D: Device, L: Ledger>(
     requires groups { length groups.now ≡ desk.old.store.geo.agcount }
     ensures answers { WriteAnswers D.Device desk.old desk.new result }
     ensures number { IfOk result (λ chain. chain < 16) }
+    ensures items { desk.new.book.journal.items ≡ desk.old.book.journal.items }
 {
     has_room(desk)?;
     let number = free_number(desk)?;
@@ -246,6 +254,7 @@ pub fn begin<D: Device, L: Ledger>(
     requires safe { IsSafe D.Device parts.old }
     ensures left { WriteParts D.Device parts.old parts.new result }
     ensures number { IfOk result (λ chain. chain < 16) }
+    ensures said { parts.new.desk.book.journal.items ≡ parts.old.desk.book.journal.items }
 {
     writer_unshut(&parts.desk)?;
     let wanted = Wanted {

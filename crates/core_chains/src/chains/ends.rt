@@ -1,5 +1,5 @@
 // How a chain ends.
-ghost use Rattle.std.specs.Prelude.{◌<◌};
+ghost use Rattle.std.specs.Prelude.{◌≡◌, ◌<◌};
 ghost use Rattle.core_parts.specs.Common.Asks.{IsUsable};
 ghost use Rattle.core_parts.specs.Keeps.{IsSteady};
 ghost use Rattle.core_parts.specs.Safe.{IsSafe};
@@ -17,6 +17,7 @@ fn let_one_go<D: Device>(desk: &mut Desk<D>, ino: u64)
     requires usable { IsUsable D.Device desk.old }
     ensures usable { IsUsable D.Device desk.new }
     ensures steady { IsSteady D.Device desk.old desk.new }
+    ensures book { desk.new.book ≡ desk.old.book }
 {
     desk.drain.let_go(ino);
 }
@@ -27,6 +28,7 @@ pub fn let_inodes_go<D: Device>(desk: &mut Desk<D>, chain: &Chain)
     requires usable { IsUsable D.Device desk.old }
     ensures usable { IsUsable D.Device desk.new }
     ensures steady { IsSteady D.Device desk.old desk.new }
+    ensures book { desk.new.book ≡ desk.old.book }
 {
     let_one_go(desk, chain.first().ino);
     match chain.second() {
@@ -42,6 +44,7 @@ fn put_away<D: Device>(desk: &mut Desk<D>, number: u32, chain: &Chain)
     requires number { number < 16 }
     ensures usable { IsUsable D.Device desk.new }
     ensures steady { IsSteady D.Device desk.old desk.new }
+    ensures book { desk.new.book ≡ desk.old.book }
 {
     let_inodes_go(desk, chain);
     put_chain(desk, number, None);
@@ -52,6 +55,7 @@ fn put_away<D: Device>(desk: &mut Desk<D>, number: u32, chain: &Chain)
 fn end_usable<D: Device>(desk: &mut Desk<D>, chain: u32) -> Result<(), WriteFault>
     requires usable { IsUsable D.Device desk.old }
     ensures answers { WriteAnswers D.Device desk.old desk.new result }
+    ensures items { desk.new.book.journal.items ≡ desk.old.book.journal.items }
 {
     let ended = idle_chain(desk, chain)?;
     put_away(desk, chain, &ended);
@@ -65,6 +69,7 @@ fn end_usable<D: Device>(desk: &mut Desk<D>, chain: u32) -> Result<(), WriteFaul
 pub fn end<D: Device>(parts: &mut Parts<D>, chain: u32) -> Result<(), WriteFault>
     requires safe { IsSafe D.Device parts.old }
     ensures left { WriteParts D.Device parts.old parts.new result }
+    ensures said { parts.new.desk.book.journal.items ≡ parts.old.desk.book.journal.items }
 {
     writer_unshut(&parts.desk)?;
     end_usable(&mut parts.desk, chain)

@@ -28,6 +28,7 @@ pub fn file_fault<D: Device>(desk: &mut Desk<D>, stop: FileStop) -> WriteFault
     ensures desk { IsDesk D.Device desk.new }
     ensures steady { IsSteady D.Device desk.old desk.new }
     ensures reason { HasWriteReason desk.new result }
+    ensures items { desk.new.book.journal.items ≡ desk.old.book.journal.items }
 {
     match stop {
         FileStop::NoFile => WriteFault::NoFile,
@@ -96,6 +97,7 @@ pub fn read_inode<D: Device, L: Ledger>(
     ensures answers { WriteAnswers D.Device desk.old desk.new result }
     ensures book { OnOk result (desk.new.book ≡ desk.old.book) }
     ensures geometry { desk.new.store.geo ≡ desk.old.store.geo }
+    ensures items { desk.new.book.journal.items ≡ desk.old.book.journal.items }
 {
     match call_read(alloc, desk, ino, steps) {
         Ok(file) => Ok(file),
@@ -130,6 +132,7 @@ fn check_tree<D: Device, L: Ledger>(
     requires group { tree.now.group < desk.old.store.geo.agcount }
     ensures answers { WriteAnswers D.Device desk.old desk.new result }
     ensures geometry { desk.new.store.geo ≡ desk.old.store.geo }
+    ensures items { desk.new.book.journal.items ≡ desk.old.book.journal.items }
 {
     match call_check(desk, tree, ino, steps) {
         Ok(uid) => Ok(ChainInode { ino, uid }),
@@ -150,6 +153,7 @@ pub(crate) fn check_inode<D: Device, L: Ledger>(
     requires groups { length groups.now ≡ desk.old.store.geo.agcount }
     ensures answers { WriteAnswers D.Device desk.old desk.new result }
     ensures geometry { desk.new.store.geo ≡ desk.old.store.geo }
+    ensures items { desk.new.book.journal.items ≡ desk.old.book.journal.items }
 {
     let Some(place) = desk.store.geo.inode_place(ino) else {
         return Err(WriteFault::NoFile);

@@ -135,6 +135,7 @@ pub fn next_records<K: RecKind, D: Device, L: Ledger>(
     requires group { tree.now.group < desk.old.store.geo.agcount }
     ensures halts { Halts D.Device desk.old desk.new result }
     ensures book { OnOk result (desk.new.book ≡ desk.old.book) }
+    ensures items { desk.new.book.journal.items ≡ desk.old.book.journal.items }
 {
     match ask_next::<K, D, L>(alloc, desk, tree, after, steps) {
         Ok(recs) => Ok(recs),
@@ -156,6 +157,7 @@ pub fn last_record<K: RecKind, D: Device, L: Ledger>(
     requires group { tree.now.group < desk.old.store.geo.agcount }
     ensures halts { Halts D.Device desk.old desk.new result }
     ensures book { OnOk result (desk.new.book ≡ desk.old.book) }
+    ensures items { desk.new.book.journal.items ≡ desk.old.book.journal.items }
 {
     match ask_last::<K, D, L>(desk, tree, steps) {
         Ok(found) => Ok(found),
@@ -178,6 +180,7 @@ pub fn found_record<K: RecKind, D: Device, L: Ledger>(
     requires group { tree.now.group < desk.old.store.geo.agcount }
     ensures halts { Halts D.Device desk.old desk.new result }
     ensures book { OnOk result (desk.new.book ≡ desk.old.book) }
+    ensures items { desk.new.book.journal.items ≡ desk.old.book.journal.items }
 {
     match ask_one::<K, D, L>(desk, tree, key, steps) {
         Ok(found) => Ok(found),
@@ -200,6 +203,7 @@ pub fn owner_record<D: Device, L: Ledger>(
     requires group { tree.now.group < desk.old.store.geo.agcount }
     ensures halts { Halts D.Device desk.old desk.new result }
     ensures book { OnOk result (desk.new.book ≡ desk.old.book) }
+    ensures items { desk.new.book.journal.items ≡ desk.old.book.journal.items }
 {
     match ask_owner(desk, tree, run, steps) {
         Ok(found) => Ok(found),

@@ -41,6 +41,7 @@ pub fn open_group<D: Device, L: Ledger>(
     requires group { g < desk.old.store.geo.agcount }
     ensures halts { Halts D.Device desk.old desk.new result }
     ensures book { OnOk result (desk.new.book ≡ desk.old.book) }
+    ensures items { desk.new.book.journal.items ≡ desk.old.book.journal.items }
     ensures opened { OnOk result (IsOpen D.Device g desk.new.store) }
 {
     match begin_edit(desk, kept, g, inode, steps) {
@@ -82,6 +83,7 @@ pub fn take_both<D: Device, L: Ledger>(
     requires opened { IsOpen D.Device g desk.old.store }
     ensures halts { Halts D.Device desk.old desk.new result }
     ensures book { OnOk result (desk.new.book ≡ desk.old.book) }
+    ensures items { desk.new.book.journal.items ≡ desk.old.book.journal.items }
     ensures opened { OnOk result (IsOpen D.Device g desk.new.store) }
 {
     match take_space(alloc, desk, g, BOTH, run, steps) {
@@ -105,6 +107,7 @@ pub fn give_both<D: Device, L: Ledger>(
     requires opened { IsOpen D.Device g desk.old.store }
     ensures halts { Halts D.Device desk.old desk.new result }
     ensures book { OnOk result (desk.new.book ≡ desk.old.book) }
+    ensures items { desk.new.book.journal.items ≡ desk.old.book.journal.items }
     ensures opened { OnOk result (IsOpen D.Device g desk.new.store) }
 {
     match give_space(alloc, desk, g, BOTH, run, steps) {
@@ -138,6 +141,7 @@ fn turn_rmap<D: Device, L: Ledger>(
     requires opened { IsOpen D.Device g desk.old.store }
     ensures halts { Halts D.Device desk.old desk.new result }
     ensures book { OnOk result (desk.new.book ≡ desk.old.book) }
+    ensures items { desk.new.book.journal.items ≡ desk.old.book.journal.items }
     ensures opened { OnOk result (IsOpen D.Device g desk.new.store) }
 {
     match edit_rmap(alloc, desk, g, edit, steps) {
@@ -162,6 +166,7 @@ pub fn add_owner<D: Device, L: Ledger>(
     requires opened { IsOpen D.Device g desk.old.store }
     ensures halts { Halts D.Device desk.old desk.new result }
     ensures book { OnOk result (desk.new.book ≡ desk.old.book) }
+    ensures items { desk.new.book.journal.items ≡ desk.old.book.journal.items }
     ensures opened { OnOk result (IsOpen D.Device g desk.new.store) }
 {
     turn_rmap(alloc, desk, g, &RmapEdit::Add(owned(run, owner)), steps)
@@ -183,6 +188,7 @@ pub fn cut_owner<D: Device, L: Ledger>(
     requires opened { IsOpen D.Device g desk.old.store }
     ensures halts { Halts D.Device desk.old desk.new result }
     ensures book { OnOk result (desk.new.book ≡ desk.old.book) }
+    ensures items { desk.new.book.journal.items ≡ desk.old.book.journal.items }
     ensures opened { OnOk result (IsOpen D.Device g desk.new.store) }
 {
     turn_rmap(alloc, desk, g, &RmapEdit::Cut(owned(run, owner)), steps)
@@ -200,6 +206,7 @@ fn write_group<D: Device, L: Ledger>(
     requires opened { IsOpen D.Device g desk.old.store }
     ensures halts { Halts D.Device desk.old desk.new result }
     ensures book { OnOk result (desk.new.book ≡ desk.old.book) }
+    ensures items { desk.new.book.journal.items ≡ desk.old.book.journal.items }
 {
     match commit_edit(desk, g, steps) {
         Ok(()) => Ok(()),
@@ -236,6 +243,7 @@ pub fn commit_group<D: Device, L: Ledger>(
     requires opened { IsOpen D.Device g desk.old.store }
     ensures halts { Halts D.Device desk.old desk.new result }
     ensures book { OnOk result (desk.new.book ≡ desk.old.book) }
+    ensures items { desk.new.book.journal.items ≡ desk.old.book.journal.items }
     ensures kept { IsKept kept.new }
 {
     limbo_room(desk, kept)?;

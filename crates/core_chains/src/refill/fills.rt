@@ -1,9 +1,12 @@
 // A free list that is filled.
-ghost use Rattle.std.specs.Prelude.{◌≡◌, ◌<◌, ◌≤◌, ◌+◌, ◌^◌, OnOk};
+ghost use Rattle.std.specs.Prelude.{◌≡◌, ◌<◌, ◌≤◌, ◌+◌, ◌^◌, ◌++◌, ◌∷◌, [], IfOk, OnErr, OnOk};
 ghost use Rattle.std.specs.Vec.{vec_capacity, vec_len};
 ghost use Rattle.core_parts.specs.Common.Asks.{IsUsable};
 ghost use Rattle.core_parts.specs.Safe.{IsKept};
+ghost use Rattle.core_chains.specs.Refill.Entries.{SaysGoal};
 ghost use Rattle.core_chains.specs.Refill.Halts.{Halts};
+ghost use Rattle.free_space.specs.declared.list.ListGoal.TheVariants.{Take};
+ghost use Rattle.fs_model.specs.declared.entry.Entry.TheVariants.{Refilled};
 ghost use Rattle.core_edit.specs.Opened.{IsOpen};
 
 use crate::refill::edits::{add_owner, commit_group, open_group, take_both};
@@ -71,6 +74,7 @@ fn move_run<D: Device, L: Ledger>(
     requires opened { IsOpen D.Device g desk.old.store }
     ensures halts { Halts D.Device desk.old desk.new result }
     ensures book { OnOk result (desk.new.book ≡ desk.old.book) }
+    ensures items { desk.new.book.journal.items ≡ desk.old.book.journal.items }
     ensures opened { OnOk result (IsOpen D.Device g desk.new.store) }
 {
     take_both(alloc, desk, g, run, steps)?;
@@ -91,6 +95,7 @@ fn edit_run<D: Device, L: Ledger>(
     requires group { g < desk.old.store.geo.agcount }
     ensures halts { Halts D.Device desk.old desk.new result }
     ensures book { OnOk result (desk.new.book ≡ desk.old.book) }
+    ensures items { desk.new.book.journal.items ≡ desk.old.book.journal.items }
     ensures opened { OnOk result (IsOpen D.Device g desk.new.store) }
 {
     open_group(desk, kept, g, None, steps)?;
@@ -111,7 +116,9 @@ fn run_for_list<D: Device, L: Ledger>(
     requires room { vec_len desk.old.book.journal + 2 ≤ vec_capacity desk.old.book.journal }
     requires group { g < desk.old.store.geo.agcount }
     ensures halts { Halts D.Device desk.old desk.new result }
+    ensures few { IfOk result (λ run. run.count ≤ wanted) }
     ensures book { OnOk result (desk.new.book ≡ desk.old.book) }
+    ensures items { desk.new.book.journal.items ≡ desk.old.book.journal.items }
 {
     let run = chosen_run(alloc, desk, &kept.heads, g, wanted, steps)?;
     unless_owned(desk, &kept.heads, g, &run, steps)?;
@@ -133,6 +140,7 @@ fn put_run<D: Device, L: Ledger>(
     requires group { g < desk.old.store.geo.agcount }
     ensures halts { Halts D.Device desk.old desk.new result }
     ensures book { OnOk result (desk.new.book ≡ desk.old.book) }
+    ensures items { desk.new.book.journal.items ≡ desk.old.book.journal.items }
     ensures kept { IsKept kept.new }
 {
     edit_run(alloc, desk, kept, g, run, steps)?;
@@ -144,6 +152,10 @@ fn say_filled<D: Device>(desk: &mut Desk<D>, g: u32, run: &SpanRec) -> Result<u3
     requires usable { IsUsable D.Device desk.old }
     requires room { vec_len desk.old.book.journal + 2 ≤ vec_capacity desk.old.book.journal }
     ensures halts { Halts D.Device desk.old desk.new result }
+    ensures count { IfOk result (λ n. n ≡ run.now.count) }
+    ensures said { OnOk result (desk.new.book.journal.items ≡ desk.old.book.journal.items ++
+        Refilled (record { group = g; block = run.now.start; count = run.now.count }) ∷ []) }
+    ensures unsaid { OnErr result (desk.new.book.journal.items ≡ desk.old.book.journal.items) }
 {
     add_entry(
         desk,
@@ -159,6 +171,7 @@ fn say_filled<D: Device>(desk: &mut Desk<D>, g: u32, run: &SpanRec) -> Result<u3
 /// Takes a run of at most so many blocks from free space to the end of the list, which has it for the edits
 /// of this, too. The answer is how many blocks it has
 /// (XFS Algorithms and Data Structures, "AG Free List").
+#[tactic(auto, using(crate::proofs::refill::SaidLemmas::filled_said, crate::proofs::write::SaysLemmas::unsaid_on))]
 pub(crate) fn fill<D: Device, L: Ledger>(
     alloc: Global,
     desk: &mut Desk<D>,
@@ -172,6 +185,9 @@ pub(crate) fn fill<D: Device, L: Ledger>(
     requires room { vec_len desk.old.book.journal + 2 ≤ vec_capacity desk.old.book.journal }
     requires group { g < desk.old.store.geo.agcount }
     ensures halts { Halts D.Device desk.old desk.new result }
+    ensures said { IfOk result (λ n. SaysGoal (Take wanted) g n desk.old.book.journal.items
+        desk.new.book.journal.items) }
+    ensures unsaid { OnErr result (desk.new.book.journal.items ≡ desk.old.book.journal.items) }
     ensures kept { IsKept kept.new }
 {
     let run = run_for_list(alloc, desk, kept, g, wanted, steps)?;

@@ -33,6 +33,7 @@ pub fn halt_at<D: Device>(desk: &mut Desk<D>, g: u32, kind: Kind, fault: WalkFau
     ensures desk { IsDesk D.Device desk.new }
     ensures steady { IsSteady D.Device desk.old desk.new }
     ensures ends { HaltsWell desk.new result }
+    ensures items { desk.new.book.journal.items ≡ desk.old.book.journal.items }
 {
     match fault {
         WalkFault::Bad { block, fault } => Halt::Met(g, kind, Cause::Block { block, fault }),

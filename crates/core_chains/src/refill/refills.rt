@@ -1,8 +1,11 @@
-ghost use Rattle.std.specs.Prelude.{◌≡◌, ◌<◌, ◌≤◌, ◌+◌};
+ghost use Rattle.std.specs.Prelude.{◌≡◌, ◌<◌, ◌≤◌, ◌+◌, IfOk, OnErr, length};
 ghost use Rattle.std.specs.Vec.{vec_capacity, vec_len};
+ghost use Rattle.ag_headers.specs.Ring.{entries as listed};
 ghost use Rattle.core_parts.specs.Common.Asks.{IsUsable};
 ghost use Rattle.core_parts.specs.Safe.{IsKept, IsSafe};
+ghost use Rattle.core_chains.specs.Refill.Entries.{SaysGoal, SaysRefilled, goal_of};
 ghost use Rattle.core_chains.specs.Refill.Halts.{Halts};
+ghost use Rattle.core_chains.specs.Write.Says.{RefusesBy};
 ghost use Rattle.core_chains.specs.Write.Writes.{IsGivenAll, IsLeftAll, WriteParts, WritesWell};
 
 use crate::refill::fills::fill;
@@ -49,6 +52,9 @@ fn reach_goal<D: Device, L: Ledger>(
     requires room { vec_len desk.old.book.journal + MOST_TRIMMED ≤ vec_capacity desk.old.book.journal }
     requires group { g < desk.old.store.geo.agcount }
     ensures halts { Halts D.Device desk.old desk.new result }
+    ensures said { IfOk result (λ n. SaysGoal goal g n desk.old.book.journal.items
+        desk.new.book.journal.items) }
+    ensures unsaid { OnErr result (desk.new.book.journal.items ≡ desk.old.book.journal.items) }
     ensures kept { IsKept kept.new }
 {
     match goal {
@@ -59,6 +65,7 @@ fn reach_goal<D: Device, L: Ledger>(
 }
 
 // Fills or trims the list of a group.
+#[tactic(auto, using(crate::proofs::refill::SaidLemmas::goal_as))]
 fn refill_group<D: Device, L: Ledger>(
     alloc: Global,
     desk: &mut Desk<D>,
@@ -71,6 +78,9 @@ fn refill_group<D: Device, L: Ledger>(
     requires room { vec_len desk.old.book.journal + MOST_TRIMMED ≤ vec_capacity desk.old.book.journal }
     requires group { g < desk.old.store.geo.agcount }
     ensures halts { Halts D.Device desk.old desk.new result }
+    ensures said { IfOk result (λ n. SaysGoal (goal_of (length (listed kept.old.heads.list))) g n
+        desk.old.book.journal.items desk.new.book.journal.items) }
+    ensures unsaid { OnErr result (desk.new.book.journal.items ≡ desk.old.book.journal.items) }
     ensures kept { IsKept kept.new }
 {
     may_refill(desk, kept, g)?;
@@ -90,13 +100,16 @@ fn refill_one<D: Device, L: Ledger>(
     requires room { vec_len desk.old.book.journal + MOST_TRIMMED ≤ vec_capacity desk.old.book.journal }
     requires group { g < desk.old.store.geo.agcount }
     ensures halts { Halts D.Device desk.old desk.new result }
+    ensures said { IfOk result (λ n. SaysRefilled groups.old.items g n desk.old.book.journal.items
+        desk.new.book.journal.items) }
+    ensures unsaid { OnErr result (desk.new.book.journal.items ≡ desk.old.book.journal.items) }
     ensures left { IsLeftAll D.Device desk.old desk.new groups.old.items groups.new.items }
 {
     refill_group(alloc, desk, &mut groups[g as usize], g, steps)
 }
 
 // The same, with the marks of what was met.
-#[tactic(auto, using(crate::proofs::refill::HaltLemmas::left_marked))]
+#[tactic(auto, using(crate::proofs::refill::HaltLemmas::left_marked, crate::proofs::write::SaysLemmas::refused_on))]
 fn refill_marked<D: Device, L: Ledger>(
     alloc: Global,
     desk: &mut Desk<D>,
@@ -109,6 +122,9 @@ fn refill_marked<D: Device, L: Ledger>(
     requires group { g < desk.old.store.geo.agcount }
     ensures left { IsLeftAll D.Device desk.old desk.new groups.old.items groups.new.items }
     ensures reason { WritesWell desk.new result }
+    ensures said { IfOk result (λ n. SaysRefilled groups.old.items g n desk.old.book.journal.items
+        desk.new.book.journal.items) }
+    ensures refused { RefusesBy result desk.old.book.journal.items desk.new.book.journal.items }
 {
     match refill_one(alloc, desk, groups, g, steps) {
         Ok(count) => Ok(count),
@@ -117,7 +133,7 @@ fn refill_marked<D: Device, L: Ledger>(
 }
 
 // The same, once the journal has room.
-#[tactic(auto, using(crate::proofs::refill::HaltLemmas::given_same, crate::proofs::refill::HaltLemmas::left_same, crate::proofs::refill::HaltLemmas::none_same))]
+#[tactic(auto, using(crate::proofs::refill::HaltLemmas::given_same, crate::proofs::refill::HaltLemmas::left_same, crate::proofs::refill::HaltLemmas::none_same, crate::proofs::write::SaysLemmas::refuses_on, crate::proofs::write::SaysLemmas::refuses_same))]
 fn refill_among<D: Device, L: Ledger>(
     alloc: Global,
     desk: &mut Desk<D>,
@@ -129,6 +145,9 @@ fn refill_among<D: Device, L: Ledger>(
     requires group { g < desk.old.store.geo.agcount }
     ensures left { IsLeftAll D.Device desk.old desk.new groups.old.items groups.new.items }
     ensures reason { WritesWell desk.new result }
+    ensures said { IfOk result (λ n. SaysRefilled groups.old.items g n desk.old.book.journal.items
+        desk.new.book.journal.items) }
+    ensures refused { RefusesBy result desk.old.book.journal.items desk.new.book.journal.items }
 {
     writer_room(desk, MOST_TRIMMED)?;
     refill_marked(alloc, desk, groups, g, steps)
@@ -140,7 +159,7 @@ fn refill_among<D: Device, L: Ledger>(
 /// first of Bno, Cnt and Rmap that is, TooLarge where a trimming is more than one commit can write, NoSpace
 /// where there is no free run. A btree that meets a fault is marked, both of free space where the run has an
 /// owner, and nothing else is changed (XFS Algorithms and Data Structures, "AG Free List").
-#[tactic(auto, using(crate::proofs::write::PartLemmas::given_of, crate::proofs::write::PartLemmas::left_parts, crate::proofs::write::PartLemmas::same_parts))]
+#[tactic(auto, using(crate::proofs::write::PartLemmas::given_of, crate::proofs::write::PartLemmas::left_parts, crate::proofs::write::PartLemmas::same_parts, crate::proofs::write::SaysLemmas::refuses_same))]
 pub fn refill<D: Device, L: Ledger>(
     alloc: Global,
     parts: &mut Parts<D>,
@@ -150,6 +169,10 @@ pub fn refill<D: Device, L: Ledger>(
     requires safe { IsSafe D.Device parts.old }
     requires group { g < parts.old.desk.store.geo.agcount }
     ensures left { WriteParts D.Device parts.old parts.new result }
+    ensures said { IfOk result (λ n. SaysRefilled parts.old.groups.items g n
+        parts.old.desk.book.journal.items parts.new.desk.book.journal.items) }
+    ensures refused { RefusesBy result parts.old.desk.book.journal.items
+        parts.new.desk.book.journal.items }
 {
     writer_unshut(&parts.desk)?;
     refill_among(alloc, &mut parts.desk, &mut parts.groups, g, steps)

@@ -1,5 +1,5 @@
 // A run of a group's free space, chosen, and guarded from its owners.
-ghost use Rattle.std.specs.Prelude.{◌≡◌, ◌<◌, ◌≤◌, ◌+◌, OnOk};
+ghost use Rattle.std.specs.Prelude.{◌≡◌, ◌<◌, ◌≤◌, ◌+◌, IfOk, OnOk};
 ghost use Rattle.std.specs.Vec.{vec_capacity, vec_len};
 ghost use Rattle.core_parts.specs.Common.Asks.{IsUsable};
 ghost use Rattle.core_chains.specs.Refill.Halts.{Halts};
@@ -96,6 +96,7 @@ fn fitting<D: Device, L: Ledger>(
     requires group { g < desk.old.store.geo.agcount }
     ensures halts { Halts D.Device desk.old desk.new result }
     ensures book { OnOk result (desk.new.book ≡ desk.old.book) }
+    ensures items { desk.new.book.journal.items ≡ desk.old.book.journal.items }
 {
     let tree = tree_at(heads, g, Kind::Cnt);
     // The last key of the records with fewer blocks.
@@ -119,7 +120,9 @@ fn longest<D: Device, L: Ledger>(
     requires room { vec_len desk.old.book.journal + 2 ≤ vec_capacity desk.old.book.journal }
     requires group { g < desk.old.store.geo.agcount }
     ensures halts { Halts D.Device desk.old desk.new result }
+    ensures few { IfOk result (λ run. run.count ≤ wanted) }
     ensures book { OnOk result (desk.new.book ≡ desk.old.book) }
+    ensures items { desk.new.book.journal.items ≡ desk.old.book.journal.items }
 {
     let tree = tree_at(heads, g, Kind::Cnt);
     let found = last_record::<CntKind, D, L>(desk, &tree, steps)?;
@@ -144,7 +147,9 @@ pub fn chosen_run<D: Device, L: Ledger>(
     requires room { vec_len desk.old.book.journal + 2 ≤ vec_capacity desk.old.book.journal }
     requires group { g < desk.old.store.geo.agcount }
     ensures halts { Halts D.Device desk.old desk.new result }
+    ensures few { IfOk result (λ run. run.count ≤ wanted) }
     ensures book { OnOk result (desk.new.book ≡ desk.old.book) }
+    ensures items { desk.new.book.journal.items ≡ desk.old.book.journal.items }
 {
     let found = fitting(alloc, desk, heads, g, wanted, steps)?;
     match found {
@@ -167,6 +172,7 @@ pub fn unless_owned<D: Device, L: Ledger>(
     requires group { g < desk.old.store.geo.agcount }
     ensures halts { Halts D.Device desk.old desk.new result }
     ensures book { OnOk result (desk.new.book ≡ desk.old.book) }
+    ensures items { desk.new.book.journal.items ≡ desk.old.book.journal.items }
 {
     let tree = tree_at(heads, g, Kind::Rmap);
     let found = owner_record(desk, &tree, run, steps)?;

@@ -1,10 +1,12 @@
 // A free list that is trimmed.
-ghost use Rattle.std.specs.Prelude.{◌≡◌, ◌<◌, ◌≤◌, ◌+◌, IfErr, OnOk, length};
+ghost use Rattle.std.specs.Prelude.{◌≡◌, ◌<◌, ◌≤◌, ◌+◌, ◌++◌, ◌∷◌, [], IfErr, IfOk, OnErr, OnOk, length, map};
 ghost use Rattle.std.specs.Vec.{vec_capacity, vec_len};
 ghost use Rattle.core_parts.specs.Common.Asks.{IsUsable};
 ghost use Rattle.core_parts.specs.Keeps.{IsSteady};
 ghost use Rattle.core_parts.specs.Safe.{IsKept};
+ghost use Rattle.core_chains.specs.Refill.Entries.{SaysGoal, trimmed, with_blocks};
 ghost use Rattle.core_chains.specs.Refill.Halts.{Halts, HaltsWell, IsMemory};
+ghost use Rattle.free_space.specs.declared.list.ListGoal.TheVariants.{Give};
 ghost use Rattle.core_edit.specs.Opened.{IsOpen};
 
 use crate::refill::edits::{commit_group, cut_owner, give_both, open_group};
@@ -105,6 +107,7 @@ fn free_run<D: Device, L: Ledger>(
     requires opened { IsOpen D.Device g desk.old.store }
     ensures halts { Halts D.Device desk.old desk.new result }
     ensures book { OnOk result (desk.new.book ≡ desk.old.book) }
+    ensures items { desk.new.book.journal.items ≡ desk.old.book.journal.items }
     ensures opened { OnOk result (IsOpen D.Device g desk.new.store) }
 {
     let span = SpanRec {
@@ -129,6 +132,7 @@ fn free_runs<D: Device, L: Ledger>(
     requires opened { IsOpen D.Device g desk.old.store }
     ensures halts { Halts D.Device desk.old desk.new result }
     ensures book { OnOk result (desk.new.book ≡ desk.old.book) }
+    ensures items { desk.new.book.journal.items ≡ desk.old.book.journal.items }
     ensures opened { OnOk result (IsOpen D.Device g desk.new.store) }
 {
     let mut rest = runs;
@@ -154,6 +158,7 @@ fn edit_front<D: Device, L: Ledger>(
     requires group { g < desk.old.store.geo.agcount }
     ensures halts { Halts D.Device desk.old desk.new result }
     ensures book { OnOk result (desk.new.book ≡ desk.old.book) }
+    ensures items { desk.new.book.journal.items ≡ desk.old.book.journal.items }
     ensures opened { OnOk result (IsOpen D.Device g desk.new.store) }
 {
     open_group(desk, kept, g, None, steps)?;
@@ -187,6 +192,7 @@ fn try_front<D: Device, L: Ledger>(
     requires group { g < desk.old.store.geo.agcount }
     ensures halts { Halts D.Device desk.old desk.new result }
     ensures book { OnOk result (desk.new.book ≡ desk.old.book) }
+    ensures items { desk.new.book.journal.items ≡ desk.old.book.journal.items }
     ensures opened { OnOk result (IsOpen D.Device g desk.new.store) }
 {
     match edit_front(alloc, desk, kept, g, count, runs, steps) {
@@ -211,6 +217,7 @@ fn write_front<D: Device, L: Ledger>(
     requires group { g < desk.old.store.geo.agcount }
     ensures halts { Halts D.Device desk.old desk.new result }
     ensures book { OnOk result (desk.new.book ≡ desk.old.book) }
+    ensures items { desk.new.book.journal.items ≡ desk.old.book.journal.items }
     ensures kept { IsKept kept.new }
 {
     try_front(alloc, desk, kept, g, count, runs, steps)?;
@@ -226,6 +233,8 @@ fn say_run<D: Device>(desk: &mut Desk<D>, g: u32, run: &Run)
     ensures steady { IsSteady D.Device desk.old desk.new }
     ensures longer { vec_len desk.new.book.journal ≡ vec_len desk.old.book.journal + 1 }
     ensures capacity { vec_capacity desk.new.book.journal ≡ vec_capacity desk.old.book.journal }
+    ensures said { desk.new.book.journal.items ≡ desk.old.book.journal.items ++ trimmed g run.now
+        ∷ [] }
 {
     add_entry(
         desk,
@@ -238,11 +247,15 @@ fn say_run<D: Device>(desk: &mut Desk<D>, g: u32, run: &Run)
 }
 
 // The same of each run; the answer is how many blocks they have.
+#[tactic(auto, using(crate::proofs::refill::SaidLemmas::run_said, crate::proofs::refill::SaidLemmas::all_said))]
 fn say_runs<D: Device>(desk: &mut Desk<D>, g: u32, runs: &[Run]) -> u32
     requires usable { IsUsable D.Device desk.old }
     requires room { vec_len desk.old.book.journal + length runs.now ≤ vec_capacity desk.old.book.journal }
     ensures usable { IsUsable D.Device desk.new }
     ensures steady { IsSteady D.Device desk.old desk.new }
+    ensures said { desk.new.book.journal.items ≡ desk.old.book.journal.items ++ map (trimmed g)
+        runs.now }
+    ensures count { result ≡ with_blocks 0 runs.now }
 {
     let mut count: u32 = 0;
     let mut rest = runs;
@@ -255,6 +268,7 @@ fn say_runs<D: Device>(desk: &mut Desk<D>, g: u32, runs: &[Run]) -> u32
 }
 
 // The runs are free, this is written, and said.
+#[tactic(auto, using(crate::proofs::refill::SaidLemmas::trimmed_said))]
 fn trim_runs<D: Device, L: Ledger>(
     alloc: Global,
     desk: &mut Desk<D>,
@@ -270,6 +284,9 @@ fn trim_runs<D: Device, L: Ledger>(
     requires each { vec_len desk.old.book.journal + length runs.now ≤ vec_capacity desk.old.book.journal }
     requires group { g < desk.old.store.geo.agcount }
     ensures halts { Halts D.Device desk.old desk.new result }
+    ensures said { IfOk result (λ n. SaysGoal (Give count) g n desk.old.book.journal.items
+        desk.new.book.journal.items) }
+    ensures unsaid { OnErr result (desk.new.book.journal.items ≡ desk.old.book.journal.items) }
     ensures kept { IsKept kept.new }
 {
     write_front(alloc, desk, kept, g, count, runs, steps)?;
@@ -292,6 +309,9 @@ pub(crate) fn trim<D: Device, L: Ledger>(
     requires room { vec_len desk.old.book.journal + MOST_TRIMMED ≤ vec_capacity desk.old.book.journal }
     requires group { g < desk.old.store.geo.agcount }
     ensures halts { Halts D.Device desk.old desk.new result }
+    ensures said { IfOk result (λ n. SaysGoal (Give count) g n desk.old.book.journal.items
+        desk.new.book.journal.items) }
+    ensures unsaid { OnErr result (desk.new.book.journal.items ≡ desk.old.book.journal.items) }
     ensures kept { IsKept kept.new }
 {
     let set = front_of(alloc, &kept.heads.list)?;

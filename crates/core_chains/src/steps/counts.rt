@@ -1,4 +1,4 @@
-ghost use Rattle.std.specs.Prelude.{◌≡◌, ◌≤◌, ◌<◌, ◌+◌, ◌++◌, ◌∷◌, [], None, OnOk, true};
+ghost use Rattle.std.specs.Prelude.{◌≡◌, ◌≤◌, ◌<◌, ◌+◌, ◌++◌, ◌∷◌, [], None, OnErr, OnOk, true};
 ghost use Rattle.std.specs.Vec.{vec_capacity, vec_len};
 ghost use Rattle.core_parts.specs.Common.Asks.{IsUsable};
 ghost use Rattle.core_parts.specs.Keeps.{IsSteady};
@@ -175,6 +175,7 @@ fn follow_sound<D: Device, L: Ledger>(
     requires opened { IsOpen D.Device g desk.old.store }
     ensures left { IsLeftGroup D.Device desk.old desk.new kept.now result }
     ensures book { OnOk result (desk.new.book ≡ desk.old.book) }
+    ensures items { desk.new.book.journal.items ≡ desk.old.book.journal.items }
     ensures opened { OnOk result (IsOpen D.Device g desk.new.store) }
 {
     if is_sick(kept, Kind::Rmap) {
@@ -195,6 +196,7 @@ fn write_counted<D: Device, L: Ledger>(
     requires opened { IsOpen D.Device g desk.old.store }
     ensures left { IsLeftGroup D.Device desk.old desk.new kept.new result }
     ensures book { OnOk result (desk.new.book ≡ desk.old.book) }
+    ensures items { desk.new.book.journal.items ≡ desk.old.book.journal.items }
 {
     match write_edit(desk, kept, g, steps) {
         Ok(()) => Ok(Left { refc: None, rmap }),
@@ -214,6 +216,7 @@ fn follow_counted<D: Device, L: Ledger>(
     requires opened { IsOpen D.Device g desk.old.store }
     ensures left { IsLeftGroup D.Device desk.old desk.new kept.new result }
     ensures book { OnOk result (desk.new.book ≡ desk.old.book) }
+    ensures items { desk.new.book.journal.items ≡ desk.old.book.journal.items }
 {
     match follow_sound(alloc, desk, kept, g, steps) {
         Ok(rmap) => write_counted(desk, kept, g, rmap, steps),
@@ -234,6 +237,7 @@ fn count_open<D: Device, L: Ledger>(
     requires opened { IsOpen D.Device intent.now.group desk.old.store }
     ensures left { IsLeftGroup D.Device desk.old desk.new kept.new result }
     ensures book { OnOk result (desk.new.book ≡ desk.old.book) }
+    ensures items { desk.new.book.journal.items ≡ desk.old.book.journal.items }
 {
     let run = SpanRec {
         start: intent.block,
@@ -261,6 +265,7 @@ fn count_span<D: Device, L: Ledger>(
     requires given { IsGivenGroup D.Device desk.old kept.old intent.now.group }
     ensures left { IsLeftGroup D.Device desk.old desk.new kept.new result }
     ensures book { OnOk result (desk.new.book ≡ desk.old.book) }
+    ensures items { desk.new.book.journal.items ≡ desk.old.book.journal.items }
 {
     match begin_edit(desk, kept, intent.group, None, steps) {
         Ok(()) => count_open(alloc, desk, kept, intent, count, steps),
@@ -280,6 +285,7 @@ fn change_span<D: Device, L: Ledger>(
     requires given { IsGivenGroup D.Device desk.old kept.old intent.now.group }
     ensures left { IsLeftGroup D.Device desk.old desk.new kept.new result }
     ensures book { OnOk result (desk.new.book ≡ desk.old.book) }
+    ensures items { desk.new.book.journal.items ≡ desk.old.book.journal.items }
 {
     if is_falling(intent) && !span.counted {
         return Ok(NONE_LEFT);
@@ -321,6 +327,7 @@ fn step_span<D: Device, L: Ledger>(
     requires room { vec_len desk.old.book.journal + 3 ≤ vec_capacity desk.old.book.journal }
     ensures left { IsLeftGroup D.Device desk.old desk.new kept.new result }
     ensures said { OnOk result (SaysRef next.now.number next.now.intent desk.old.book.journal.items desk.new.book.journal.items) }
+    ensures unsaid { OnErr result (desk.new.book.journal.items ≡ desk.old.book.journal.items) }
 {
     match change_span(alloc, desk, kept, &next.intent, span, steps) {
         Ok(left) => {
@@ -346,6 +353,7 @@ fn step_sought<D: Device, L: Ledger>(
     requires room { vec_len desk.old.book.journal + 3 ≤ vec_capacity desk.old.book.journal }
     ensures left { IsLeftGroup D.Device desk.old desk.new kept.new result }
     ensures said { OnOk result (SaysRef next.now.number next.now.intent desk.old.book.journal.items desk.new.book.journal.items) }
+    ensures unsaid { OnErr result (desk.new.book.journal.items ≡ desk.old.book.journal.items) }
 {
     match sought {
         Sought::Found(span) => step_span(alloc, desk, kept, next, span, steps),
@@ -369,6 +377,7 @@ fn step_sound<D: Device, L: Ledger>(
     requires room { vec_len desk.old.book.journal + 3 ≤ vec_capacity desk.old.book.journal }
     ensures left { IsLeftGroup D.Device desk.old desk.new kept.new result }
     ensures said { OnOk result (SaysRef next.now.number next.now.intent desk.old.book.journal.items desk.new.book.journal.items) }
+    ensures unsaid { OnErr result (desk.new.book.journal.items ≡ desk.old.book.journal.items) }
 {
     match span_over(desk, &kept.heads, &next.intent, steps) {
         Ok(sought) => step_sought(alloc, desk, kept, next, sought, steps),
@@ -389,6 +398,7 @@ fn step_roomy<D: Device, L: Ledger>(
     requires room { vec_len desk.old.book.journal + 3 ≤ vec_capacity desk.old.book.journal }
     ensures left { IsLeftGroup D.Device desk.old desk.new kept.new result }
     ensures said { OnOk result (SaysRef next.now.number next.now.intent desk.old.book.journal.items desk.new.book.journal.items) }
+    ensures unsaid { OnErr result (desk.new.book.journal.items ≡ desk.old.book.journal.items) }
 {
     if is_sick(kept, Kind::Refc) {
         pass_over(desk, kept, next);
@@ -409,6 +419,7 @@ fn step_in<D: Device, L: Ledger>(
     requires step { IsStep RefStep next.now }
     ensures left { IsLeftGroup D.Device desk.old desk.new kept.new result }
     ensures said { OnOk result (SaysRef next.now.number next.now.intent desk.old.book.journal.items desk.new.book.journal.items) }
+    ensures unsaid { OnErr result (desk.new.book.journal.items ≡ desk.old.book.journal.items) }
 {
     match chain_room(desk, 3) {
         Ok(()) => step_roomy(alloc, desk, kept, next, steps),
@@ -430,6 +441,7 @@ fn step_among<D: Device, L: Ledger>(
     ensures left { IsLeftAll D.Device desk.old desk.new groups.old.items groups.new.items }
     ensures reason { WritesWell desk.new result }
     ensures said { OnOk result (SaysRef next.now.number next.now.intent desk.old.book.journal.items desk.new.book.journal.items) }
+    ensures unsaid { OnErr result (desk.new.book.journal.items ≡ desk.old.book.journal.items) }
 {
     let kept = &mut groups[next.intent.group as usize];
     step_in(alloc, desk, kept, next, steps)
@@ -447,6 +459,8 @@ fn step_asked_for<D: Device, L: Ledger>(
     requires step { IsStep RefStep next.now }
     ensures left { WriteParts D.Device parts.old parts.new result }
     ensures said { OnOk result (SaysRef next.now.number next.now.intent parts.old.desk.book.journal.items parts.new.desk.book.journal.items) }
+    ensures unsaid { OnErr result (parts.new.desk.book.journal.items ≡
+        parts.old.desk.book.journal.items) }
 {
     // Never: a first event puts intents of a group that is there.
     if next.intent.group >= parts.desk.store.geo.agcount {
@@ -472,6 +486,8 @@ pub fn ref_step<D: Device, L: Ledger>(
     requires safe { IsSafe D.Device parts.old }
     ensures left { WriteParts D.Device parts.old parts.new result }
     ensures said { OnOk result (HasSaid SaysRef chain parts.old parts.new) }
+    ensures unsaid { OnErr result (parts.new.desk.book.journal.items ≡
+        parts.old.desk.book.journal.items) }
 {
     match step_asked(&parts.desk, chain, StepKind::Ref) {
         Ok(next) => step_asked_for(alloc, parts, &next, steps),

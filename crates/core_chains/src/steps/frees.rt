@@ -1,4 +1,4 @@
-ghost use Rattle.std.specs.Prelude.{◌≡◌, ◌≤◌, ◌<◌, ◌+◌, ◌++◌, ◌∷◌, [], None, OnOk, true};
+ghost use Rattle.std.specs.Prelude.{◌≡◌, ◌≤◌, ◌<◌, ◌+◌, ◌++◌, ◌∷◌, [], None, OnErr, OnOk, true};
 ghost use Rattle.std.specs.Vec.{vec_capacity, vec_len};
 ghost use Rattle.core_parts.specs.Common.Asks.{IsUsable};
 ghost use Rattle.core_parts.specs.Keeps.{IsSteady};
@@ -140,6 +140,7 @@ fn write_given<D: Device, L: Ledger>(
     requires kept { IsKept kept.old }
     ensures left { IsLeftGroup D.Device desk.old desk.new kept.new result }
     ensures book { OnOk result (desk.new.book ≡ desk.old.book) }
+    ensures items { desk.new.book.journal.items ≡ desk.old.book.journal.items }
 {
     match write_edit(desk, kept, g, steps) {
         Ok(()) => Ok(left),
@@ -162,6 +163,7 @@ fn give_open<D: Device, L: Ledger>(
     requires kept { IsKept kept.old }
     ensures left { IsLeftGroup D.Device desk.old desk.new kept.new result }
     ensures book { OnOk result (desk.new.book ≡ desk.old.book) }
+    ensures items { desk.new.book.journal.items ≡ desk.old.book.journal.items }
 {
     let run = SpanRec {
         start: intent.block,
@@ -184,6 +186,7 @@ fn give_sound<D: Device, L: Ledger>(
     requires given { IsGivenGroup D.Device desk.old kept.old intent.now.group }
     ensures left { IsLeftGroup D.Device desk.old desk.new kept.new result }
     ensures book { OnOk result (desk.new.book ≡ desk.old.book) }
+    ensures items { desk.new.book.journal.items ≡ desk.old.book.journal.items }
 {
     let kinds = SpaceKinds {
         bno: !is_sick(kept, Kind::Bno),
@@ -211,6 +214,7 @@ fn free_run<D: Device, L: Ledger>(
     requires room { vec_len desk.old.book.journal + 3 ≤ vec_capacity desk.old.book.journal }
     ensures left { IsLeftGroup D.Device desk.old desk.new kept.new result }
     ensures said { OnOk result (SaysFree next.now.number next.now.intent desk.old.book.journal.items desk.new.book.journal.items) }
+    ensures unsaid { OnErr result (desk.new.book.journal.items ≡ desk.old.book.journal.items) }
 {
     match give_sound(alloc, desk, kept, &next.intent, steps) {
         Ok(left) => {
@@ -235,6 +239,7 @@ fn by_owner<D: Device, L: Ledger>(
     requires room { vec_len desk.old.book.journal + 3 ≤ vec_capacity desk.old.book.journal }
     ensures left { IsLeftGroup D.Device desk.old desk.new kept.new result }
     ensures said { OnOk result (SaysFree next.now.number next.now.intent desk.old.book.journal.items desk.new.book.journal.items) }
+    ensures unsaid { OnErr result (desk.new.book.journal.items ≡ desk.old.book.journal.items) }
 {
     match owner {
         Owner::Nobody => free_run(alloc, desk, kept, next, steps),
@@ -262,6 +267,7 @@ fn step_guarded<D: Device, L: Ledger>(
     requires room { vec_len desk.old.book.journal + 3 ≤ vec_capacity desk.old.book.journal }
     ensures left { IsLeftGroup D.Device desk.old desk.new kept.new result }
     ensures said { OnOk result (SaysFree next.now.number next.now.intent desk.old.book.journal.items desk.new.book.journal.items) }
+    ensures unsaid { OnErr result (desk.new.book.journal.items ≡ desk.old.book.journal.items) }
 {
     let run = Run {
         start: next.intent.block,
@@ -286,6 +292,7 @@ fn step_roomy<D: Device, L: Ledger>(
     requires room { vec_len desk.old.book.journal + 3 ≤ vec_capacity desk.old.book.journal }
     ensures left { IsLeftGroup D.Device desk.old desk.new kept.new result }
     ensures said { OnOk result (SaysFree next.now.number next.now.intent desk.old.book.journal.items desk.new.book.journal.items) }
+    ensures unsaid { OnErr result (desk.new.book.journal.items ≡ desk.old.book.journal.items) }
 {
     if is_sick(kept, Kind::Rmap) {
         keep_unasked(desk, kept, next);
@@ -306,6 +313,7 @@ fn step_in<D: Device, L: Ledger>(
     requires step { IsStep FreeStep next.now }
     ensures left { IsLeftGroup D.Device desk.old desk.new kept.new result }
     ensures said { OnOk result (SaysFree next.now.number next.now.intent desk.old.book.journal.items desk.new.book.journal.items) }
+    ensures unsaid { OnErr result (desk.new.book.journal.items ≡ desk.old.book.journal.items) }
 {
     match chain_room(desk, 3) {
         Ok(()) => step_roomy(alloc, desk, kept, next, steps),
@@ -327,6 +335,7 @@ fn step_among<D: Device, L: Ledger>(
     ensures left { IsLeftAll D.Device desk.old desk.new groups.old.items groups.new.items }
     ensures reason { WritesWell desk.new result }
     ensures said { OnOk result (SaysFree next.now.number next.now.intent desk.old.book.journal.items desk.new.book.journal.items) }
+    ensures unsaid { OnErr result (desk.new.book.journal.items ≡ desk.old.book.journal.items) }
 {
     let kept = &mut groups[next.intent.group as usize];
     step_in(alloc, desk, kept, next, steps)
@@ -344,6 +353,8 @@ fn step_asked_for<D: Device, L: Ledger>(
     requires step { IsStep FreeStep next.now }
     ensures left { WriteParts D.Device parts.old parts.new result }
     ensures said { OnOk result (SaysFree next.now.number next.now.intent parts.old.desk.book.journal.items parts.new.desk.book.journal.items) }
+    ensures unsaid { OnErr result (parts.new.desk.book.journal.items ≡
+        parts.old.desk.book.journal.items) }
 {
     // Never: a run that a chain frees is of a group that is there.
     if next.intent.group >= parts.desk.store.geo.agcount {
@@ -367,6 +378,8 @@ pub fn free_step<D: Device, L: Ledger>(
     requires safe { IsSafe D.Device parts.old }
     ensures left { WriteParts D.Device parts.old parts.new result }
     ensures said { OnOk result (HasSaid SaysFree chain parts.old parts.new) }
+    ensures unsaid { OnErr result (parts.new.desk.book.journal.items ≡
+        parts.old.desk.book.journal.items) }
 {
     match step_asked(&parts.desk, chain, StepKind::Free) {
         Ok(next) => step_asked_for(alloc, parts, &next, steps),

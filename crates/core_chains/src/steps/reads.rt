@@ -118,6 +118,7 @@ fn met_at<D: Device>(desk: &mut Desk<D>, fault: WalkFault) -> Result<Cause, Writ
     requires stopped { IsStopped D.Device (is_failed fault) desk.old }
     ensures answers { WriteAnswers D.Device desk.old desk.new result }
     ensures book { OnOk result (desk.new.book ≡ desk.old.book) }
+    ensures items { desk.new.book.journal.items ≡ desk.old.book.journal.items }
 {
     match fault {
         WalkFault::Bad { block, fault } => Ok(Cause::Block { block, fault }),
@@ -138,6 +139,7 @@ fn owner_met<D: Device>(desk: &mut Desk<D>, fault: WalkFault) -> Result<Owner, W
     requires stopped { IsStopped D.Device (is_failed fault) desk.old }
     ensures answers { WriteAnswers D.Device desk.old desk.new result }
     ensures book { OnOk result (desk.new.book ≡ desk.old.book) }
+    ensures items { desk.new.book.journal.items ≡ desk.old.book.journal.items }
 {
     match met_at(desk, fault) {
         Ok(cause) => Ok(Owner::Met(cause)),
@@ -159,6 +161,7 @@ pub(crate) fn owner_over<D: Device, L: Ledger>(
     requires group { g < desk.old.store.geo.agcount }
     ensures answers { WriteAnswers D.Device desk.old desk.new result }
     ensures book { OnOk result (desk.new.book ≡ desk.old.book) }
+    ensures items { desk.new.book.journal.items ≡ desk.old.book.journal.items }
 {
     let tree = rmap_tree(heads, g);
     match ask_owner(desk, &tree, run, steps) {
@@ -172,6 +175,7 @@ fn counter_met<D: Device>(desk: &mut Desk<D>, fault: WalkFault) -> Result<Counte
     requires stopped { IsStopped D.Device (is_failed fault) desk.old }
     ensures answers { WriteAnswers D.Device desk.old desk.new result }
     ensures book { OnOk result (desk.new.book ≡ desk.old.book) }
+    ensures items { desk.new.book.journal.items ≡ desk.old.book.journal.items }
 {
     match met_at(desk, fault) {
         Ok(cause) => Ok(Counter::Met(cause)),
@@ -194,6 +198,7 @@ pub(crate) fn counter_over<D: Device, L: Ledger>(
     requires group { g < desk.old.store.geo.agcount }
     ensures answers { WriteAnswers D.Device desk.old desk.new result }
     ensures book { OnOk result (desk.new.book ≡ desk.old.book) }
+    ensures items { desk.new.book.journal.items ≡ desk.old.book.journal.items }
 {
     let tree = refc_tree(heads, g);
     match ask_counter(desk, &tree, run, after, steps) {

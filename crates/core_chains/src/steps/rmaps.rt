@@ -1,4 +1,4 @@
-ghost use Rattle.std.specs.Prelude.{◌≡◌, ◌≤◌, ◌<◌, ◌+◌, ◌^◌, ◌++◌, ◌∷◌, [], None, OnOk, true};
+ghost use Rattle.std.specs.Prelude.{◌≡◌, ◌≤◌, ◌<◌, ◌+◌, ◌^◌, ◌++◌, ◌∷◌, [], None, OnErr, OnOk, true};
 ghost use Rattle.std.specs.Vec.{vec_capacity, vec_len};
 ghost use Rattle.core_parts.specs.Common.Asks.{IsUsable};
 ghost use Rattle.core_parts.specs.Keeps.{IsSteady};
@@ -63,6 +63,7 @@ fn write_unless_left<D: Device, L: Ledger>(
     requires kept { IsKept kept.old }
     ensures left { IsLeftGroup D.Device desk.old desk.new kept.new result }
     ensures book { OnOk result (desk.new.book ≡ desk.old.book) }
+    ensures items { desk.new.book.journal.items ≡ desk.old.book.journal.items }
 {
     match left {
         Some(cause) => Ok(Some(cause)),
@@ -89,6 +90,7 @@ fn edit_open<D: Device, L: Ledger>(
     requires runs { HasRuns intent.now }
     ensures left { IsLeftGroup D.Device desk.old desk.new kept.new result }
     ensures book { OnOk result (desk.new.book ≡ desk.old.book) }
+    ensures items { desk.new.book.journal.items ≡ desk.old.book.journal.items }
 {
     match edit_rmap(alloc, desk, intent.group, &edit_of(intent), steps) {
         Ok(left) => write_unless_left(desk, kept, intent.group, left, steps),
@@ -109,6 +111,7 @@ fn edit_sound<D: Device, L: Ledger>(
     requires runs { HasRuns intent.now }
     ensures left { IsLeftGroup D.Device desk.old desk.new kept.new result }
     ensures book { OnOk result (desk.new.book ≡ desk.old.book) }
+    ensures items { desk.new.book.journal.items ≡ desk.old.book.journal.items }
 {
     if is_sick(kept, Kind::Rmap) {
         return Ok(None);
@@ -167,6 +170,7 @@ fn step_roomy<D: Device, L: Ledger>(
     requires room { vec_len desk.old.book.journal + 2 ≤ vec_capacity desk.old.book.journal }
     ensures left { IsLeftGroup D.Device desk.old desk.new kept.new result }
     ensures said { OnOk result (SaysRmap next.now.number next.now.intent desk.old.book.journal.items desk.new.book.journal.items) }
+    ensures unsaid { OnErr result (desk.new.book.journal.items ≡ desk.old.book.journal.items) }
 {
     match edit_sound(alloc, desk, kept, &next.intent, steps) {
         Ok(left) => {
@@ -190,6 +194,7 @@ fn step_in<D: Device, L: Ledger>(
     requires runs { HasRuns next.now.intent }
     ensures left { IsLeftGroup D.Device desk.old desk.new kept.new result }
     ensures said { OnOk result (SaysRmap next.now.number next.now.intent desk.old.book.journal.items desk.new.book.journal.items) }
+    ensures unsaid { OnErr result (desk.new.book.journal.items ≡ desk.old.book.journal.items) }
 {
     match chain_room(desk, 2) {
         Ok(()) => step_roomy(alloc, desk, kept, next, steps),
@@ -212,6 +217,7 @@ fn step_among<D: Device, L: Ledger>(
     ensures left { IsLeftAll D.Device desk.old desk.new groups.old.items groups.new.items }
     ensures reason { WritesWell desk.new result }
     ensures said { OnOk result (SaysRmap next.now.number next.now.intent desk.old.book.journal.items desk.new.book.journal.items) }
+    ensures unsaid { OnErr result (desk.new.book.journal.items ≡ desk.old.book.journal.items) }
 {
     let kept = &mut groups[next.intent.group as usize];
     step_in(alloc, desk, kept, next, steps)
@@ -234,6 +240,7 @@ fn step_heard<D: Device, L: Ledger>(
     ensures reason { WritesWell desk.new result }
     ensures stays { StaysPlace place.old place.new }
     ensures said { OnOk result (SaysRmap next.now.number next.now.intent desk.old.book.journal.items desk.new.book.journal.items) }
+    ensures unsaid { OnErr result (desk.new.book.journal.items ≡ desk.old.book.journal.items) }
 {
     match take_room(place) {
         Ok(()) => match step_among(alloc, desk, groups, next, steps) {
@@ -259,6 +266,8 @@ fn step_asked_for<D: Device, L: Ledger>(
     requires step { IsStep RmapStep next.now }
     ensures left { WriteParts D.Device parts.old parts.new result }
     ensures said { OnOk result (SaysRmap next.now.number next.now.intent parts.old.desk.book.journal.items parts.new.desk.book.journal.items) }
+    ensures unsaid { OnErr result (parts.new.desk.book.journal.items ≡
+        parts.old.desk.book.journal.items) }
 {
     // Never: a first event puts intents of a group that is there, with runs that lie in it.
     if next.intent.group >= parts.desk.store.geo.agcount || !has_runs(&next.intent) {
@@ -290,6 +299,8 @@ pub fn rmap_step<D: Device, L: Ledger>(
     requires safe { IsSafe D.Device parts.old }
     ensures left { WriteParts D.Device parts.old parts.new result }
     ensures said { OnOk result (HasSaid SaysRmap chain parts.old parts.new) }
+    ensures unsaid { OnErr result (parts.new.desk.book.journal.items ≡
+        parts.old.desk.book.journal.items) }
 {
     match step_asked(&parts.desk, chain, StepKind::Rmap) {
         Ok(next) => step_asked_for(alloc, parts, &next, steps),

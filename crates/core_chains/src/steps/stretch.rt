@@ -89,6 +89,7 @@ fn span_behind<D: Device, L: Ledger>(
     requires fits { intent.now.block + intent.now.count < 2 ^ 32 }
     ensures answers { WriteAnswers D.Device desk.old desk.new result }
     ensures book { OnOk result (desk.new.book ≡ desk.old.book) }
+    ensures items { desk.new.book.journal.items ≡ desk.old.book.journal.items }
     ensures part { IfOk result (IsFound intent.now.count) }
 {
     let rest = Run {
@@ -120,6 +121,7 @@ pub(crate) fn span_over<D: Device, L: Ledger>(
     requires fits { intent.now.block + intent.now.count < 2 ^ 32 }
     ensures answers { WriteAnswers D.Device desk.old desk.new result }
     ensures book { OnOk result (desk.new.book ≡ desk.old.book) }
+    ensures items { desk.new.book.journal.items ≡ desk.old.book.journal.items }
     ensures part { IfOk result (IsFound intent.now.count) }
 {
     let first = Run {

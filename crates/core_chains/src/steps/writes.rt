@@ -30,6 +30,7 @@ fn write_roomy<D: Device, L: Ledger>(
     requires kept { IsKept kept.old }
     ensures answers { WriteAnswers D.Device desk.old desk.new result }
     ensures book { OnOk result (desk.new.book ≡ desk.old.book) }
+    ensures items { desk.new.book.journal.items ≡ desk.old.book.journal.items }
     ensures kept { IsKept kept.new }
 {
     match commit_edit(desk, g, steps) {
@@ -55,6 +56,7 @@ pub(crate) fn write_edit<D: Device, L: Ledger>(
     requires kept { IsKept kept.old }
     ensures answers { WriteAnswers D.Device desk.old desk.new result }
     ensures book { OnOk result (desk.new.book ≡ desk.old.book) }
+    ensures items { desk.new.book.journal.items ≡ desk.old.book.journal.items }
     ensures kept { IsKept kept.new }
 {
     match freed_room(desk, kept) {

@@ -47,6 +47,7 @@ fn begin_inside<D: Device, L: Ledger>(
     requires inode { LiesBelow desk.old.store.geo.dblocks inode }
     ensures answers { WriteAnswers D.Device desk.old desk.new result }
     ensures book { OnOk result (desk.new.book ≡ desk.old.book) }
+    ensures items { desk.new.book.journal.items ≡ desk.old.book.journal.items }
     ensures geometry { desk.new.store.geo ≡ desk.old.store.geo }
     ensures opened { OnOk result (IsOpen D.Device g desk.new.store) }
 {
@@ -71,6 +72,7 @@ pub fn begin_edit<D: Device, L: Ledger>(
     requires group { g < desk.old.store.geo.agcount }
     ensures answers { WriteAnswers D.Device desk.old desk.new result }
     ensures book { OnOk result (desk.new.book ≡ desk.old.book) }
+    ensures items { desk.new.book.journal.items ≡ desk.old.book.journal.items }
     ensures geometry { desk.new.store.geo ≡ desk.old.store.geo }
     ensures opened { OnOk result (IsOpen D.Device g desk.new.store) }
 {
@@ -94,6 +96,7 @@ pub fn commit_edit<D: Device, L: Ledger>(
     requires opened { IsOpen D.Device g desk.old.store }
     ensures answers { WriteAnswers D.Device desk.old desk.new result }
     ensures book { OnOk result (desk.new.book ≡ desk.old.book) }
+    ensures items { desk.new.book.journal.items ≡ desk.old.book.journal.items }
     ensures geometry { desk.new.store.geo ≡ desk.old.store.geo }
 {
     match call_commit(desk, g, steps) {

@@ -32,6 +32,7 @@ pub fn edit_rmap<D: Device, L: Ledger>(
     requires opened { IsOpen D.Device g desk.old.store }
     ensures answers { WriteAnswers D.Device desk.old desk.new result }
     ensures book { OnOk result (desk.new.book ≡ desk.old.book) }
+    ensures items { desk.new.book.journal.items ≡ desk.old.book.journal.items }
     ensures geometry { desk.new.store.geo ≡ desk.old.store.geo }
     ensures opened { OnOk result (IsOpen D.Device g desk.new.store) }
 {
@@ -59,6 +60,7 @@ pub fn edit_refc<D: Device, L: Ledger>(
     requires opened { IsOpen D.Device g desk.old.store }
     ensures answers { WriteAnswers D.Device desk.old desk.new result }
     ensures book { OnOk result (desk.new.book ≡ desk.old.book) }
+    ensures items { desk.new.book.journal.items ≡ desk.old.book.journal.items }
     ensures geometry { desk.new.store.geo ≡ desk.old.store.geo }
     ensures opened { OnOk result (IsOpen D.Device g desk.new.store) }
 {
@@ -85,6 +87,7 @@ pub fn take_space<D: Device, L: Ledger>(
     requires opened { IsOpen D.Device g desk.old.store }
     ensures answers { WriteAnswers D.Device desk.old desk.new result }
     ensures book { OnOk result (desk.new.book ≡ desk.old.book) }
+    ensures items { desk.new.book.journal.items ≡ desk.old.book.journal.items }
     ensures geometry { desk.new.store.geo ≡ desk.old.store.geo }
     ensures opened { OnOk result (IsOpen D.Device g desk.new.store) }
 {
@@ -111,6 +114,7 @@ pub fn give_space<D: Device, L: Ledger>(
     requires opened { IsOpen D.Device g desk.old.store }
     ensures answers { WriteAnswers D.Device desk.old desk.new result }
     ensures book { OnOk result (desk.new.book ≡ desk.old.book) }
+    ensures items { desk.new.book.journal.items ≡ desk.old.book.journal.items }
     ensures geometry { desk.new.store.geo ≡ desk.old.store.geo }
     ensures opened { OnOk result (IsOpen D.Device g desk.new.store) }
 {
@@ -137,6 +141,7 @@ pub fn edit_inos<D: Device, L: Ledger>(
     requires opened { IsOpen D.Device g desk.old.store }
     ensures answers { WriteAnswers D.Device desk.old desk.new result }
     ensures book { OnOk result (desk.new.book ≡ desk.old.book) }
+    ensures items { desk.new.book.journal.items ≡ desk.old.book.journal.items }
     ensures geometry { desk.new.store.geo ≡ desk.old.store.geo }
     ensures opened { OnOk result (IsOpen D.Device g desk.new.store) }
 {

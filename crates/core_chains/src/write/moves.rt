@@ -68,6 +68,7 @@ fn turn_if_gone<D: Device, L: Ledger>(
     requires opened { IsOpen D.Device g desk.old.store }
     ensures answers { WriteAnswers D.Device desk.old desk.new result }
     ensures book { OnOk result (desk.new.book ≡ desk.old.book) }
+    ensures items { desk.new.book.journal.items ≡ desk.old.book.journal.items }
     ensures geometry { desk.new.store.geo ≡ desk.old.store.geo }
     ensures opened { OnOk result (IsOpen D.Device g desk.new.store) }
 {
@@ -93,6 +94,7 @@ fn turn_between<D: Device, L: Ledger>(
     requires opened { IsOpen D.Device g desk.old.store }
     ensures answers { WriteAnswers D.Device desk.old desk.new result }
     ensures book { OnOk result (desk.new.book ≡ desk.old.book) }
+    ensures items { desk.new.book.journal.items ≡ desk.old.book.journal.items }
     ensures geometry { desk.new.store.geo ≡ desk.old.store.geo }
     ensures opened { OnOk result (IsOpen D.Device g desk.new.store) }
 {
@@ -125,6 +127,7 @@ pub fn follow_moves<D: Device, L: Ledger>(
     requires opened { IsOpen D.Device g desk.old.store }
     ensures answers { WriteAnswers D.Device desk.old desk.new result }
     ensures book { OnOk result (desk.new.book ≡ desk.old.book) }
+    ensures items { desk.new.book.journal.items ≡ desk.old.book.journal.items }
     ensures geometry { desk.new.store.geo ≡ desk.old.store.geo }
     ensures opened { OnOk result (IsOpen D.Device g desk.new.store) }
 {
@@ -154,6 +157,7 @@ fn gain_blocks<D: Device, L: Ledger>(
     requires opened { IsOpen D.Device g desk.old.store }
     ensures answers { WriteAnswers D.Device desk.old desk.new result }
     ensures book { OnOk result (desk.new.book ≡ desk.old.book) }
+    ensures items { desk.new.book.journal.items ≡ desk.old.book.journal.items }
     ensures geometry { desk.new.store.geo ≡ desk.old.store.geo }
     ensures opened { OnOk result (IsOpen D.Device g desk.new.store) }
 {
