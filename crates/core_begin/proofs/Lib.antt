@@ -1,1 +1,2 @@
+pub mod AfterLemmas
 pub mod BeginLemmas

@@ -28,6 +28,7 @@ IsEarly works.Judged = Unit {0}
 pub record IsTaken (old new : UnitState) : Type 0 where
   pub group : new.group ≡ old.group
   pub early : IsEarly new.work
+  pub rest : new ≡ record old { work = works.Judged }
 
 -- a scan goes on until its end
 abbrev pub phase_after : Moved → Phase

@@ -1,2 +1,3 @@
+pub mod After
 pub mod Early
 pub mod Whole

@@ -1,13 +1,15 @@
-ghost use Rattle.std.specs.Prelude.{◌≡◌, ◌<◌, OnOk};
+ghost use Rattle.std.specs.Prelude.{◌≡◌, ◌<◌, IfErr, OnOk};
+ghost use Rattle.core_begin.specs.After.{left_by};
 ghost use Rattle.core_begin.specs.Early.{IsEarly};
 ghost use Rattle.core_calls.specs.declared.answers.Phase.{Phase};
 ghost use Rattle.core_parts.specs.Common.Asks.{Answers, IsUsable};
+ghost use Rattle.core_parts.specs.Common.Entries.{HasMore, entries_of};
 ghost use Rattle.core_parts.specs.Keeps.{IsGiven, IsLeft, IsSteady};
 ghost use Rattle.core_parts.specs.Phases.{phase_in};
 ghost use Rattle.core_parts.specs.Reasons.{AnswersWell};
 
 use crate::giving::lose_turn;
-use crate::taking::take_owners;
+use crate::taking::{put_work, take_owners};
 use blk_device::Device;
 use core_calls::ScrubFault;
 use core_parts::{Desk, GroupKept, UnitState, Work, phase_of};
@@ -19,6 +21,7 @@ fn close_gate<D: Device>(desk: &mut Desk<D>, g: u32) -> Result<(), u32>
     requires group { g < desk.old.store.geo.agcount }
     ensures usable { IsUsable D.Device desk.new }
     ensures steady { IsSteady D.Device desk.old desk.new }
+    ensures items { desk.new.book.journal.items ≡ desk.old.book.journal.items }
 {
     desk.drain.close(g)
 }
@@ -35,15 +38,18 @@ fn close_group<D: Device>(
     ensures group { unit.new.group ≡ unit.old.group }
     ensures early { IsEarly unit.new.work }
     ensures phase { OnOk result (phase_in unit.new.work ≡ Phase.Closed) }
+    ensures entries { HasMore desk.old desk.new (entries_of unit.old.group unit.old.unit result) }
+    ensures kept { IfErr result (λ fault.
+        unit.new ≡ left_by (record unit.old { work = Work.Open owners }) fault) }
 {
     let g = unit.group;
     match close_gate(desk, g) {
         Ok(()) => {
-            unit.work = Work::Closed(owners);
+            put_work(unit, Work::Closed(owners));
             Ok(())
         }
         Err(count) => {
-            unit.work = Work::Open(owners);
+            put_work(unit, Work::Open(owners));
             Err(lose_turn(desk, unit, ScrubFault::Draining(g, count)))
         }
     }
@@ -61,6 +67,8 @@ pub fn close<D: Device>(
     ensures left { IsLeft D.Device desk.old desk.new kept.new unit.old unit.new }
     ensures reason { AnswersWell desk.new result }
     ensures phase { OnOk result (phase_in unit.new.work ≡ Phase.Closed) }
+    ensures entries { HasMore desk.old desk.new (entries_of unit.old.group unit.old.unit result) }
+    ensures kept { IfErr result (λ fault. unit.new ≡ left_by unit.old fault) }
 {
     match take_owners(unit) {
         Some(owners) => close_group(desk, unit, owners),

@@ -1,10 +1,13 @@
 ghost use Rattle.std.specs.Prelude.{◌≡◌};
+ghost use Rattle.core_begin.specs.After.{IsGivingUp, IsWait, left_by};
 ghost use Rattle.core_begin.specs.Early.{IsEarly};
 ghost use Rattle.core_parts.specs.Common.Asks.{IsUsable};
+ghost use Rattle.core_parts.specs.Common.Entries.{HasMore, entries_on};
 ghost use Rattle.core_parts.specs.Keeps.{IsSteady};
 ghost use Rattle.core_parts.specs.Reasons.{HasReason};
 ghost use Rattle.core_parts.specs.Safe.{IsDesk};
 
+use crate::taking::put_work;
 use blk_device::Device;
 use core_calls::ScrubFault;
 use core_parts::common::say_verdict;
@@ -25,10 +28,13 @@ pub(crate) fn give_up<D: Device>(
     ensures reason { HasReason desk.new result }
     ensures group { unit.new.group ≡ unit.old.group }
     ensures early { IsEarly unit.new.work }
+    ensures entries { HasMore desk.old desk.new (entries_on unit.old.group unit.old.unit result) }
+    ensures kept { unit.new ≡ left_by unit.old result }
+    ensures gives { IsGivingUp result }
 {
     match say_verdict(desk, unit.group, unit.unit, Verdict::GaveUp(reason)) {
         Ok(()) => {
-            unit.work = Work::Judged;
+            put_work(unit, Work::Judged);
             ScrubFault::GaveUp(reason)
         }
         Err(fault) => fault,
@@ -49,6 +55,9 @@ pub(crate) fn lose_turn<D: Device>(
     ensures reason { HasReason desk.new result }
     ensures group { unit.new.group ≡ unit.old.group }
     ensures early { IsEarly unit.new.work }
+    ensures entries { IsWait fault
+        → HasMore desk.old desk.new (entries_on unit.old.group unit.old.unit result) }
+    ensures kept { IsWait fault → unit.new ≡ left_by unit.old result }
 {
     let turns = unit.turns;
     if unit.asked >= turns || turns - unit.asked == 1 {

@@ -1,13 +1,15 @@
 ghost use Rattle.std.specs.Prelude.{◌≡◌, IfErr, IfOk, OnErr};
+ghost use Rattle.core_begin.specs.After.{IsLeftAt, IsLeftByMove, IsStuck, Reaches};
 ghost use Rattle.core_begin.specs.Early.{IsEarly, phase_after};
 ghost use Rattle.core_parts.specs.Common.Asks.{Answers, IsStopped, IsUsable};
+ghost use Rattle.core_parts.specs.Common.Entries.{HasMore, IsHalt, entries_of};
 ghost use Rattle.core_parts.specs.Keeps.{IsAsked, IsGiven, IsLeft, failed_by};
 ghost use Rattle.core_parts.specs.Phases.{phase_in};
 ghost use Rattle.core_parts.specs.Reasons.{AnswersWell};
-ghost use Rattle.core_scan.specs.Calls.{Stays, is_stuck_failed};
+ghost use Rattle.core_scan.specs.Calls.{IsAt, Stays, is_stuck_failed};
 
 use crate::giving::{give_up, lose_turn};
-use crate::taking::take_scan;
+use crate::taking::{put_scan, put_work, take_scan};
 use blk_device::Device;
 use byte_fields::Steps;
 use core_calls::{Moved, ScrubFault};
@@ -40,6 +42,7 @@ fn ask_next<D: Device, L: Ledger>(
     ensures asked { IsAsked D.Device (failed_by is_stuck_failed result) desk.old desk.new }
     ensures stays { Stays scan.old scan.new }
     ensures kept { OnErr result (scan.new ≡ scan.old) }
+    ensures at { IfOk result (λ moved. IsAt moved scan.new) }
 {
     core_scan::advance(
         scan,
@@ -56,6 +59,9 @@ fn ask_next<D: Device, L: Ledger>(
 fn stuck_at<D: Device>(desk: &mut Desk<D>, stuck: Stuck) -> Result<Reach, ScrubFault>
     requires stopped { IsStopped D.Device (is_stuck_failed stuck) desk.old }
     ensures answers { Answers D.Device desk.old desk.new result }
+    ensures items { desk.new.book.journal.items ≡ desk.old.book.journal.items }
+    ensures halts { IfErr result IsHalt }
+    ensures stuck { IfOk result IsStuck }
 {
     match stuck {
         Stuck::Busy(ino) => Ok(Reach::Busy(ino)),
@@ -73,6 +79,10 @@ fn next_inode<D: Device, L: Ledger>(
 ) -> Result<Reach, ScrubFault>
     requires usable { IsUsable D.Device desk.old }
     ensures answers { Answers D.Device desk.old desk.new result }
+    ensures items { desk.new.book.journal.items ≡ desk.old.book.journal.items }
+    ensures halts { IfErr result IsHalt }
+    ensures stays { Stays scan.old scan.new }
+    ensures reaches { Reaches scan.old scan.new result }
 {
     match ask_next(desk, scan, steps) {
         Ok(ScanMoved::At(ino)) => Ok(Reach::At(ino)),
@@ -88,14 +98,15 @@ fn end_scan(alloc: Global, unit: &mut UnitState, scan: Scan) -> Result<Moved, Sc
     ensures early { IsEarly unit.new.work }
     ensures phase { IfOk result (λ moved. phase_in unit.new.work ≡ phase_after moved) }
     ensures memory { IfErr result (λ fault. fault ≡ ScrubFault.Memory) }
+    ensures kept { OnErr result (unit.new ≡ record unit.old { work = Work.Scanning scan }) }
 {
     match owners_of(alloc, &scan) {
         Ok(owners) => {
-            unit.work = Work::Open(owners);
+            put_work(unit, Work::Open(owners));
             Ok(Moved::End)
         }
         Err(_) => {
-            unit.work = Work::Scanning(scan);
+            put_scan(unit, scan);
             Err(ScrubFault::Memory)
         }
     }
@@ -114,21 +125,24 @@ fn go_on<D: Device>(
     ensures group { unit.new.group ≡ unit.old.group }
     ensures early { IsEarly unit.new.work }
     ensures phase { IfOk result (λ moved. phase_in unit.new.work ≡ phase_after moved) }
+    ensures entries { HasMore desk.old desk.new (entries_of unit.old.group unit.old.unit result) }
+    ensures kept { IfErr result (λ fault.
+        IsLeftAt reach (record unit.old { work = Work.Scanning scan }) fault unit.new) }
 {
     match reach {
         Reach::At(ino) => {
-            unit.work = Work::Scanning(scan);
+            put_scan(unit, scan);
             Ok(Moved::At(ino))
         }
         Reach::End => end_scan(alloc, unit, scan),
         Reach::Busy(ino) => {
-            unit.work = Work::Scanning(scan);
+            put_scan(unit, scan);
             Err(lose_turn(desk, unit, ScrubFault::Busy(ino)))
         }
         Reach::Bad(block) => {
             let kind = Kind::Ino;
             let evidence = Evidence::BadTree { kind, block };
-            unit.work = Work::Scanning(scan);
+            put_scan(unit, scan);
             Err(give_up(desk, unit, Reason::Contradiction(evidence)))
         }
     }
@@ -147,11 +161,14 @@ fn move_on<D: Device, L: Ledger>(
     ensures group { unit.new.group ≡ unit.old.group }
     ensures early { IsEarly unit.new.work }
     ensures phase { IfOk result (λ moved. phase_in unit.new.work ≡ phase_after moved) }
+    ensures entries { HasMore desk.old desk.new (entries_of unit.old.group unit.old.unit result) }
+    ensures kept { IfErr result (λ fault.
+        IsLeftByMove (record unit.old { work = Work.Scanning scan }) fault unit.new) }
 {
     match next_inode(desk, &mut scan, steps) {
         Ok(reach) => go_on(alloc, desk, unit, scan, reach),
         Err(fault) => {
-            unit.work = Work::Scanning(scan);
+            put_scan(unit, scan);
             Err(fault)
         }
     }
@@ -172,6 +189,8 @@ pub fn advance<D: Device, L: Ledger>(
     ensures left { IsLeft D.Device desk.old desk.new kept.new unit.old unit.new }
     ensures reason { AnswersWell desk.new result }
     ensures phase { IfOk result (λ moved. phase_in unit.new.work ≡ phase_after moved) }
+    ensures entries { HasMore desk.old desk.new (entries_of unit.old.group unit.old.unit result) }
+    ensures kept { IfErr result (λ fault. IsLeftByMove unit.old fault unit.new) }
 {
     match take_scan(unit) {
         Some(scan) => move_on(alloc, desk, unit, scan, steps),

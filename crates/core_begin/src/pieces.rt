@@ -1,7 +1,9 @@
-ghost use Rattle.std.specs.Prelude.{◌≡◌, OnOk};
+ghost use Rattle.std.specs.Prelude.{◌≡◌, IfErr, OnOk};
+ghost use Rattle.core_begin.specs.After.{IsGivingUp, IsLeftByPiece, left_by};
 ghost use Rattle.core_begin.specs.Early.{IsEarly};
 ghost use Rattle.core_calls.specs.declared.answers.Phase.{Phase};
 ghost use Rattle.core_parts.specs.Common.Asks.{Answers, IsStopped, IsUsable};
+ghost use Rattle.core_parts.specs.Common.Entries.{HasMore, IsHalt, entries_of};
 ghost use Rattle.core_parts.specs.Keeps.{IsAsked, IsGiven, IsLeft, failed_by};
 ghost use Rattle.core_parts.specs.Phases.{phase_in};
 ghost use Rattle.core_parts.specs.Reasons.{AnswersWell};
@@ -13,7 +15,7 @@ use blk_device::Device;
 use byte_fields::Steps;
 use core_calls::{Phase, ScrubFault};
 use core_parts::common::stop_by;
-use core_parts::{Desk, GroupKept, UnitState, phase_of};
+use core_parts::{Desk, GroupKept, UnitState, Work, phase_of};
 use core_scan::{Scan, ScanStop, read_piece};
 use fs_model::{Evidence, Reason};
 use std::alloc::Global;
@@ -45,6 +47,8 @@ fn ask_piece<D: Device, L: Ledger>(
 fn halted_at<D: Device>(desk: &mut Desk<D>, stop: ScanStop) -> Result<Piece, ScrubFault>
     requires stopped { IsStopped D.Device (is_failed stop) desk.old }
     ensures answers { Answers D.Device desk.old desk.new result }
+    ensures items { desk.new.book.journal.items ≡ desk.old.book.journal.items }
+    ensures halts { IfErr result IsHalt }
 {
     match stop {
         ScanStop::Bad(evidence) => Ok(Piece::Bad(evidence)),
@@ -62,6 +66,9 @@ fn next_piece<D: Device, L: Ledger>(
 ) -> Result<Piece, ScrubFault>
     requires usable { IsUsable D.Device desk.old }
     ensures answers { Answers D.Device desk.old desk.new result }
+    ensures items { desk.new.book.journal.items ≡ desk.old.book.journal.items }
+    ensures halts { IfErr result IsHalt }
+    ensures stays { Stays scan.old scan.new }
 {
     match ask_piece(alloc, desk, scan, steps) {
         Ok(is_last) => Ok(Piece::Given(is_last)),
@@ -81,6 +88,10 @@ fn take_piece<D: Device>(
     ensures group { unit.new.group ≡ unit.old.group }
     ensures early { IsEarly unit.new.work }
     ensures phase { OnOk result (phase_in unit.new.work ≡ Phase.Scanning) }
+    ensures entries { HasMore desk.old desk.new (entries_of unit.old.group unit.old.unit result) }
+    ensures kept { IfErr result (λ fault.
+        unit.new ≡ left_by (record unit.old { work = Work.Scanning scan }) fault) }
+    ensures gives { IfErr result IsGivingUp }
 {
     put_scan(unit, scan);
     match piece {
@@ -102,6 +113,9 @@ fn read_on<D: Device, L: Ledger>(
     ensures group { unit.new.group ≡ unit.old.group }
     ensures early { IsEarly unit.new.work }
     ensures phase { OnOk result (phase_in unit.new.work ≡ Phase.Scanning) }
+    ensures entries { HasMore desk.old desk.new (entries_of unit.old.group unit.old.unit result) }
+    ensures kept { IfErr result (λ fault.
+        IsLeftByPiece (record unit.old { work = Work.Scanning scan }) fault unit.new) }
 {
     match next_piece(alloc, desk, &mut scan, steps) {
         Ok(piece) => take_piece(desk, unit, scan, piece),
@@ -125,6 +139,9 @@ fn read_held<D: Device, L: Ledger>(
     ensures group { unit.new.group ≡ unit.old.group }
     ensures early { IsEarly unit.new.work }
     ensures phase { OnOk result (phase_in unit.new.work ≡ Phase.Scanning) }
+    ensures entries { HasMore desk.old desk.new (entries_of unit.old.group unit.old.unit result) }
+    ensures kept { IfErr result (λ fault.
+        IsLeftByPiece (record unit.old { work = Work.Scanning scan }) fault unit.new) }
 {
     match scan.held {
         Some(_) => read_on(alloc, desk, unit, scan, steps),
@@ -149,6 +166,8 @@ pub fn scan_piece<D: Device, L: Ledger>(
     ensures left { IsLeft D.Device desk.old desk.new kept.new unit.old unit.new }
     ensures reason { AnswersWell desk.new result }
     ensures phase { OnOk result (phase_in unit.new.work ≡ Phase.Scanning) }
+    ensures entries { HasMore desk.old desk.new (entries_of unit.old.group unit.old.unit result) }
+    ensures kept { IfErr result (λ fault. IsLeftByPiece unit.old fault unit.new) }
 {
     match take_scan(unit) {
         Some(scan) => read_held(alloc, desk, unit, scan, steps),

@@ -1,6 +1,8 @@
-ghost use Rattle.std.specs.Prelude.{◌≡◌, ◌<◌, IfOk, None, OnOk, Some, length};
+ghost use Rattle.std.specs.Prelude.{◌≡◌, ◌<◌, IfErr, IfOk, None, OnErr, OnOk, Some, length};
+ghost use Rattle.core_begin.specs.After.{IsSetAside};
 ghost use Rattle.core_begin.specs.Early.{IsEarly, WhereScanned};
 ghost use Rattle.core_parts.specs.Common.Asks.{Answers, IsUsable};
+ghost use Rattle.core_parts.specs.Common.Entries.{HasMore, WantsRoom, entries_of, entries_on};
 ghost use Rattle.core_parts.specs.Opens.Inodes.{are_trees};
 ghost use Rattle.core_parts.specs.Keeps.{IsSteady};
 ghost use Rattle.core_parts.specs.Reasons.{AnswersWell, HasReason};
@@ -21,6 +23,8 @@ use std::alloc::Global;
 fn take_room<D: Device>(desk: &mut Desk<D>) -> Result<(), ScrubFault>
     requires usable { IsUsable D.Device desk.old }
     ensures answers { Answers D.Device desk.old desk.new result }
+    ensures items { desk.new.book.journal.items ≡ desk.old.book.journal.items }
+    ensures wants { IfErr result WantsRoom }
 {
     entry_room(desk, 2)
 }
@@ -31,6 +35,7 @@ fn skip<D: Device>(desk: &mut Desk<D>, group: u32, unit: Unit, needed: (u32, Uni
     ensures desk { IsDesk D.Device desk.new }
     ensures steady { IsSteady D.Device desk.old desk.new }
     ensures reason { HasReason desk.new result }
+    ensures entries { HasMore desk.old desk.new (entries_on group unit result) }
 {
     let (h, other) = needed;
     match say_verdict(desk, group, unit, Verdict::Skipped(h, other)) {
@@ -50,6 +55,7 @@ fn unless_skipped<D: Device>(
     requires all { length groups.now ≡ desk.old.store.geo.agcount }
     requires group { g < desk.old.store.geo.agcount }
     ensures answers { Answers D.Device desk.old desk.new result }
+    ensures entries { HasMore desk.old desk.new (entries_of g unit result) }
 {
     match first_needed(groups, desk.store.geo.agcount, g, unit) {
         Some(needed) => Err(skip(desk, g, unit, needed)),
@@ -70,6 +76,7 @@ fn may_begin<D: Device>(
     requires units { length units.now ≡ desk.old.store.geo.agcount }
     requires group { g < desk.old.store.geo.agcount }
     ensures answers { Answers D.Device desk.old desk.new result }
+    ensures entries { HasMore desk.old desk.new (entries_of g unit result) }
 {
     if let Some((h, open)) = open_beside(units, g, unit) {
         return Err(ScrubFault::UnitOpen(h, open));
@@ -90,6 +97,8 @@ fn begin_scan<D: Device>(
     ensures answers { Answers D.Device desk.old desk.new result }
     ensures early { IfOk result IsEarly }
     ensures trees { OnOk result (desk.new.ino_trees.items ≡ are_trees 0 groups.now) }
+    ensures items { desk.new.book.journal.items ≡ desk.old.book.journal.items }
+    ensures wants { IfErr result WantsRoom }
 {
     let Ok(scan) = core_scan::begin(alloc, g) else {
         return Err(ScrubFault::Memory);
@@ -114,6 +123,8 @@ fn first_work<D: Device>(
     ensures answers { Answers D.Device desk.old desk.new result }
     ensures early { IfOk result IsEarly }
     ensures trees { WhereScanned unit (OnOk result (desk.new.ino_trees.items ≡ are_trees 0 groups.now)) }
+    ensures items { desk.new.book.journal.items ≡ desk.old.book.journal.items }
+    ensures wants { IfErr result WantsRoom }
 {
     match unit {
         Unit::Rmap => begin_scan(alloc, desk, groups, g),
@@ -171,6 +182,8 @@ fn open_unit<D: Device>(
     ensures steady { IsSteady D.Device parts.old.desk parts.new.desk }
     ensures reason { AnswersWell parts.new.desk result }
     ensures trees { WhereScanned unit (OnOk result (parts.new.desk.ino_trees.items ≡ are_trees 0 parts.new.groups.items)) }
+    ensures entries { HasMore parts.old.desk parts.new.desk (entries_of g unit result) }
+    ensures kept { OnErr result (IsSetAside parts.old parts.new) }
 {
     let work = first_work(alloc, &mut parts.desk, parts.groups.as_slice(), g, unit)?;
     end_pass(&mut parts.groups, g, unit);
@@ -206,6 +219,8 @@ pub fn start<D: Device>(
     ensures steady { IsSteady D.Device parts.old.desk parts.new.desk }
     ensures reason { AnswersWell parts.new.desk result }
     ensures trees { WhereScanned unit (OnOk result (parts.new.desk.ino_trees.items ≡ are_trees 0 parts.new.groups.items)) }
+    ensures entries { HasMore parts.old.desk parts.new.desk (entries_of g unit result) }
+    ensures kept { OnErr result (IsSetAside parts.old parts.new) }
 {
     let groups = parts.groups.as_slice();
     let units = parts.units.as_slice();

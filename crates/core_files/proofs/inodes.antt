@@ -1,1 +1,2 @@
 pub mod InodeLemmas
+pub mod SaidLemmas

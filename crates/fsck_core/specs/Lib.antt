@@ -1,7 +1,9 @@
 pub mod Acts
 pub mod Asks
+pub mod Entries
 pub mod Glances
 pub mod Opens
 pub mod Replies
+pub mod Said
 pub mod Sick
 pub mod Told

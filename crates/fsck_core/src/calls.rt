@@ -4,6 +4,8 @@ ghost use Rattle.core_parts.specs.Reasons.{TellsWell};
 ghost use Rattle.core_parts.specs.Safe.{IsSafe};
 ghost use Rattle.fsck_core.specs.Acts.{Acts, StaysShut, TellsAll};
 ghost use Rattle.fsck_core.specs.Asks.{MayAsk, group_asked, phase_of_group};
+ghost use Rattle.fsck_core.specs.Entries.{Says};
+ghost use Rattle.fsck_core.specs.Said.{SaysEvent};
 
 use crate::asks::{group_of, phase_behind};
 use crate::events::Event;
@@ -26,6 +28,8 @@ pub(crate) fn answer_of<D: Device, L: Ledger>(
     requires safe { IsSafe D.Device parts.old }
     requires asked { MayAsk parts.old.desk.store.geo.agcount ask }
     ensures acted { Acts D.Device parts.old parts.new result }
+    ensures says { Says ask parts.old parts.new result }
+    ensures said { SaysEvent ask result parts.old parts.new }
 {
     match ask {
         Ask::Start {
@@ -65,6 +69,8 @@ pub fn act<D: Device, L: Ledger>(
     ensures told { TellsWell parts.new.desk result.0 }
     ensures all { TellsAll parts.new.desk result.0 }
     ensures shut { StaysShut parts.old.desk parts.new.desk }
+    ensures says { Says ask parts.old parts.new result.0 }
+    ensures said { SaysEvent ask result.0 parts.old parts.new }
     ensures phase { result.1 ≡ phase_of_group parts.new.units.items (group_asked ask) }
 {
     let answer = answer_of(alloc, parts, ask, steps);

@@ -1,6 +1,7 @@
 ghost use Rattle.std.specs.Prelude.{◌≡◌};
 ghost use Rattle.core_parts.specs.Keeps.{IsGiven, IsLeft};
 ghost use Rattle.fsck_core.specs.Acts.{IsGivenAll, IsWorked, TellsAll};
+ghost use Rattle.fsck_core.specs.Entries.{SaysAmong, SaysIn};
 ghost use Rattle.fsck_core.specs.Told.{told_done, told_moved, told_piece};
 
 use blk_device::Device;
@@ -70,6 +71,7 @@ fn run<D: Device, L: Ledger>(
     requires given { IsGiven D.Device desk.old kept.old unit.old }
     ensures left { IsLeft D.Device desk.old desk.new kept.new unit.old unit.new }
     ensures told { TellsAll desk.new result }
+    ensures says { SaysIn event unit.old unit.new kept.old kept.new desk.old desk.new result }
 {
     match event {
         Event::Advance => tell_moved(advance(alloc, desk, kept, unit, steps)),
@@ -96,6 +98,8 @@ pub(crate) fn run_among<D: Device, L: Ledger>(
     requires given { IsGivenAll D.Device desk.old groups.old.items unit.old }
     ensures left { IsWorked D.Device desk.old desk.new groups.old.items groups.new.items unit.old unit.new }
     ensures told { TellsAll desk.new result }
+    ensures says { SaysAmong event unit.old unit.new groups.old.items groups.new.items
+        desk.old desk.new result }
 {
     let kept = &mut groups[unit.group as usize];
     run(alloc, event, desk, kept, unit, steps)

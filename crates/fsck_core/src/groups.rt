@@ -1,8 +1,11 @@
 ghost use Rattle.std.specs.Prelude.{◌≡◌, ◌<◌, IfErr, IfOk, None};
+ghost use Rattle.core_parts.specs.Common.Entries.{HasMore};
 ghost use Rattle.core_calls.specs.declared.answers.Answer.TheVariants.{Scrub};
 ghost use Rattle.core_parts.specs.Reasons.{AnswersWell};
 ghost use Rattle.core_parts.specs.Safe.{IsSafe, IsUnit};
 ghost use Rattle.fsck_core.specs.Acts.{Acts, IsGivenAll, IsLeftAll, IsTaken};
+ghost use Rattle.core_switch.specs.Says.{SaysBy, released_by};
+ghost use Rattle.fsck_core.specs.Entries.{IsDoneBy, IsOut, IsSetBack, SaysOpen, SaysReleased, SaysReopened, entries_told};
 ghost use Rattle.geom.specs.Places.{layout};
 
 use crate::events::{Event, run_among, tell_done};
@@ -25,6 +28,8 @@ pub(crate) fn take_open<D: Device>(parts: &mut Parts<D>, g: u32) -> Result<UnitS
     requires group { g < parts.old.desk.store.geo.agcount }
     ensures taken { IfOk result (IsTaken D.Device parts.old parts.new) }
     ensures refused { IfErr result (λ fault. Acts D.Device parts.old parts.new (Scrub fault)) }
+    ensures out { IfOk result (IsOut g parts.old parts.new) }
+    ensures back { IfErr result (IsSetBack g parts.old parts.new) }
 {
     unless_shut(&parts.desk)?;
     match take_unit(&mut parts.units, g) {
@@ -45,6 +50,7 @@ fn run_taken<D: Device, L: Ledger>(
     requires unshut { parts.old.desk.book.shut ≡ None }
     requires unit { IsUnit (layout parts.old.desk.store.geo) unit }
     ensures acted { Acts D.Device parts.old parts.new result }
+    ensures says { IsDoneBy event unit parts.old parts.new result }
 {
     let mut unit = unit;
     let answer = run_among(
@@ -70,6 +76,7 @@ pub(crate) fn run_in<D: Device, L: Ledger>(
     requires safe { IsSafe D.Device parts.old }
     requires group { g < parts.old.desk.store.geo.agcount }
     ensures acted { Acts D.Device parts.old parts.new result }
+    ensures says { SaysOpen g event parts.old parts.new result }
 {
     match take_open(parts, g) {
         Ok(unit) => run_taken(alloc, event, parts, unit, steps),
@@ -86,6 +93,7 @@ fn reopen_among<D: Device>(
     requires given { IsGivenAll D.Device desk.old groups.old.items unit }
     ensures left { IsLeftAll D.Device desk.old desk.new groups.old.items groups.new.items }
     ensures reason { AnswersWell desk.new result }
+    ensures says { SaysBy (released_by unit) desk.old desk.new result }
 {
     let kept = &mut groups[unit.group as usize];
     reopen(desk, kept, unit)
@@ -97,6 +105,8 @@ fn reopen_taken<D: Device>(parts: &mut Parts<D>, unit: UnitState) -> Answer
     requires unshut { parts.old.desk.book.shut ≡ None }
     requires unit { IsUnit (layout parts.old.desk.store.geo) unit }
     ensures acted { Acts D.Device parts.old parts.new result }
+    ensures says { SaysReleased unit parts.old.desk parts.new.desk result }
+    ensures units { parts.new.units ≡ parts.old.units }
 {
     tell_done(reopen_among(&mut parts.desk, &mut parts.groups, unit))
 }
@@ -106,6 +116,7 @@ pub(crate) fn reopen_in<D: Device>(parts: &mut Parts<D>, g: u32) -> Answer
     requires safe { IsSafe D.Device parts.old }
     requires group { g < parts.old.desk.store.geo.agcount }
     ensures acted { Acts D.Device parts.old parts.new result }
+    ensures says { SaysReopened g parts.old parts.new result }
 {
     match take_open(parts, g) {
         Ok(unit) => reopen_taken(parts, unit),
@@ -126,6 +137,7 @@ fn start_unshut<D: Device>(
     requires unshut { parts.old.desk.book.shut ≡ None }
     requires group { g < parts.old.desk.store.geo.agcount }
     ensures acted { Acts D.Device parts.old parts.new result }
+    ensures says { HasMore parts.old.desk parts.new.desk (entries_told g unit result) }
 {
     tell_done(start(alloc, parts, g, unit, plan, turns))
 }
@@ -142,6 +154,7 @@ pub(crate) fn start_in<D: Device>(
     requires safe { IsSafe D.Device parts.old }
     requires group { g < parts.old.desk.store.geo.agcount }
     ensures acted { Acts D.Device parts.old parts.new result }
+    ensures says { HasMore parts.old.desk parts.new.desk (entries_told g unit result) }
 {
     match unless_shut(&parts.desk) {
         Ok(()) => start_unshut(alloc, parts, g, unit, plan, turns),

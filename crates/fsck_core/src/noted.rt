@@ -7,7 +7,9 @@ ghost use Rattle.core_parts.specs.Safe.{IsSafe};
 ghost use Rattle.core_chains.specs.Write.Writes.{WriteAnswers, WriteParts};
 ghost use Rattle.fsck_core.specs.Acts.{Acts, StaysShut, TellsAll};
 ghost use Rattle.fsck_core.specs.Asks.{MayAsk};
+ghost use Rattle.fsck_core.specs.Entries.{Says};
 ghost use Rattle.fsck_core.specs.Glances.{asker_in, glance_of};
+ghost use Rattle.fsck_core.specs.Said.{SaysEvent};
 ghost use Rattle.fsck_core.specs.Replies.{IsNoted, reply_asked as reply_asked_of};
 ghost use Rattle.intent_drain.specs.Drains.{chains_of};
 
@@ -83,6 +85,8 @@ fn noted_in<D: Device, L: Ledger>(
     requires safe { IsSafe D.Device core.old.parts }
     requires asked { MayAsk core.old.parts.desk.store.geo.agcount ask }
     ensures acted { Acts D.Device core.old.parts core.new.parts result }
+    ensures says { Says ask core.old.parts core.new.parts result }
+    ensures said { SaysEvent ask result core.old.parts core.new.parts }
     ensures notes { notes_of core.new.notes ≡ with_note (notes_of core.old.notes) (asker_in (chains_of core.old.parts.desk.drain) ask).writer
         (noted (note_at (notes_of core.old.notes) (asker_in (chains_of core.old.parts.desk.drain) ask).writer) ask result (asker_in (chains_of core.old.parts.desk.drain) ask)) }
 {
@@ -103,7 +107,7 @@ fn reply_asked(ask: Ask) -> Option<(u32, u32)>
 }
 
 // Does one event.
-#[tactic(auto, using(crate::proofs::WriterLemmas::made_acts, crate::proofs::ReplyLemmas::reply_noted, crate::proofs::ReplyLemmas::event_noted))]
+#[tactic(auto, using(crate::proofs::WriterLemmas::made_acts, crate::proofs::ReplyLemmas::reply_noted, crate::proofs::ReplyLemmas::event_noted, crate::proofs::SayLemmas::reply_says, crate::proofs::SaidLemmas::note_said))]
 fn event_in<D: Device, L: Ledger>(
     alloc: Global,
     core: &mut Core<D>,
@@ -113,6 +117,8 @@ fn event_in<D: Device, L: Ledger>(
     requires safe { IsSafe D.Device core.old.parts }
     requires asked { MayAsk core.old.parts.desk.store.geo.agcount ask }
     ensures acted { Acts D.Device core.old.parts core.new.parts result }
+    ensures says { Says ask core.old.parts core.new.parts result }
+    ensures said { SaysEvent ask result core.old.parts core.new.parts }
     ensures noted { IsNoted (notes_of core.old.notes) (notes_of core.new.notes) (asker_in (chains_of core.old.parts.desk.drain) ask) ask result }
 {
     match reply_asked(ask) {
@@ -138,6 +144,8 @@ pub fn run_event<D: Device, L: Ledger>(
     ensures told { TellsWell core.new.parts.desk result.0 }
     ensures all { TellsAll core.new.parts.desk result.0 }
     ensures shut { StaysShut core.old.parts.desk core.new.parts.desk }
+    ensures says { Says ask core.old.parts core.new.parts result.0 }
+    ensures said { SaysEvent ask result.0 core.old.parts core.new.parts }
     ensures glance { result.1 ≡ glance_of core.new.parts ask result.0 }
     ensures noted { IsNoted (notes_of core.old.notes) (notes_of core.new.notes) (asker_in (chains_of core.old.parts.desk.drain) ask) ask result.0 }
 {

@@ -25,6 +25,7 @@ fn end_one<D: Device>(
     requires given { IsGiven D.Device desk.old kept.old unit.old }
     ensures left { IsLeft D.Device desk.old desk.new kept.new unit.old unit.new }
     ensures told { TellsAll desk.new result }
+    ensures desk { desk.new ≡ desk.old }
 {
     match end_scan_of(desk, kept, unit, owners) {
         Ok(()) => Answer::End,
@@ -42,6 +43,7 @@ fn end_among<D: Device>(
     requires given { IsGivenAll D.Device desk.old groups.old.items unit.old }
     ensures left { IsWorked D.Device desk.old desk.new groups.old.items groups.new.items unit.old unit.new }
     ensures told { TellsAll desk.new result }
+    ensures desk { desk.new ≡ desk.old }
 {
     let kept = &mut groups[unit.group as usize];
     end_one(desk, kept, unit, owners)
@@ -53,6 +55,7 @@ fn end_taken<D: Device>(parts: &mut Parts<D>, unit: UnitState, owners: Vec<RmapR
     requires unshut { parts.old.desk.book.shut ≡ None }
     requires unit { IsUnit (layout parts.old.desk.store.geo) unit }
     ensures acted { Acts D.Device parts.old parts.new result }
+    ensures desk { parts.new.desk ≡ parts.old.desk }
 {
     let mut unit = unit;
     let answer = end_among(&mut parts.desk, &mut parts.groups, &mut unit, owners);
@@ -65,6 +68,7 @@ fn end_in<D: Device>(parts: &mut Parts<D>, g: u32, owners: Vec<RmapRec>) -> Answ
     requires safe { IsSafe D.Device parts.old }
     requires group { g < parts.old.desk.store.geo.agcount }
     ensures acted { Acts D.Device parts.old parts.new result }
+    ensures desk { parts.new.desk ≡ parts.old.desk }
 {
     match take_open(parts, g) {
         Ok(unit) => end_taken(parts, unit, owners),
@@ -85,6 +89,7 @@ pub fn end_scan<D: Device>(parts: &mut Parts<D>, g: u32, owners: Vec<RmapRec>) -
     ensures told { TellsWell parts.new.desk result.0 }
     ensures all { TellsAll parts.new.desk result.0 }
     ensures shut { StaysShut parts.old.desk parts.new.desk }
+    ensures desk { parts.new.desk ≡ parts.old.desk }
     ensures phase { result.1 ≡ phase_of_group parts.new.units.items (Some g) }
 {
     let answer = end_in(parts, g, owners);

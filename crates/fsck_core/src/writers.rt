@@ -3,6 +3,7 @@ ghost use Rattle.core_calls.specs.declared.answers.Answer.TheVariants.{Blocks, C
 ghost use Rattle.core_parts.specs.Safe.{IsSafe};
 ghost use Rattle.fsck_core.specs.Acts.{Acts};
 ghost use Rattle.fsck_core.specs.Asks.{MayAsk};
+ghost use Rattle.fsck_core.specs.Said.{SaysEvent};
 ghost use Rattle.fsck_core.specs.Told.{told_by, told_taken};
 
 use blk_device::Device;
@@ -57,7 +58,7 @@ fn tell_taken(done: Result<(u64, u32), WriteFault>) -> Answer
 }
 
 // A chain's own events: it is opened, changes a file, and is ended.
-#[tactic(auto, using(crate::proofs::WriterLemmas::chain_acts, crate::proofs::WriterLemmas::blocks_acts, crate::proofs::WriterLemmas::made_acts, crate::proofs::WriterLemmas::none_acts))]
+#[tactic(auto, using(crate::proofs::WriterLemmas::chain_acts, crate::proofs::WriterLemmas::blocks_acts, crate::proofs::WriterLemmas::made_acts, crate::proofs::WriterLemmas::none_acts, crate::proofs::SaidLemmas::blocks_said, crate::proofs::SaidLemmas::blocks_alone, crate::proofs::SaidLemmas::memory_said))]
 fn change_in<D: Device, L: Ledger>(
     alloc: Global,
     parts: &mut Parts<D>,
@@ -66,6 +67,7 @@ fn change_in<D: Device, L: Ledger>(
 ) -> Answer
     requires safe { IsSafe D.Device parts.old }
     ensures acted { Acts D.Device parts.old parts.new result }
+    ensures said { SaysEvent ask result parts.old parts.new }
 {
     match ask {
         Ask::Begin {
@@ -101,7 +103,7 @@ fn change_in<D: Device, L: Ledger>(
 }
 
 /// An event of a writer. `note` alone isn't one of the parts, and is answered with Memory here.
-#[tactic(auto, using(crate::proofs::WriterLemmas::blocks_acts, crate::proofs::WriterLemmas::made_acts, crate::proofs::WriterLemmas::taken_acts))]
+#[tactic(auto, using(crate::proofs::WriterLemmas::blocks_acts, crate::proofs::WriterLemmas::made_acts, crate::proofs::WriterLemmas::taken_acts, crate::proofs::SaidLemmas::done_alone, crate::proofs::SaidLemmas::done_said, crate::proofs::SaidLemmas::inode_said, crate::proofs::SaidLemmas::blocks_said))]
 pub(crate) fn write_in<D: Device, L: Ledger>(
     alloc: Global,
     parts: &mut Parts<D>,
@@ -111,6 +113,7 @@ pub(crate) fn write_in<D: Device, L: Ledger>(
     requires safe { IsSafe D.Device parts.old }
     requires asked { MayAsk parts.old.desk.store.geo.agcount ask }
     ensures acted { Acts D.Device parts.old parts.new result }
+    ensures said { SaysEvent ask result parts.old parts.new }
 {
     match ask {
         Ask::RmapStep { chain } => tell_made(rmap_step(alloc, parts, chain, steps)),

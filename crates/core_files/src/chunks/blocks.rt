@@ -56,6 +56,7 @@ fn load<D: Device, L: Ledger>(
     requires place { HasBlock desk.old.store.geo g b }
     ensures halts { Halts D.Device desk.old desk.new result }
     ensures book { OnOk result (desk.new.book ≡ desk.old.book) }
+    ensures items { desk.new.book.journal.items ≡ desk.old.book.journal.items }
 {
     match ask_block(desk, g, b, into, steps) {
         Ok(()) => Ok(()),
@@ -88,6 +89,7 @@ fn check_block<D: Device, L: Ledger>(
     requires place { HasBlock desk.old.store.geo g b }
     ensures halts { Halts D.Device desk.old desk.new result }
     ensures book { OnOk result (desk.new.book ≡ desk.old.book) }
+    ensures items { desk.new.book.journal.items ≡ desk.old.book.journal.items }
 {
     let mut block = Block::zeroed();
     load(desk, g, b, &mut block, steps)?;
@@ -107,6 +109,7 @@ fn check_blocks<D: Device, L: Ledger>(
     requires group { g < desk.old.store.geo.agcount }
     ensures halts { Halts D.Device desk.old desk.new result }
     ensures book { OnOk result (desk.new.book ≡ desk.old.book) }
+    ensures items { desk.new.book.journal.items ≡ desk.old.book.journal.items }
 {
     if left == 0 {
         return Ok(());
@@ -131,6 +134,7 @@ pub fn check_chunk<D: Device, L: Ledger>(
     requires group { place.now.group < desk.old.store.geo.agcount }
     ensures halts { Halts D.Device desk.old desk.new result }
     ensures book { OnOk result (desk.new.book ≡ desk.old.book) }
+    ensures items { desk.new.book.journal.items ≡ desk.old.book.journal.items }
 {
     let first = place.block - place.block % CHUNK_BLOCKS;
     check_blocks(desk, place.group, first, CHUNK_BLOCKS, steps)
@@ -172,6 +176,7 @@ pub fn free_core<D: Device, L: Ledger>(
     requires place { HasInode desk.old.store.geo place.now }
     ensures halts { Halts D.Device desk.old desk.new result }
     ensures book { OnOk result (desk.new.book ≡ desk.old.book) }
+    ensures items { desk.new.book.journal.items ≡ desk.old.book.journal.items }
 {
     let mut block = Block::zeroed();
     load(desk, place.group, place.block, &mut block, steps)?;

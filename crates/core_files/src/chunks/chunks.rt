@@ -49,6 +49,7 @@ fn edit_tree<D: Device, L: Ledger>(
     requires opened { IsOpen D.Device g desk.old.store }
     ensures halts { Halts D.Device desk.old desk.new result }
     ensures book { OnOk result (desk.new.book ≡ desk.old.book) }
+    ensures items { desk.new.book.journal.items ≡ desk.old.book.journal.items }
     ensures opened { OnOk result (IsOpen D.Device g desk.new.store) }
 {
     match edit_inos(alloc, desk, g, tree, edit, steps) {
@@ -72,6 +73,7 @@ fn follow<D: Device, L: Ledger>(
     requires opened { IsOpen D.Device g desk.old.store }
     ensures halts { Halts D.Device desk.old desk.new result }
     ensures book { OnOk result (desk.new.book ≡ desk.old.book) }
+    ensures items { desk.new.book.journal.items ≡ desk.old.book.journal.items }
     ensures opened { OnOk result (IsOpen D.Device g desk.new.store) }
 {
     match follow_moves(alloc, desk, g, Owner::Inobt, was_list, steps) {
@@ -96,6 +98,7 @@ fn follow_if<D: Device, L: Ledger>(
     requires opened { IsOpen D.Device g desk.old.store }
     ensures halts { Halts D.Device desk.old desk.new result }
     ensures book { OnOk result (desk.new.book ≡ desk.old.book) }
+    ensures items { desk.new.book.journal.items ≡ desk.old.book.journal.items }
     ensures opened { OnOk result (IsOpen D.Device g desk.new.store) }
 {
     if is_followed {
@@ -119,6 +122,7 @@ fn edit_trees<D: Device, L: Ledger>(
     requires opened { IsOpen D.Device g desk.old.store }
     ensures halts { Halts D.Device desk.old desk.new result }
     ensures book { OnOk result (desk.new.book ≡ desk.old.book) }
+    ensures items { desk.new.book.journal.items ≡ desk.old.book.journal.items }
     ensures opened { OnOk result (IsOpen D.Device g desk.new.store) }
 {
     edit_tree(alloc, desk, g, InoTree::Ino, &change.ino, steps)?;
@@ -140,6 +144,7 @@ pub fn change_chunk<D: Device, L: Ledger>(
     requires opened { IsOpen D.Device g desk.old.store }
     ensures halts { Halts D.Device desk.old desk.new result }
     ensures book { OnOk result (desk.new.book ≡ desk.old.book) }
+    ensures items { desk.new.book.journal.items ≡ desk.old.book.journal.items }
     ensures opened { OnOk result (IsOpen D.Device g desk.new.store) }
 {
     let was_list = desk.store.edit.heads.list;

@@ -33,6 +33,7 @@ fn first_chunk<D: Device, L: Ledger>(
     requires group { g < desk.old.store.geo.agcount }
     ensures halts { Halts D.Device desk.old desk.new result }
     ensures book { OnOk result (desk.new.book ≡ desk.old.book) }
+    ensures items { desk.new.book.journal.items ≡ desk.old.book.journal.items }
 {
     let tree = tree_at(&kept.heads, g, Kind::Fino);
     let recs = next_records::<FinoKind, D, L>(alloc, desk, &tree, None, steps)?;
@@ -59,6 +60,7 @@ fn chunk_in<D: Device, L: Ledger>(
     requires group { g < desk.old.store.geo.agcount }
     ensures halts { Halts D.Device desk.old desk.new result }
     ensures book { OnOk result (desk.new.book ≡ desk.old.book) }
+    ensures items { desk.new.book.journal.items ≡ desk.old.book.journal.items }
 {
     if is_gate_open(desk, g) && sick_inodes(kept).is_none() {
         return first_chunk(alloc, desk, kept, g, steps);
@@ -80,6 +82,7 @@ pub fn find_free<D: Device, L: Ledger>(
     requires all { length groups.now ≡ desk.old.store.geo.agcount }
     ensures halts { Halts D.Device desk.old desk.new result }
     ensures book { OnOk result (desk.new.book ≡ desk.old.book) }
+    ensures items { desk.new.book.journal.items ≡ desk.old.book.journal.items }
 {
     for g in 0..desk.store.geo.agcount {
         let found = chunk_in(alloc, desk, &groups[g as usize], g, steps)?;

@@ -36,6 +36,7 @@ pub fn stopped_by<D: Device>(desk: &mut Desk<D>, stop: FileStop) -> Halt
     ensures desk { IsDesk D.Device desk.new }
     ensures steady { IsSteady D.Device desk.old desk.new }
     ensures ends { HaltsWell desk.new result }
+    ensures items { desk.new.book.journal.items ≡ desk.old.book.journal.items }
 {
     match stop {
         FileStop::NoFile => Halt::Refused(WriteFault::NoFile),
@@ -88,6 +89,7 @@ pub fn put_core<D: Device, L: Ledger>(
     requires opened { IsOpen D.Device place.now.group desk.old.store }
     ensures halts { Halts D.Device desk.old desk.new result }
     ensures book { OnOk result (desk.new.book ≡ desk.old.book) }
+    ensures items { desk.new.book.journal.items ≡ desk.old.book.journal.items }
     ensures opened { OnOk result (IsOpen D.Device place.now.group desk.new.store) }
 {
     match ask_core(desk, place, core, steps) {
@@ -177,6 +179,7 @@ fn put_block<D: Device, L: Ledger>(
     requires opened { IsOpen D.Device g desk.old.store }
     ensures halts { Halts D.Device desk.old desk.new result }
     ensures book { OnOk result (desk.new.book ≡ desk.old.book) }
+    ensures items { desk.new.book.journal.items ≡ desk.old.book.journal.items }
     ensures opened { OnOk result (IsOpen D.Device g desk.new.store) }
 {
     match ask_block(desk, g, b, block, steps) {
@@ -198,6 +201,7 @@ fn put_free<D: Device, L: Ledger>(
     requires opened { IsOpen D.Device g desk.old.store }
     ensures halts { Halts D.Device desk.old desk.new result }
     ensures book { OnOk result (desk.new.book ≡ desk.old.book) }
+    ensures items { desk.new.book.journal.items ≡ desk.old.book.journal.items }
     ensures opened { OnOk result (IsOpen D.Device g desk.new.store) }
 {
     if left == 0 {
@@ -226,6 +230,7 @@ pub fn put_chunk<D: Device, L: Ledger>(
     requires opened { IsOpen D.Device g desk.old.store }
     ensures halts { Halts D.Device desk.old desk.new result }
     ensures book { OnOk result (desk.new.book ≡ desk.old.book) }
+    ensures items { desk.new.book.journal.items ≡ desk.old.book.journal.items }
     ensures opened { OnOk result (IsOpen D.Device g desk.new.store) }
 {
     // Never: a run of free space lies in its group.

@@ -77,6 +77,7 @@ fn next_reach<D: Device, L: Ledger>(
     requires group { g < desk.old.store.geo.agcount }
     ensures halts { Halts D.Device desk.old desk.new result }
     ensures book { OnOk result (desk.new.book ≡ desk.old.book) }
+    ensures items { desk.new.book.journal.items ≡ desk.old.book.journal.items }
 {
     let tree = tree_at(&kept.heads, g, Kind::Bno);
     let recs = next_records::<BnoKind, D, L>(alloc, desk, &tree, after, steps)?;
@@ -96,6 +97,7 @@ fn lowest_run<D: Device, L: Ledger>(
     requires group { g < desk.old.store.geo.agcount }
     ensures halts { Halts D.Device desk.old desk.new result }
     ensures book { OnOk result (desk.new.book ≡ desk.old.book) }
+    ensures items { desk.new.book.journal.items ≡ desk.old.book.journal.items }
 {
     let mut after = None;
     for _ in 0..u32::MAX {
@@ -123,6 +125,7 @@ fn run_in<D: Device, L: Ledger>(
     requires group { g < desk.old.store.geo.agcount }
     ensures halts { Halts D.Device desk.old desk.new result }
     ensures book { OnOk result (desk.new.book ≡ desk.old.book) }
+    ensures items { desk.new.book.journal.items ≡ desk.old.book.journal.items }
 {
     if is_gate_open(desk, g) && sick_kind(kept).is_none() {
         return lowest_run(alloc, desk, kept, g, steps);
@@ -186,6 +189,7 @@ pub fn find_run<D: Device, L: Ledger>(
     requires all { length groups.now ≡ desk.old.store.geo.agcount }
     ensures halts { Halts D.Device desk.old desk.new result }
     ensures book { OnOk result (desk.new.book ≡ desk.old.book) }
+    ensures items { desk.new.book.journal.items ≡ desk.old.book.journal.items }
 {
     for g in 0..desk.store.geo.agcount {
         let found = run_in(alloc, desk, &groups[g as usize], g, steps)?;

@@ -1,9 +1,10 @@
 // How a first event ends: its entry, and what the chain owes.
-ghost use Rattle.std.specs.Prelude.{◌<◌, ◌≤◌, ◌+◌};
+ghost use Rattle.std.specs.Prelude.{◌≡◌, ◌<◌, ◌≤◌, ◌+◌, ◌++◌, ◌∷◌, [], OnErr, OnOk};
 ghost use Rattle.std.specs.Vec.{vec_capacity, vec_len};
 ghost use Rattle.core_parts.specs.Common.Asks.{IsUsable};
 ghost use Rattle.core_parts.specs.Keeps.{IsSteady};
 ghost use Rattle.core_chains.specs.Write.Writes.{WriteAnswers};
+ghost use Rattle.core_files.specs.First.Entries.{piece};
 ghost use Rattle.geom.specs.Places.{HasInode};
 
 use crate::first::files::Held;
@@ -20,7 +21,9 @@ use fs_model::{Entry, Piece};
 use std::sync::ledger::Ledger;
 
 /// What an entry tells of a piece of the chain's first file.
-pub fn piece_of(held: &Held, offset: u64, spot: &Spot) -> Piece {
+pub fn piece_of(held: &Held, offset: u64, spot: &Spot) -> Piece
+    ensures { result ≡ piece held.now offset spot.now }
+{
     Piece {
         writer: held.chain.writer(),
         chain: held.number,
@@ -40,6 +43,7 @@ pub fn finish<D: Device>(desk: &mut Desk<D>, number: u32, owing: Chain, entry: E
     requires room { vec_len desk.old.book.journal + 2 ≤ vec_capacity desk.old.book.journal }
     ensures usable { IsUsable D.Device desk.new }
     ensures steady { IsSteady D.Device desk.old desk.new }
+    ensures said { desk.new.book.journal.items ≡ desk.old.book.journal.items ++ entry ∷ [] }
 {
     add_entry(desk, entry);
     put_chain(desk, number, Some(owing));
@@ -60,6 +64,9 @@ pub fn commit_first<D: Device, L: Ledger>(
     requires place { HasInode desk.old.store.geo placed.now.place }
     requires room { vec_len desk.old.book.journal + 2 ≤ vec_capacity desk.old.book.journal }
     ensures answers { WriteAnswers D.Device desk.old desk.new result }
+    ensures said { OnOk result (desk.new.book.journal.items ≡ desk.old.book.journal.items ++ entry
+        ∷ []) }
+    ensures unsaid { OnErr result (desk.new.book.journal.items ≡ desk.old.book.journal.items) }
 {
     write_core(desk, placed, steps)?;
     finish(desk, number, owing, entry);

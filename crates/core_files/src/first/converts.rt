@@ -1,10 +1,12 @@
-ghost use Rattle.std.specs.Prelude.{◌≡◌, ◌<◌, ◌≤◌, ◌+◌, IfOk, length};
+ghost use Rattle.std.specs.Prelude.{◌≡◌, ◌<◌, ◌≤◌, ◌+◌, ◌++◌, ◌∷◌, [], IfOk, OnErr, OnOk, length};
 ghost use Rattle.std.specs.Vec.{vec_capacity, vec_len};
 ghost use Rattle.core_parts.specs.Common.Asks.{IsUsable};
+ghost use Rattle.core_files.specs.First.Entries.{HasPiece, SaysPiece, piece};
 ghost use Rattle.core_files.specs.First.Spots.{IsSpot};
 ghost use Rattle.core_parts.specs.Safe.{IsSafe};
 ghost use Rattle.core_chains.specs.Write.Writes.{WriteAnswers, WriteParts, WritesWell};
 ghost use Rattle.file_cores.specs.Files.{IsFile};
+ghost use Rattle.fs_model.specs.declared.entry.Entry.TheVariants as entries;
 ghost use Rattle.intent_drain.specs.Drains.{gates_of};
 
 use crate::first::commits::{commit_first, finish, piece_of};
@@ -62,6 +64,7 @@ fn convert_in<D: Device>(
 }
 
 // Writes the file with the piece, of which the chain owes reverse mappings that it is written.
+#[tactic(auto, using(crate::proofs::first::SaidLemmas::entry_as))]
 fn write_converted<D: Device, L: Ledger>(
     desk: &mut Desk<D>,
     held: &Held,
@@ -76,6 +79,9 @@ fn write_converted<D: Device, L: Ledger>(
     requires spot { IsSpot desk.old.store.geo done.now.spot }
     requires room { vec_len desk.old.book.journal + 2 ≤ vec_capacity desk.old.book.journal }
     ensures answers { WriteAnswers D.Device desk.old desk.new result }
+    ensures said { OnOk result (desk.new.book.journal.items ≡ desk.old.book.journal.items ++
+        entries.Converted (piece held.now offset done.now.spot) ∷ []) }
+    ensures unsaid { OnErr result (desk.new.book.journal.items ≡ desk.old.book.journal.items) }
 {
     let due = OwnerDue {
         kind: IntentKind::RmapChange,
@@ -107,6 +113,9 @@ fn end_converted<D: Device, L: Ledger>(
     requires spot { IsSpot desk.old.store.geo done.now.spot }
     requires room { vec_len desk.old.book.journal + 2 ≤ vec_capacity desk.old.book.journal }
     ensures answers { WriteAnswers D.Device desk.old desk.new result }
+    ensures said { OnOk result (desk.new.book.journal.items ≡ desk.old.book.journal.items ++
+        entries.Converted (piece held.now offset done.now.spot) ∷ []) }
+    ensures unsaid { OnErr result (desk.new.book.journal.items ≡ desk.old.book.journal.items) }
 {
     if done.was_unwritten {
         return write_converted(desk, held, file, offset, done, steps);
@@ -117,7 +126,7 @@ fn end_converted<D: Device, L: Ledger>(
 }
 
 // Makes a piece of the chain's first file written.
-#[tactic(auto, using(core_chains::proofs::write::PartLemmas::answers_self))]
+#[tactic(auto, using(core_chains::proofs::write::PartLemmas::answers_self, crate::proofs::first::SaidLemmas::piece_said))]
 fn convert_file<D: Device, L: Ledger>(
     alloc: Global,
     desk: &mut Desk<D>,
@@ -133,6 +142,9 @@ fn convert_file<D: Device, L: Ledger>(
     requires some { 0 < range.count }
     requires room { vec_len desk.old.book.journal + 2 ≤ vec_capacity desk.old.book.journal }
     ensures answers { WriteAnswers D.Device desk.old desk.new result }
+    ensures said { IfOk result (λ n. SaysPiece entries.Converted desk.old.store.geo of.held
+        range.offset n desk.old.book.journal.items desk.new.book.journal.items) }
+    ensures unsaid { OnErr result (desk.new.book.journal.items ≡ desk.old.book.journal.items) }
 {
     let done = convert_in(alloc, desk, groups, &mut of.file, range)?;
     match end_converted(desk, &of.held, &of.file, range.offset, &done, steps) {
@@ -142,7 +154,7 @@ fn convert_file<D: Device, L: Ledger>(
 }
 
 // Makes a piece of the first file of this chain written, where no fault of the device was noted.
-#[tactic(auto, using(core_chains::proofs::write::PartLemmas::answers_on, core_chains::proofs::write::PartLemmas::answers_self))]
+#[tactic(auto, using(core_chains::proofs::write::PartLemmas::answers_on, core_chains::proofs::write::PartLemmas::answers_self, crate::proofs::first::SaidLemmas::held_piece, core_chains::proofs::write::SaysLemmas::unsaid_on))]
 fn convert_usable<D: Device, L: Ledger>(
     alloc: Global,
     desk: &mut Desk<D>,
@@ -154,6 +166,9 @@ fn convert_usable<D: Device, L: Ledger>(
     requires usable { IsUsable D.Device desk.old }
     requires groups { length groups.now ≡ desk.old.store.geo.agcount }
     ensures answers { WriteAnswers D.Device desk.old desk.new result }
+    ensures said { IfOk result (λ n. HasPiece entries.Converted chain range.offset n desk.old
+        desk.new) }
+    ensures unsaid { OnErr result (desk.new.book.journal.items ≡ desk.old.book.journal.items) }
 {
     // Never asked.
     if range.count == 0 {
@@ -179,6 +194,10 @@ pub fn convert_first<D: Device, L: Ledger>(
 ) -> Result<u32, WriteFault>
     requires safe { IsSafe D.Device parts.old }
     ensures left { WriteParts D.Device parts.old parts.new result }
+    ensures said { IfOk result (λ n. HasPiece entries.Converted chain offset n parts.old.desk
+        parts.new.desk) }
+    ensures unsaid { OnErr result (parts.new.desk.book.journal.items ≡
+        parts.old.desk.book.journal.items) }
 {
     writer_unshut(&parts.desk)?;
     let range = Range {

@@ -3,6 +3,7 @@ ghost use Rattle.std.specs.Prelude.{◌≡◌, ◌<◌, ◌≤◌, ◌+◌, IfOk
 ghost use Rattle.std.specs.Vec.{vec_capacity, vec_len};
 ghost use Rattle.core_parts.specs.Common.Asks.{IsUsable};
 ghost use Rattle.core_chains.specs.Write.Writes.{WriteAnswers};
+ghost use Rattle.core_files.specs.First.Entries.{IsHeld};
 ghost use Rattle.file_cores.specs.Files.{IsFile};
 
 use crate::first::room::take_room;
@@ -44,6 +45,7 @@ fn file_with_room<D: Device, L: Ledger>(
     ensures file { IfOk result (IsFile desk.new.store.geo) }
     ensures room { OnOk result (vec_len desk.new.book.journal + 2 ≤ vec_capacity desk.new.book.journal) }
     ensures geometry { desk.new.store.geo ≡ desk.old.store.geo }
+    ensures items { desk.new.book.journal.items ≡ desk.old.book.journal.items }
 {
     take_room(desk)?;
     read_inode(alloc, desk, ino, steps)
@@ -64,6 +66,8 @@ pub fn held_file<D: Device, L: Ledger>(
     ensures number { IfOk result (λ of. of.held.number < 16) }
     ensures room { OnOk result (vec_len desk.new.book.journal + 2 ≤ vec_capacity desk.new.book.journal) }
     ensures geometry { desk.new.store.geo ≡ desk.old.store.geo }
+    ensures held { IfOk result (λ of. IsHeld desk.old number of.held) }
+    ensures items { desk.new.book.journal.items ≡ desk.old.book.journal.items }
 {
     let chain = idle_chain(desk, number)?;
     let held = Held { number, chain };

@@ -1,9 +1,14 @@
 // Marks that a first event answers with.
-ghost use Rattle.std.specs.Prelude.{◌<◌, ◌≤◌, ◌+◌};
+ghost use Rattle.std.specs.Prelude.{◌≡◌, ◌<◌, ◌≤◌, ◌+◌, ◌++◌, ◌∷◌, [], Err};
 ghost use Rattle.std.specs.Vec.{vec_capacity, vec_len};
+ghost use Rattle.core_calls.specs.declared.answers.WriteFault.TheVariants as faults;
 ghost use Rattle.core_parts.specs.Common.Asks.{IsUsable};
 ghost use Rattle.core_parts.specs.Safe.{IsKept};
+ghost use Rattle.core_chains.specs.Write.Says.Met.{Owned};
+ghost use Rattle.core_chains.specs.Write.Says.{met_on};
 ghost use Rattle.core_chains.specs.Write.Writes.{WriteAnswers};
+ghost use Rattle.fs_model.specs.declared.entry.Entry.TheVariants.{Marked};
+ghost use Rattle.sblock.specs.declared.kind.Kind.TheVariants.{Bno};
 
 use blk_device::Device;
 use core_calls::WriteFault;
@@ -25,6 +30,9 @@ pub fn mark_one<D: Device>(
     requires kept { IsKept kept.old }
     ensures answers { WriteAnswers D.Device desk.old desk.new result }
     ensures kept { IsKept kept.new }
+    ensures sick { result ≡ Err (faults.Sick g kind) }
+    ensures said { desk.new.book.journal.items ≡ desk.old.book.journal.items ++ Marked g kind
+        cause ∷ [] }
 {
     mark_kind(desk, kept, g, kind, cause);
     Err(WriteFault::Sick(g, kind))
@@ -43,6 +51,8 @@ pub fn mark_owned<D: Device>(
     requires kept { IsKept kept.old }
     ensures answers { WriteAnswers D.Device desk.old desk.new result }
     ensures kept { IsKept kept.new }
+    ensures sick { result ≡ Err (faults.Sick g Bno) }
+    ensures said { desk.new.book.journal.items ≡ met_on desk.old.book.journal.items g Bno Owned }
 {
     mark_kind(desk, kept, g, Kind::Bno, Cause::Owner);
     mark_kind(desk, kept, g, Kind::Cnt, Cause::Owner);

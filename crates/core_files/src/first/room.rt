@@ -45,6 +45,7 @@ pub fn take_room<D: Device>(desk: &mut Desk<D>) -> Result<(), WriteFault>
     ensures answers { WriteAnswers D.Device desk.old desk.new result }
     ensures room { OnOk result (vec_len desk.new.book.journal + 2 ≤ vec_capacity desk.new.book.journal) }
     ensures geometry { desk.new.store.geo ≡ desk.old.store.geo }
+    ensures items { desk.new.book.journal.items ≡ desk.old.book.journal.items }
 {
     let due = due_of_all(&desk.drain).saturating_add(MOST_OWN);
     // Never: each of 16 chains owes some thousand entries at most.

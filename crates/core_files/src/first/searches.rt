@@ -19,6 +19,7 @@ pub fn met_by<D: Device>(desk: &mut Desk<D>, fault: WalkFault) -> Result<Cause, 
     requires stopped { IsStopped D.Device (is_walk_failed fault) desk.old }
     ensures answers { WriteAnswers D.Device desk.old desk.new result }
     ensures book { OnOk result (desk.new.book ≡ desk.old.book) }
+    ensures items { desk.new.book.journal.items ≡ desk.old.book.journal.items }
     ensures geometry { desk.new.store.geo ≡ desk.old.store.geo }
 {
     match fault {

@@ -1,10 +1,12 @@
-ghost use Rattle.std.specs.Prelude.{◌≡◌, ◌<◌, ◌≤◌, ◌+◌, IfOk, length};
+ghost use Rattle.std.specs.Prelude.{◌≡◌, ◌<◌, ◌≤◌, ◌+◌, ◌++◌, ◌∷◌, [], IfOk, OnErr, OnOk, length};
 ghost use Rattle.std.specs.Vec.{vec_capacity, vec_len};
 ghost use Rattle.core_parts.specs.Common.Asks.{IsUsable};
+ghost use Rattle.core_files.specs.First.Entries.{HasPiece, HasStripped, SaysPiece, SaysStripped, piece};
 ghost use Rattle.core_files.specs.First.Spots.{IsSpot};
 ghost use Rattle.core_parts.specs.Safe.{IsSafe};
 ghost use Rattle.core_chains.specs.Write.Writes.{WriteAnswers, WriteParts, WritesWell};
 ghost use Rattle.file_cores.specs.Files.{IsFile};
+ghost use Rattle.fs_model.specs.declared.entry.Entry.TheVariants as entries;
 ghost use Rattle.intent_drain.specs.Drains.{gates_of};
 
 use crate::first::commits::{commit_first, piece_of};
@@ -63,6 +65,7 @@ fn unmap_in<D: Device>(
 }
 
 // Writes the file without the piece, which the chain owes to reverse mappings and reference counts.
+#[tactic(auto, using(crate::proofs::first::SaidLemmas::entry_as))]
 fn write_unmapped<D: Device, L: Ledger>(
     desk: &mut Desk<D>,
     held: &Held,
@@ -77,6 +80,9 @@ fn write_unmapped<D: Device, L: Ledger>(
     requires spot { IsSpot desk.old.store.geo done.now.spot }
     requires room { vec_len desk.old.book.journal + 2 ≤ vec_capacity desk.old.book.journal }
     ensures answers { WriteAnswers D.Device desk.old desk.new result }
+    ensures said { OnOk result (desk.new.book.journal.items ≡ desk.old.book.journal.items ++
+        entries.Unmapped (piece held.now offset done.now.spot) ∷ []) }
+    ensures unsaid { OnErr result (desk.new.book.journal.items ≡ desk.old.book.journal.items) }
 {
     let due = OwnerDue {
         kind: IntentKind::RmapRemove,
@@ -93,7 +99,7 @@ fn write_unmapped<D: Device, L: Ledger>(
 }
 
 // Takes a piece out of the chain's first file.
-#[tactic(auto, using(core_chains::proofs::write::PartLemmas::answers_self))]
+#[tactic(auto, using(core_chains::proofs::write::PartLemmas::answers_self, crate::proofs::first::SaidLemmas::piece_said))]
 fn unmap_file<D: Device, L: Ledger>(
     alloc: Global,
     desk: &mut Desk<D>,
@@ -109,6 +115,9 @@ fn unmap_file<D: Device, L: Ledger>(
     requires some { 0 < range.count }
     requires room { vec_len desk.old.book.journal + 2 ≤ vec_capacity desk.old.book.journal }
     ensures answers { WriteAnswers D.Device desk.old desk.new result }
+    ensures said { IfOk result (λ n. SaysPiece entries.Unmapped desk.old.store.geo of.held
+        range.offset n desk.old.book.journal.items desk.new.book.journal.items) }
+    ensures unsaid { OnErr result (desk.new.book.journal.items ≡ desk.old.book.journal.items) }
 {
     let done = unmap_in(alloc, desk, groups, &mut of.file, range)?;
     match write_unmapped(desk, &of.held, &of.file, range.offset, &done, steps) {
@@ -118,7 +127,7 @@ fn unmap_file<D: Device, L: Ledger>(
 }
 
 // Takes a piece out of the first file of this chain, where no fault of the device was noted.
-#[tactic(auto, using(core_chains::proofs::write::PartLemmas::answers_on, core_chains::proofs::write::PartLemmas::answers_self))]
+#[tactic(auto, using(core_chains::proofs::write::PartLemmas::answers_on, core_chains::proofs::write::PartLemmas::answers_self, crate::proofs::first::SaidLemmas::held_piece, core_chains::proofs::write::SaysLemmas::unsaid_on))]
 fn unmap_usable<D: Device, L: Ledger>(
     alloc: Global,
     desk: &mut Desk<D>,
@@ -130,6 +139,9 @@ fn unmap_usable<D: Device, L: Ledger>(
     requires usable { IsUsable D.Device desk.old }
     requires groups { length groups.now ≡ desk.old.store.geo.agcount }
     ensures answers { WriteAnswers D.Device desk.old desk.new result }
+    ensures said { IfOk result (λ n. HasPiece entries.Unmapped chain range.offset n desk.old
+        desk.new) }
+    ensures unsaid { OnErr result (desk.new.book.journal.items ≡ desk.old.book.journal.items) }
 {
     // Never asked.
     if range.count == 0 {
@@ -155,6 +167,10 @@ pub fn unmap_first<D: Device, L: Ledger>(
 ) -> Result<u32, WriteFault>
     requires safe { IsSafe D.Device parts.old }
     ensures left { WriteParts D.Device parts.old parts.new result }
+    ensures said { IfOk result (λ n. HasPiece entries.Unmapped chain offset n parts.old.desk
+        parts.new.desk) }
+    ensures unsaid { OnErr result (parts.new.desk.book.journal.items ≡
+        parts.old.desk.book.journal.items) }
 {
     writer_unshut(&parts.desk)?;
     let range = Range {
@@ -180,7 +196,7 @@ fn first_offset(file: &File) -> Option<u64> {
 }
 
 // Takes the first piece out of the chain's first file.
-#[tactic(auto, using(core_chains::proofs::write::PartLemmas::answers_self))]
+#[tactic(auto, using(core_chains::proofs::write::PartLemmas::answers_self, crate::proofs::first::SaidLemmas::some_stripped, crate::proofs::first::SaidLemmas::none_stripped))]
 fn strip_file<D: Device, L: Ledger>(
     alloc: Global,
     desk: &mut Desk<D>,
@@ -194,6 +210,9 @@ fn strip_file<D: Device, L: Ledger>(
     requires file { IsFile desk.old.store.geo of.file }
     requires room { vec_len desk.old.book.journal + 2 ≤ vec_capacity desk.old.book.journal }
     ensures answers { WriteAnswers D.Device desk.old desk.new result }
+    ensures said { IfOk result (λ n. SaysStripped desk.old.store.geo of.held n
+        desk.old.book.journal.items desk.new.book.journal.items) }
+    ensures unsaid { OnErr result (desk.new.book.journal.items ≡ desk.old.book.journal.items) }
 {
     if !is_fork_absent(&of.file.core, Fork::Attr) {
         return Err(WriteFault::TreeFork);
@@ -209,7 +228,7 @@ fn strip_file<D: Device, L: Ledger>(
 }
 
 // Takes the first piece out of the first file of this chain, where no fault of the device was noted.
-#[tactic(auto, using(core_chains::proofs::write::PartLemmas::answers_on))]
+#[tactic(auto, using(core_chains::proofs::write::PartLemmas::answers_on, crate::proofs::first::SaidLemmas::held_stripped, core_chains::proofs::write::SaysLemmas::unsaid_on))]
 fn strip_usable<D: Device, L: Ledger>(
     alloc: Global,
     desk: &mut Desk<D>,
@@ -220,6 +239,8 @@ fn strip_usable<D: Device, L: Ledger>(
     requires usable { IsUsable D.Device desk.old }
     requires groups { length groups.now ≡ desk.old.store.geo.agcount }
     ensures answers { WriteAnswers D.Device desk.old desk.new result }
+    ensures said { IfOk result (λ n. HasStripped chain n desk.old desk.new) }
+    ensures unsaid { OnErr result (desk.new.book.journal.items ≡ desk.old.book.journal.items) }
 {
     let of = held_file(alloc, desk, chain, steps)?;
     strip_file(alloc, desk, groups, of, steps)
@@ -238,6 +259,9 @@ pub fn strip_first<D: Device, L: Ledger>(
 ) -> Result<u32, WriteFault>
     requires safe { IsSafe D.Device parts.old }
     ensures left { WriteParts D.Device parts.old parts.new result }
+    ensures said { IfOk result (λ n. HasStripped chain n parts.old.desk parts.new.desk) }
+    ensures unsaid { OnErr result (parts.new.desk.book.journal.items ≡
+        parts.old.desk.book.journal.items) }
 {
     writer_unshut(&parts.desk)?;
     strip_usable(

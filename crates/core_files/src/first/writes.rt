@@ -77,6 +77,7 @@ fn put_core<D: Device, L: Ledger>(
     requires below { AreBelow (D.blocks desk.old.store.dev Image) desk.old.store.edit.txn.blocks }
     ensures answers { WriteAnswers D.Device desk.old desk.new result }
     ensures book { OnOk result (desk.new.book ≡ desk.old.book) }
+    ensures items { desk.new.book.journal.items ≡ desk.old.book.journal.items }
     ensures geometry { desk.new.store.geo ≡ desk.old.store.geo }
     ensures below { OnOk result (AreBelow (D.blocks desk.new.store.dev Image) desk.new.store.edit.txn.blocks) }
 {
@@ -112,6 +113,7 @@ fn write_cores<D: Device, L: Ledger>(
     requires below { AreBelow (D.blocks desk.old.store.dev Image) desk.old.store.edit.txn.blocks }
     ensures answers { WriteAnswers D.Device desk.old desk.new result }
     ensures book { OnOk result (desk.new.book ≡ desk.old.book) }
+    ensures items { desk.new.book.journal.items ≡ desk.old.book.journal.items }
     ensures geometry { desk.new.store.geo ≡ desk.old.store.geo }
 {
     match call_write(desk, steps) {
@@ -132,6 +134,7 @@ fn put_and_write<D: Device, L: Ledger>(
     requires below { AreBelow (D.blocks desk.old.store.dev Image) desk.old.store.edit.txn.blocks }
     ensures answers { WriteAnswers D.Device desk.old desk.new result }
     ensures book { OnOk result (desk.new.book ≡ desk.old.book) }
+    ensures items { desk.new.book.journal.items ≡ desk.old.book.journal.items }
     ensures geometry { desk.new.store.geo ≡ desk.old.store.geo }
 {
     put_core(desk, placed, steps)?;
@@ -150,6 +153,7 @@ pub fn write_core<D: Device, L: Ledger>(
     requires place { HasInode desk.old.store.geo placed.now.place }
     ensures answers { WriteAnswers D.Device desk.old desk.new result }
     ensures book { OnOk result (desk.new.book ≡ desk.old.book) }
+    ensures items { desk.new.book.journal.items ≡ desk.old.book.journal.items }
     ensures geometry { desk.new.store.geo ≡ desk.old.store.geo }
 {
     start_cores(desk);
@@ -168,6 +172,7 @@ fn put_second<D: Device, L: Ledger>(
     requires below { AreBelow (D.blocks desk.old.store.dev Image) desk.old.store.edit.txn.blocks }
     ensures answers { WriteAnswers D.Device desk.old desk.new result }
     ensures book { OnOk result (desk.new.book ≡ desk.old.book) }
+    ensures items { desk.new.book.journal.items ≡ desk.old.book.journal.items }
     ensures geometry { desk.new.store.geo ≡ desk.old.store.geo }
 {
     match second {
@@ -190,6 +195,7 @@ fn put_pair<D: Device, L: Ledger>(
     requires below { AreBelow (D.blocks desk.old.store.dev Image) desk.old.store.edit.txn.blocks }
     ensures answers { WriteAnswers D.Device desk.old desk.new result }
     ensures book { OnOk result (desk.new.book ≡ desk.old.book) }
+    ensures items { desk.new.book.journal.items ≡ desk.old.book.journal.items }
     ensures geometry { desk.new.store.geo ≡ desk.old.store.geo }
 {
     put_core(desk, first, steps)?;
@@ -210,6 +216,7 @@ pub fn write_pair<D: Device, L: Ledger>(
     requires other { IfSome second.now (λ p. HasInode desk.old.store.geo p.place) }
     ensures answers { WriteAnswers D.Device desk.old desk.new result }
     ensures book { OnOk result (desk.new.book ≡ desk.old.book) }
+    ensures items { desk.new.book.journal.items ≡ desk.old.book.journal.items }
     ensures geometry { desk.new.store.geo ≡ desk.old.store.geo }
 {
     start_cores(desk);

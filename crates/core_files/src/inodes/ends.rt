@@ -1,9 +1,10 @@
 // What follows a commit that changed inodes: where scans find the inode btree, chains, and the entry.
-ghost use Rattle.std.specs.Prelude.{◌≡◌, ◌<◌, IfErr, IfOk, length};
+ghost use Rattle.std.specs.Prelude.{◌≡◌, ◌<◌, ◌++◌, ◌∷◌, [], IfErr, IfOk, length};
 ghost use Rattle.std.specs.Vec.{vec_capacity, vec_len};
 ghost use Rattle.core_parts.specs.Common.Asks.{IsUsable};
 ghost use Rattle.core_parts.specs.Keeps.{IsSteady};
 ghost use Rattle.core_chains.specs.Refill.Halts.{IsMemory, IsMet};
+ghost use Rattle.core_files.specs.Inodes.Entries.{given_on};
 ghost use Rattle.inode_scan.specs.Cursor.{IsInoTree};
 ghost use Rattle.intent_drain.specs.Drains.{gates_of};
 
@@ -146,6 +147,7 @@ fn say<D: Device>(desk: &mut Desk<D>, entry: Entry)
     requires room { vec_len desk.old.book.journal < vec_capacity desk.old.book.journal }
     ensures usable { IsUsable D.Device desk.new }
     ensures steady { IsSteady D.Device desk.old desk.new }
+    ensures said { desk.new.book.journal.items ≡ desk.old.book.journal.items ++ entry ∷ [] }
 {
     add_entry(desk, entry);
 }
@@ -166,6 +168,7 @@ pub(crate) fn end_take<D: Device>(
     requires room { vec_len desk.old.book.journal < vec_capacity desk.old.book.journal }
     ensures usable { IsUsable D.Device desk.new }
     ensures steady { IsSteady D.Device desk.old desk.new }
+    ensures said { desk.new.book.journal.items ≡ desk.old.book.journal.items ++ taken ∷ [] }
 {
     put_drain(desk, drain);
     name_tree(desk, kept, g);
@@ -200,6 +203,7 @@ pub(crate) fn end_give<D: Device>(
     requires room { vec_len desk.old.book.journal < vec_capacity desk.old.book.journal }
     ensures usable { IsUsable D.Device desk.new }
     ensures steady { IsSteady D.Device desk.old desk.new }
+    ensures said { desk.new.book.journal.items ≡ given_on desk.old.book.journal.items chain.now }
 {
     let ino = chain.first().ino;
     put_chain(desk, number, None);

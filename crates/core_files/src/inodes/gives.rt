@@ -1,11 +1,13 @@
-ghost use Rattle.std.specs.Prelude.{◌≡◌, ◌<◌, ◌≤◌, ◌+◌, false, IfErr, IfOk, OnOk};
+ghost use Rattle.std.specs.Prelude.{◌≡◌, ◌<◌, ◌≤◌, ◌+◌, false, IfErr, IfOk, OnErr, OnOk};
 ghost use Rattle.std.specs.Int.{bit_at};
 ghost use Rattle.std.specs.Vec.{vec_capacity, vec_len};
 ghost use Rattle.core_parts.specs.Common.Asks.{IsUsable};
 ghost use Rattle.core_parts.specs.Keeps.{IsAsked};
 ghost use Rattle.core_parts.specs.Safe.{IsKept, IsSafe};
 ghost use Rattle.core_chains.specs.Refill.Halts.{Halts, IsMet};
+ghost use Rattle.core_chains.specs.Write.Says.{RefusesBy};
 ghost use Rattle.core_files.specs.Chunks.Plain.{IsPlainHalt};
+ghost use Rattle.core_files.specs.Inodes.Entries.{HasGiven, IsLone, given_on};
 ghost use Rattle.core_chains.specs.Write.Writes.{IsGivenAll, IsLeftAll, WriteParts, WritesWell};
 ghost use Rattle.file_cores.specs.Files.{IsFile};
 ghost use Rattle.file_cores.specs.Looks.{failed_in};
@@ -41,8 +43,10 @@ struct Given {
 }
 
 // The chain of this number, which holds one inode and owes nothing.
+#[tactic(auto, using(crate::proofs::inodes::SaidLemmas::none_owed, crate::proofs::inodes::SaidLemmas::none_second))]
 fn lone_chain<D: Device>(desk: &Desk<D>, number: u32) -> Result<Chain, WriteFault>
     ensures number { OnOk result (number < 16) }
+    ensures lone { IfOk result (IsLone desk.now number) }
     ensures reason { WritesWell desk.now result }
 {
     let chain = chain_of(desk, number)?;
@@ -90,6 +94,7 @@ fn file_of<D: Device, L: Ledger>(
     requires usable { IsUsable D.Device desk.old }
     ensures halts { Halts D.Device desk.old desk.new result }
     ensures book { OnOk result (desk.new.book ≡ desk.old.book) }
+    ensures items { desk.new.book.journal.items ≡ desk.old.book.journal.items }
     ensures file { IfOk result (IsFile desk.new.store.geo) }
 {
     match ask_file(alloc, desk, ino, steps) {
@@ -126,6 +131,7 @@ fn read_given<D: Device, L: Ledger>(
     requires usable { IsUsable D.Device desk.old }
     ensures halts { Halts D.Device desk.old desk.new result }
     ensures book { OnOk result (desk.new.book ≡ desk.old.book) }
+    ensures items { desk.new.book.journal.items ≡ desk.old.book.journal.items }
     ensures place { IfOk result (λ given. HasInode desk.new.store.geo given.place) }
 {
     let file = file_of(alloc, desk, ino, steps)?;
@@ -198,6 +204,7 @@ fn find_change<D: Device, L: Ledger>(
     requires group { place.now.group < desk.old.store.geo.agcount }
     ensures halts { Halts D.Device desk.old desk.new result }
     ensures book { OnOk result (desk.new.book ≡ desk.old.book) }
+    ensures items { desk.new.book.journal.items ≡ desk.old.book.journal.items }
 {
     // Never: no group has so many inodes.
     let Some((key, slot)) = chunk_of(place) else {
@@ -239,6 +246,7 @@ fn edit_given<D: Device, L: Ledger>(
     requires place { HasInode desk.old.store.geo given.now.place }
     ensures halts { Halts D.Device desk.old desk.new result }
     ensures book { OnOk result (desk.new.book ≡ desk.old.book) }
+    ensures items { desk.new.book.journal.items ≡ desk.old.book.journal.items }
     ensures opened { OnOk result (IsOpen D.Device given.now.place.group desk.new.store) }
 {
     let g = given.place.group;
@@ -264,6 +272,7 @@ fn write_given<D: Device, L: Ledger>(
     requires place { HasInode desk.old.store.geo given.now.place }
     ensures halts { Halts D.Device desk.old desk.new result }
     ensures book { OnOk result (desk.new.book ≡ desk.old.book) }
+    ensures items { desk.new.book.journal.items ≡ desk.old.book.journal.items }
     ensures kept { IsKept kept.new }
 {
     edit_given(alloc, desk, kept, given, change, steps)?;
@@ -285,6 +294,7 @@ fn give_tested<D: Device, L: Ledger>(
     requires place { HasInode desk.old.store.geo given.now.place }
     ensures halts { Halts D.Device desk.old desk.new result }
     ensures book { OnOk result (desk.new.book ≡ desk.old.book) }
+    ensures items { desk.new.book.journal.items ≡ desk.old.book.journal.items }
     ensures kept { IsKept kept.new }
 {
     may_give(desk, kept, given.place.group)?;
@@ -309,6 +319,9 @@ fn give_in<D: Device, L: Ledger>(
     requires number { number < 16 }
     requires place { HasInode desk.old.store.geo given.now.place }
     ensures halts { Halts D.Device desk.old desk.new result }
+    ensures said { OnOk result (desk.new.book.journal.items ≡ given_on desk.old.book.journal.items
+        chain.now) }
+    ensures unsaid { OnErr result (desk.new.book.journal.items ≡ desk.old.book.journal.items) }
     ensures kept { IsKept kept.new }
 {
     give_tested(alloc, desk, kept, given, steps)?;
@@ -331,6 +344,9 @@ fn give_read<D: Device, L: Ledger>(
     requires number { number < 16 }
     requires place { HasInode desk.old.store.geo given.now.place }
     ensures halts { Halts D.Device desk.old desk.new result }
+    ensures said { OnOk result (desk.new.book.journal.items ≡ given_on desk.old.book.journal.items
+        chain.now) }
+    ensures unsaid { OnErr result (desk.new.book.journal.items ≡ desk.old.book.journal.items) }
     ensures left { IsLeftAll D.Device desk.old desk.new groups.old.items groups.new.items }
 {
     let kept = &mut groups[given.place.group as usize];
@@ -338,7 +354,7 @@ fn give_read<D: Device, L: Ledger>(
 }
 
 // The same of a chain.
-#[tactic(auto, using(core_chains::proofs::refill::HaltLemmas::given_after, core_chains::proofs::refill::HaltLemmas::left_before, core_chains::proofs::refill::HaltLemmas::left_none, core_chains::proofs::refill::HaltLemmas::halts_on))]
+#[tactic(auto, using(core_chains::proofs::refill::HaltLemmas::given_after, core_chains::proofs::refill::HaltLemmas::left_before, core_chains::proofs::refill::HaltLemmas::left_none, core_chains::proofs::refill::HaltLemmas::halts_on, crate::proofs::inodes::SaidLemmas::given_behind, core_chains::proofs::write::SaysLemmas::unsaid_on))]
 fn give_any<D: Device, L: Ledger>(
     alloc: Global,
     desk: &mut Desk<D>,
@@ -351,6 +367,9 @@ fn give_any<D: Device, L: Ledger>(
     requires room { vec_len desk.old.book.journal + 2 ≤ vec_capacity desk.old.book.journal }
     requires number { number < 16 }
     ensures halts { Halts D.Device desk.old desk.new result }
+    ensures said { OnOk result (desk.new.book.journal.items ≡ given_on desk.old.book.journal.items
+        chain.now) }
+    ensures unsaid { OnErr result (desk.new.book.journal.items ≡ desk.old.book.journal.items) }
     ensures left { IsLeftAll D.Device desk.old desk.new groups.old.items groups.new.items }
 {
     let given = read_given(alloc, desk, chain.first().ino, steps)?;
@@ -358,7 +377,7 @@ fn give_any<D: Device, L: Ledger>(
 }
 
 // The same, with the marks of what was met.
-#[tactic(auto, using(core_chains::proofs::refill::HaltLemmas::left_marked))]
+#[tactic(auto, using(core_chains::proofs::refill::HaltLemmas::left_marked, core_chains::proofs::write::SaysLemmas::refused_on))]
 fn give_marked<D: Device, L: Ledger>(
     alloc: Global,
     desk: &mut Desk<D>,
@@ -372,6 +391,9 @@ fn give_marked<D: Device, L: Ledger>(
     requires number { number < 16 }
     ensures left { IsLeftAll D.Device desk.old desk.new groups.old.items groups.new.items }
     ensures reason { WritesWell desk.new result }
+    ensures said { OnOk result (desk.new.book.journal.items ≡ given_on desk.old.book.journal.items
+        chain.now) }
+    ensures refused { RefusesBy result desk.old.book.journal.items desk.new.book.journal.items }
 {
     match give_any(alloc, desk, groups, number, chain, steps) {
         Ok(()) => Ok(()),
@@ -380,7 +402,7 @@ fn give_marked<D: Device, L: Ledger>(
 }
 
 // The same of a chain that owes nothing, once the journal has room.
-#[tactic(auto, using(core_chains::proofs::refill::HaltLemmas::given_same, core_chains::proofs::refill::HaltLemmas::left_same, core_chains::proofs::refill::HaltLemmas::none_same, crate::proofs::inodes::InodeLemmas::left_self))]
+#[tactic(auto, using(core_chains::proofs::refill::HaltLemmas::given_same, core_chains::proofs::refill::HaltLemmas::left_same, core_chains::proofs::refill::HaltLemmas::none_same, crate::proofs::inodes::InodeLemmas::left_self, crate::proofs::inodes::SaidLemmas::lone_given, core_chains::proofs::write::SaysLemmas::refuses_on, core_chains::proofs::write::SaysLemmas::refuses_same))]
 fn give_among<D: Device, L: Ledger>(
     alloc: Global,
     desk: &mut Desk<D>,
@@ -391,6 +413,8 @@ fn give_among<D: Device, L: Ledger>(
     requires given { IsGivenAll D.Device desk.old groups.old.items }
     ensures left { IsLeftAll D.Device desk.old desk.new groups.old.items groups.new.items }
     ensures reason { WritesWell desk.new result }
+    ensures said { OnOk result (HasGiven number desk.old desk.new) }
+    ensures refused { RefusesBy result desk.old.book.journal.items desk.new.book.journal.items }
 {
     let chain = lone_chain(desk, number)?;
     chain_room(desk, 2)?;
@@ -403,7 +427,7 @@ fn give_among<D: Device, L: Ledger>(
 /// left, Closing and Sick of the inode's group. A btree that meets a fault is marked, the inode btree also
 /// where it lacks the record or calls the inode free; then nothing else is changed
 /// (XFS Algorithms and Data Structures, "Inode Allocation").
-#[tactic(auto, using(core_chains::proofs::write::PartLemmas::given_of, core_chains::proofs::write::PartLemmas::left_parts, core_chains::proofs::write::PartLemmas::same_parts))]
+#[tactic(auto, using(core_chains::proofs::write::PartLemmas::given_of, core_chains::proofs::write::PartLemmas::left_parts, core_chains::proofs::write::PartLemmas::same_parts, core_chains::proofs::write::SaysLemmas::refuses_same))]
 pub fn give_inode<D: Device, L: Ledger>(
     alloc: Global,
     parts: &mut Parts<D>,
@@ -412,6 +436,9 @@ pub fn give_inode<D: Device, L: Ledger>(
 ) -> Result<(), WriteFault>
     requires safe { IsSafe D.Device parts.old }
     ensures left { WriteParts D.Device parts.old parts.new result }
+    ensures said { OnOk result (HasGiven chain parts.old.desk parts.new.desk) }
+    ensures refused { RefusesBy result parts.old.desk.book.journal.items
+        parts.new.desk.book.journal.items }
 {
     writer_unshut(&parts.desk)?;
     give_among(alloc, &mut parts.desk, &mut parts.groups, chain, steps)

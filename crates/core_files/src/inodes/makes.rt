@@ -1,9 +1,10 @@
 // A new chunk of inodes, of which the first is taken.
-ghost use Rattle.std.specs.Prelude.{◌≡◌, ◌<◌, ◌≤◌, ◌+◌, OnOk};
+ghost use Rattle.std.specs.Prelude.{◌≡◌, ◌<◌, ◌≤◌, ◌+◌, IfOk, OnErr, OnOk};
 ghost use Rattle.std.specs.Vec.{vec_capacity, vec_len};
 ghost use Rattle.core_parts.specs.Common.Asks.{IsUsable};
 ghost use Rattle.core_parts.specs.Safe.{IsKept};
 ghost use Rattle.core_chains.specs.Refill.Halts.{Halts};
+ghost use Rattle.core_files.specs.Inodes.Entries.{SaysTaken};
 ghost use Rattle.core_chains.specs.Write.Writes.{IsGivenAll, IsLeftAll};
 ghost use Rattle.core_edit.specs.Opened.{IsOpen};
 
@@ -81,6 +82,7 @@ fn move_run<D: Device, L: Ledger>(
     requires opened { IsOpen D.Device g desk.old.store }
     ensures halts { Halts D.Device desk.old desk.new result }
     ensures book { OnOk result (desk.new.book ≡ desk.old.book) }
+    ensures items { desk.new.book.journal.items ≡ desk.old.book.journal.items }
     ensures opened { OnOk result (IsOpen D.Device g desk.new.store) }
 {
     take_both(alloc, desk, g, run, steps)?;
@@ -102,6 +104,7 @@ fn list_chunk<D: Device, L: Ledger>(
     requires opened { IsOpen D.Device g desk.old.store }
     ensures halts { Halts D.Device desk.old desk.new result }
     ensures book { OnOk result (desk.new.book ≡ desk.old.book) }
+    ensures items { desk.new.book.journal.items ≡ desk.old.book.journal.items }
     ensures opened { OnOk result (IsOpen D.Device g desk.new.store) }
 {
     move_run(alloc, desk, g, run, steps)?;
@@ -121,6 +124,7 @@ fn open_chunk<D: Device, L: Ledger>(
     requires group { g < desk.old.store.geo.agcount }
     ensures halts { Halts D.Device desk.old desk.new result }
     ensures book { OnOk result (desk.new.book ≡ desk.old.book) }
+    ensures items { desk.new.book.journal.items ≡ desk.old.book.journal.items }
     ensures opened { OnOk result (IsOpen D.Device g desk.new.store) }
 {
     open_group(desk, kept, g, None, steps)?;
@@ -142,6 +146,7 @@ fn edit_made<D: Device, L: Ledger>(
     requires group { g < desk.old.store.geo.agcount }
     ensures halts { Halts D.Device desk.old desk.new result }
     ensures book { OnOk result (desk.new.book ≡ desk.old.book) }
+    ensures items { desk.new.book.journal.items ≡ desk.old.book.journal.items }
     ensures opened { OnOk result (IsOpen D.Device g desk.new.store) }
 {
     open_chunk(desk, kept, g, chunk, uid, steps)?;
@@ -168,6 +173,7 @@ fn write_made<D: Device, L: Ledger>(
     requires group { g < desk.old.store.geo.agcount }
     ensures halts { Halts D.Device desk.old desk.new result }
     ensures book { OnOk result (desk.new.book ≡ desk.old.book) }
+    ensures items { desk.new.book.journal.items ≡ desk.old.book.journal.items }
     ensures kept { IsKept kept.new }
 {
     edit_made(alloc, desk, kept, g, chunk, uid, steps)?;
@@ -175,7 +181,7 @@ fn write_made<D: Device, L: Ledger>(
 }
 
 // The first inode of a chunk that is made is taken.
-#[tactic(auto, using(crate::proofs::inodes::InodeLemmas::count_stays, crate::proofs::inodes::InodeLemmas::ended_halts, core_chains::proofs::refill::HaltLemmas::memory_halts))]
+#[tactic(auto, using(crate::proofs::inodes::InodeLemmas::count_stays, crate::proofs::inodes::InodeLemmas::ended_halts, core_chains::proofs::refill::HaltLemmas::memory_halts, crate::proofs::inodes::SaidLemmas::taken_said))]
 fn take_made<D: Device, L: Ledger>(
     alloc: Global,
     desk: &mut Desk<D>,
@@ -190,6 +196,9 @@ fn take_made<D: Device, L: Ledger>(
     requires room { vec_len desk.old.book.journal + 2 ≤ vec_capacity desk.old.book.journal }
     requires group { g < desk.old.store.geo.agcount }
     ensures halts { Halts D.Device desk.old desk.new result }
+    ensures said { IfOk result (λ t. SaysTaken taker.now.writer taker.now.uid t.0
+        desk.old.book.journal.items desk.new.book.journal.items) }
+    ensures unsaid { OnErr result (desk.new.book.journal.items ≡ desk.old.book.journal.items) }
     ensures kept { IsKept kept.new }
 {
     let drain = drain_with(alloc, desk, taker, chunk.ino)?;
@@ -205,7 +214,7 @@ fn take_made<D: Device, L: Ledger>(
 }
 
 // The same, where nobody owns the run, or holds the inode.
-#[tactic(auto, using(core_chains::proofs::refill::HaltLemmas::met_after, core_chains::proofs::refill::HaltLemmas::halts_on))]
+#[tactic(auto, using(core_chains::proofs::refill::HaltLemmas::met_after, core_chains::proofs::refill::HaltLemmas::halts_on, crate::proofs::inodes::SaidLemmas::taken_on, core_chains::proofs::write::SaysLemmas::unsaid_on))]
 fn make_guarded<D: Device, L: Ledger>(
     alloc: Global,
     desk: &mut Desk<D>,
@@ -221,6 +230,9 @@ fn make_guarded<D: Device, L: Ledger>(
     requires room { vec_len desk.old.book.journal + 2 ≤ vec_capacity desk.old.book.journal }
     requires group { g < desk.old.store.geo.agcount }
     ensures halts { Halts D.Device desk.old desk.new result }
+    ensures said { IfOk result (λ t. SaysTaken taker.now.writer taker.now.uid t.0
+        desk.old.book.journal.items desk.new.book.journal.items) }
+    ensures unsaid { OnErr result (desk.new.book.journal.items ≡ desk.old.book.journal.items) }
     ensures kept { IsKept kept.new }
 {
     let run = SpanRec {
@@ -248,6 +260,9 @@ fn make_in<D: Device, L: Ledger>(
     requires room { vec_len desk.old.book.journal + 2 ≤ vec_capacity desk.old.book.journal }
     requires group { run.now.group < desk.old.store.geo.agcount }
     ensures halts { Halts D.Device desk.old desk.new result }
+    ensures said { IfOk result (λ t. SaysTaken taker.now.writer taker.now.uid t.0
+        desk.old.book.journal.items desk.new.book.journal.items) }
+    ensures unsaid { OnErr result (desk.new.book.journal.items ≡ desk.old.book.journal.items) }
     ensures kept { IsKept kept.new }
 {
     // Never: a run of free space lies in its group.
@@ -271,6 +286,9 @@ fn make_among<D: Device, L: Ledger>(
     requires given { IsGivenAll D.Device desk.old groups.old.items }
     requires room { vec_len desk.old.book.journal + 2 ≤ vec_capacity desk.old.book.journal }
     ensures halts { Halts D.Device desk.old desk.new result }
+    ensures said { IfOk result (λ t. SaysTaken taker.now.writer taker.now.uid t.0
+        desk.old.book.journal.items desk.new.book.journal.items) }
+    ensures unsaid { OnErr result (desk.new.book.journal.items ≡ desk.old.book.journal.items) }
     ensures left { IsLeftAll D.Device desk.old desk.new groups.old.items groups.new.items }
 {
     // Never: it was found in a group.
@@ -284,7 +302,7 @@ fn make_among<D: Device, L: Ledger>(
 /// Makes a new chunk where free space has an aligned run for one, and takes its first inode: the run leaves
 /// free space, and inodes own it; the others are free
 /// (XFS Algorithms and Data Structures, "Inode Allocation").
-#[tactic(auto, using(core_chains::proofs::refill::HaltLemmas::given_after, core_chains::proofs::refill::HaltLemmas::left_before, core_chains::proofs::refill::HaltLemmas::left_none, core_chains::proofs::refill::HaltLemmas::halts_on))]
+#[tactic(auto, using(core_chains::proofs::refill::HaltLemmas::given_after, core_chains::proofs::refill::HaltLemmas::left_before, core_chains::proofs::refill::HaltLemmas::left_none, core_chains::proofs::refill::HaltLemmas::halts_on, crate::proofs::inodes::SaidLemmas::taken_on, core_chains::proofs::write::SaysLemmas::unsaid_on))]
 pub(crate) fn make_chunk<D: Device, L: Ledger>(
     alloc: Global,
     desk: &mut Desk<D>,
@@ -296,6 +314,9 @@ pub(crate) fn make_chunk<D: Device, L: Ledger>(
     requires given { IsGivenAll D.Device desk.old groups.old.items }
     requires room { vec_len desk.old.book.journal + 2 ≤ vec_capacity desk.old.book.journal }
     ensures halts { Halts D.Device desk.old desk.new result }
+    ensures said { IfOk result (λ t. SaysTaken taker.now.writer taker.now.uid t.0
+        desk.old.book.journal.items desk.new.book.journal.items) }
+    ensures unsaid { OnErr result (desk.new.book.journal.items ≡ desk.old.book.journal.items) }
     ensures left { IsLeftAll D.Device desk.old desk.new groups.old.items groups.new.items }
 {
     let run = find_run(alloc, desk, groups.as_slice(), steps)?;

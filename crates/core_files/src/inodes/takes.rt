@@ -1,8 +1,10 @@
-ghost use Rattle.std.specs.Prelude.{◌≡◌, ◌<◌, ◌≤◌, ◌+◌, IfErr, IfSome, OnOk};
+ghost use Rattle.std.specs.Prelude.{◌≡◌, ◌<◌, ◌≤◌, ◌+◌, IfErr, IfOk, IfSome, OnErr, OnOk};
 ghost use Rattle.std.specs.Vec.{vec_capacity, vec_len};
 ghost use Rattle.core_parts.specs.Common.Asks.{IsUsable};
 ghost use Rattle.core_parts.specs.Safe.{IsKept, IsSafe};
 ghost use Rattle.core_chains.specs.Refill.Halts.{Halts, IsMet};
+ghost use Rattle.core_files.specs.Inodes.Entries.{SaysTaken};
+ghost use Rattle.core_chains.specs.Write.Says.{RefusesBy};
 ghost use Rattle.core_chains.specs.Write.Writes.{IsGivenAll, IsLeftAll, WriteParts, WritesWell};
 ghost use Rattle.geom.specs.Places.{HasInode};
 ghost use Rattle.inode_table.specs.Masks.{IsFree};
@@ -66,6 +68,7 @@ fn check_record<D: Device, L: Ledger>(
     requires group { g < desk.old.store.geo.agcount }
     ensures halts { Halts D.Device desk.old desk.new result }
     ensures book { OnOk result (desk.new.book ≡ desk.old.book) }
+    ensures items { desk.new.book.journal.items ≡ desk.old.book.journal.items }
 {
     let tree = tree_at(&kept.heads, g, Kind::Ino);
     let key = InoKey {
@@ -126,6 +129,7 @@ fn check_inode<D: Device, L: Ledger>(
     requires place { HasInode desk.old.store.geo place.now }
     ensures halts { Halts D.Device desk.old desk.new result }
     ensures book { OnOk result (desk.new.book ≡ desk.old.book) }
+    ensures items { desk.new.book.journal.items ≡ desk.old.book.journal.items }
 {
     check_chunk(desk, place, steps)?;
     free_core(desk, place, steps)
@@ -146,6 +150,7 @@ fn edit_taken<D: Device, L: Ledger>(
     requires place { HasInode desk.old.store.geo free.now.place }
     ensures halts { Halts D.Device desk.old desk.new result }
     ensures book { OnOk result (desk.new.book ≡ desk.old.book) }
+    ensures items { desk.new.book.journal.items ≡ desk.old.book.journal.items }
     ensures opened { OnOk result (IsOpen D.Device free.now.place.group desk.new.store) }
 {
     let g = free.place.group;
@@ -171,6 +176,7 @@ fn write_taken<D: Device, L: Ledger>(
     requires place { HasInode desk.old.store.geo free.now.place }
     ensures halts { Halts D.Device desk.old desk.new result }
     ensures book { OnOk result (desk.new.book ≡ desk.old.book) }
+    ensures items { desk.new.book.journal.items ≡ desk.old.book.journal.items }
     ensures kept { IsKept kept.new }
 {
     edit_taken(alloc, desk, kept, free, core, steps)?;
@@ -178,7 +184,7 @@ fn write_taken<D: Device, L: Ledger>(
 }
 
 // A free inode that was tested is taken; this is its core.
-#[tactic(auto, using(crate::proofs::inodes::InodeLemmas::count_stays, crate::proofs::inodes::InodeLemmas::ended_halts, core_chains::proofs::refill::HaltLemmas::memory_halts))]
+#[tactic(auto, using(crate::proofs::inodes::InodeLemmas::count_stays, crate::proofs::inodes::InodeLemmas::ended_halts, core_chains::proofs::refill::HaltLemmas::memory_halts, crate::proofs::inodes::SaidLemmas::taken_said))]
 fn take_tested<D: Device, L: Ledger>(
     alloc: Global,
     desk: &mut Desk<D>,
@@ -193,6 +199,9 @@ fn take_tested<D: Device, L: Ledger>(
     requires room { vec_len desk.old.book.journal + 2 ≤ vec_capacity desk.old.book.journal }
     requires place { HasInode desk.old.store.geo free.now.place }
     ensures halts { Halts D.Device desk.old desk.new result }
+    ensures said { IfOk result (λ t. SaysTaken taker.now.writer taker.now.uid t.0
+        desk.old.book.journal.items desk.new.book.journal.items) }
+    ensures unsaid { OnErr result (desk.new.book.journal.items ≡ desk.old.book.journal.items) }
     ensures kept { IsKept kept.new }
 {
     let drain = drain_with(alloc, desk, taker, free.ino)?;
@@ -208,7 +217,7 @@ fn take_tested<D: Device, L: Ledger>(
 }
 
 // A free inode is taken, which nobody holds.
-#[tactic(auto, using(crate::proofs::chunks::ChunkLemmas::inode_stays, core_chains::proofs::refill::HaltLemmas::halts_on))]
+#[tactic(auto, using(crate::proofs::chunks::ChunkLemmas::inode_stays, core_chains::proofs::refill::HaltLemmas::halts_on, crate::proofs::inodes::SaidLemmas::taken_on, core_chains::proofs::write::SaysLemmas::unsaid_on))]
 fn take_free<D: Device, L: Ledger>(
     alloc: Global,
     desk: &mut Desk<D>,
@@ -222,6 +231,9 @@ fn take_free<D: Device, L: Ledger>(
     requires room { vec_len desk.old.book.journal + 2 ≤ vec_capacity desk.old.book.journal }
     requires place { HasInode desk.old.store.geo free.now.place }
     ensures halts { Halts D.Device desk.old desk.new result }
+    ensures said { IfOk result (λ t. SaysTaken taker.now.writer taker.now.uid t.0
+        desk.old.book.journal.items desk.new.book.journal.items) }
+    ensures unsaid { OnErr result (desk.new.book.journal.items ≡ desk.old.book.journal.items) }
     ensures kept { IsKept kept.new }
 {
     let core = check_inode(desk, &free.place, steps)?;
@@ -230,7 +242,7 @@ fn take_free<D: Device, L: Ledger>(
 }
 
 // A free inode of this chunk is taken.
-#[tactic(auto, using(crate::proofs::inodes::InodeLemmas::memory_after, core_chains::proofs::refill::HaltLemmas::met_after, core_chains::proofs::refill::HaltLemmas::halts_on, crate::proofs::chunks::ChunkLemmas::inode_stays))]
+#[tactic(auto, using(crate::proofs::inodes::InodeLemmas::memory_after, core_chains::proofs::refill::HaltLemmas::met_after, core_chains::proofs::refill::HaltLemmas::halts_on, crate::proofs::chunks::ChunkLemmas::inode_stays, crate::proofs::inodes::SaidLemmas::taken_on, core_chains::proofs::write::SaysLemmas::unsaid_on))]
 fn take_in<D: Device, L: Ledger>(
     alloc: Global,
     desk: &mut Desk<D>,
@@ -245,6 +257,9 @@ fn take_in<D: Device, L: Ledger>(
     requires room { vec_len desk.old.book.journal + 2 ≤ vec_capacity desk.old.book.journal }
     requires group { found.now.group < desk.old.store.geo.agcount }
     ensures halts { Halts D.Device desk.old desk.new result }
+    ensures said { IfOk result (λ t. SaysTaken taker.now.writer taker.now.uid t.0
+        desk.old.book.journal.items desk.new.book.journal.items) }
+    ensures unsaid { OnErr result (desk.new.book.journal.items ≡ desk.old.book.journal.items) }
     ensures kept { IsKept kept.new }
 {
     check_record(desk, kept, found.group, &found.rec, steps)?;
@@ -271,6 +286,9 @@ fn take_found<D: Device, L: Ledger>(
     requires given { IsGivenAll D.Device desk.old groups.old.items }
     requires room { vec_len desk.old.book.journal + 2 ≤ vec_capacity desk.old.book.journal }
     ensures halts { Halts D.Device desk.old desk.new result }
+    ensures said { IfOk result (λ t. SaysTaken taker.now.writer taker.now.uid t.0
+        desk.old.book.journal.items desk.new.book.journal.items) }
+    ensures unsaid { OnErr result (desk.new.book.journal.items ≡ desk.old.book.journal.items) }
     ensures left { IsLeftAll D.Device desk.old desk.new groups.old.items groups.new.items }
 {
     // Never: it was found in a group.
@@ -282,7 +300,7 @@ fn take_found<D: Device, L: Ledger>(
 }
 
 // A free inode is taken where a chunk has one, and else the first of a new chunk.
-#[tactic(auto, using(core_chains::proofs::refill::HaltLemmas::given_after, core_chains::proofs::refill::HaltLemmas::left_before, core_chains::proofs::refill::HaltLemmas::left_none, core_chains::proofs::refill::HaltLemmas::halts_on))]
+#[tactic(auto, using(core_chains::proofs::refill::HaltLemmas::given_after, core_chains::proofs::refill::HaltLemmas::left_before, core_chains::proofs::refill::HaltLemmas::left_none, core_chains::proofs::refill::HaltLemmas::halts_on, crate::proofs::inodes::SaidLemmas::taken_on, core_chains::proofs::write::SaysLemmas::unsaid_on))]
 fn take_any<D: Device, L: Ledger>(
     alloc: Global,
     desk: &mut Desk<D>,
@@ -294,6 +312,9 @@ fn take_any<D: Device, L: Ledger>(
     requires given { IsGivenAll D.Device desk.old groups.old.items }
     requires room { vec_len desk.old.book.journal + 2 ≤ vec_capacity desk.old.book.journal }
     ensures halts { Halts D.Device desk.old desk.new result }
+    ensures said { IfOk result (λ t. SaysTaken taker.now.writer taker.now.uid t.0
+        desk.old.book.journal.items desk.new.book.journal.items) }
+    ensures unsaid { OnErr result (desk.new.book.journal.items ≡ desk.old.book.journal.items) }
     ensures left { IsLeftAll D.Device desk.old desk.new groups.old.items groups.new.items }
 {
     let found = find_free(alloc, desk, groups.as_slice(), steps)?;
@@ -304,7 +325,7 @@ fn take_any<D: Device, L: Ledger>(
 }
 
 // The same, with the marks of what was met.
-#[tactic(auto, using(core_chains::proofs::refill::HaltLemmas::left_marked))]
+#[tactic(auto, using(core_chains::proofs::refill::HaltLemmas::left_marked, core_chains::proofs::write::SaysLemmas::refused_on))]
 fn take_marked<D: Device, L: Ledger>(
     alloc: Global,
     desk: &mut Desk<D>,
@@ -317,6 +338,9 @@ fn take_marked<D: Device, L: Ledger>(
     requires room { vec_len desk.old.book.journal + 2 ≤ vec_capacity desk.old.book.journal }
     ensures left { IsLeftAll D.Device desk.old desk.new groups.old.items groups.new.items }
     ensures reason { WritesWell desk.new result }
+    ensures said { IfOk result (λ t. SaysTaken taker.now.writer taker.now.uid t.0
+        desk.old.book.journal.items desk.new.book.journal.items) }
+    ensures refused { RefusesBy result desk.old.book.journal.items desk.new.book.journal.items }
 {
     match take_any(alloc, desk, groups, units, taker, steps) {
         Ok(taken) => Ok(taken),
@@ -335,7 +359,7 @@ fn free_number<D: Device>(desk: &Desk<D>) -> Result<u32, WriteFault>
 }
 
 // The same, once the journal has room, and there is a number for a chain.
-#[tactic(auto, using(core_chains::proofs::refill::HaltLemmas::given_same, core_chains::proofs::refill::HaltLemmas::left_same, core_chains::proofs::refill::HaltLemmas::none_same))]
+#[tactic(auto, using(core_chains::proofs::refill::HaltLemmas::given_same, core_chains::proofs::refill::HaltLemmas::left_same, core_chains::proofs::refill::HaltLemmas::none_same, crate::proofs::inodes::SaidLemmas::taken_on, core_chains::proofs::write::SaysLemmas::refuses_on, core_chains::proofs::write::SaysLemmas::refuses_same))]
 fn take_among<D: Device, L: Ledger>(
     alloc: Global,
     desk: &mut Desk<D>,
@@ -348,6 +372,9 @@ fn take_among<D: Device, L: Ledger>(
     requires given { IsGivenAll D.Device desk.old groups.old.items }
     ensures left { IsLeftAll D.Device desk.old desk.new groups.old.items groups.new.items }
     ensures reason { WritesWell desk.new result }
+    ensures said { IfOk result (λ t. SaysTaken writer uid t.0 desk.old.book.journal.items
+        desk.new.book.journal.items) }
+    ensures refused { RefusesBy result desk.old.book.journal.items desk.new.book.journal.items }
 {
     writer_room(desk, 2)?;
     let number = free_number(desk)?;
@@ -366,7 +393,7 @@ fn take_among<D: Device, L: Ledger>(
 /// Closing, Sick, NoSpace. A btree that meets a fault is marked, also the inode btree where it lacks the
 /// record, or where a core of the chunk doesn't verify, the inode is used, or somebody holds it; then
 /// nothing else is changed (XFS Algorithms and Data Structures, "Inode Allocation").
-#[tactic(auto, using(core_chains::proofs::write::PartLemmas::given_of, core_chains::proofs::write::PartLemmas::left_parts, core_chains::proofs::write::PartLemmas::same_parts))]
+#[tactic(auto, using(core_chains::proofs::write::PartLemmas::given_of, core_chains::proofs::write::PartLemmas::left_parts, core_chains::proofs::write::PartLemmas::same_parts, core_chains::proofs::write::SaysLemmas::refuses_same))]
 pub fn take_inode<D: Device, L: Ledger>(
     alloc: Global,
     parts: &mut Parts<D>,
@@ -376,6 +403,10 @@ pub fn take_inode<D: Device, L: Ledger>(
 ) -> Result<(u64, u32), WriteFault>
     requires safe { IsSafe D.Device parts.old }
     ensures left { WriteParts D.Device parts.old parts.new result }
+    ensures said { IfOk result (λ t. SaysTaken writer uid t.0 parts.old.desk.book.journal.items
+        parts.new.desk.book.journal.items) }
+    ensures refused { RefusesBy result parts.old.desk.book.journal.items
+        parts.new.desk.book.journal.items }
 {
     writer_unshut(&parts.desk)?;
     let units = parts.units.as_slice();

@@ -58,6 +58,7 @@ fn find_fit<D: Device, L: Ledger>(
     requires group { tree.now.group < desk.old.store.geo.agcount }
     ensures answers { WriteAnswers D.Device desk.old desk.new result }
     ensures book { OnOk result (desk.new.book ≡ desk.old.book) }
+    ensures items { desk.new.book.journal.items ≡ desk.old.book.journal.items }
     ensures geometry { desk.new.store.geo ≡ desk.old.store.geo }
 {
     let key = SpanRec {
@@ -97,6 +98,7 @@ fn look_usable<D: Device, L: Ledger>(
     requires group { tree.now.group < desk.old.store.geo.agcount }
     ensures answers { WriteAnswers D.Device desk.old desk.new result }
     ensures book { OnOk result (desk.new.book ≡ desk.old.book) }
+    ensures items { desk.new.book.journal.items ≡ desk.old.book.journal.items }
     ensures geometry { desk.new.store.geo ≡ desk.old.store.geo }
 {
     let mut space = blank_space(tree.group, true, None);
@@ -130,6 +132,7 @@ fn look_group<D: Device, L: Ledger>(
     requires group { g < desk.old.store.geo.agcount }
     ensures answers { WriteAnswers D.Device desk.old desk.new result }
     ensures book { OnOk result (desk.new.book ≡ desk.old.book) }
+    ensures items { desk.new.book.journal.items ≡ desk.old.book.journal.items }
     ensures geometry { desk.new.store.geo ≡ desk.old.store.geo }
 {
     let gate = is_open(&desk.drain, g);
@@ -167,6 +170,7 @@ fn hunt_groups<D: Device, L: Ledger>(
     requires few { left ≤ desk.old.store.geo.agcount }
     ensures answers { WriteAnswers D.Device desk.old desk.new result }
     ensures book { OnOk result (desk.new.book ≡ desk.old.book) }
+    ensures items { desk.new.book.journal.items ≡ desk.old.book.journal.items }
     ensures geometry { desk.new.store.geo ≡ desk.old.store.geo }
 {
     if left == 0 || hunt.search.is_settled() {
@@ -210,6 +214,7 @@ pub(crate) fn choose_run<D: Device, L: Ledger>(
     requires own { own < desk.old.store.geo.agcount }
     ensures answers { WriteAnswers D.Device desk.old desk.new result }
     ensures book { OnOk result (desk.new.book ≡ desk.old.book) }
+    ensures items { desk.new.book.journal.items ≡ desk.old.book.journal.items }
     ensures geometry { desk.new.store.geo ≡ desk.old.store.geo }
 {
     let mut hunt = Hunt {

@@ -61,6 +61,7 @@ pub(crate) fn edit_core<D: Device, L: Ledger>(
     requires opened { IsOpen D.Device g desk.old.store }
     ensures answers { WriteAnswers D.Device desk.old desk.new result }
     ensures book { OnOk result (desk.new.book ≡ desk.old.book) }
+    ensures items { desk.new.book.journal.items ≡ desk.old.book.journal.items }
     ensures geometry { desk.new.store.geo ≡ desk.old.store.geo }
     ensures opened { OnOk result (IsOpen D.Device g desk.new.store) }
 {

@@ -1,10 +1,15 @@
-ghost use Rattle.std.specs.Prelude.{◌≡◌, ◌<◌, ◌≤◌, ◌+◌, ◌^◌, OnOk, length, true};
+ghost use Rattle.std.specs.Prelude.{◌≡◌, ◌<◌, ◌≤◌, ◌+◌, ◌^◌, ◌++◌, ◌∷◌, [], Err, IfOk, OnOk, length, true};
 ghost use Rattle.std.specs.Vec.{vec_capacity, vec_len};
+ghost use Rattle.core_calls.specs.declared.answers.WriteFault.TheVariants as faults;
 ghost use Rattle.core_parts.specs.Common.Asks.{IsUsable};
+ghost use Rattle.core_files.specs.First.Entries.{HasPiece, SaysPiece};
 ghost use Rattle.core_files.specs.Maps.Plans.{IsPlan};
 ghost use Rattle.core_parts.specs.Safe.{AreKept, IsKept, IsSafe};
+ghost use Rattle.core_chains.specs.Write.Says.{RefusesBy};
 ghost use Rattle.core_chains.specs.Write.Writes.{IsLeftAll, WriteAnswers, WriteParts, WritesWell};
 ghost use Rattle.file_cores.specs.Files.{IsFile};
+ghost use Rattle.fs_model.specs.declared.entry.Entry.TheVariants as entries;
+ghost use Rattle.sblock.specs.declared.kind.Kind.TheVariants.{Cnt};
 ghost use Rattle.core_edit.specs.Opened.{IsOpen};
 
 use crate::first::{
@@ -37,7 +42,7 @@ use std::sync::ledger::Ledger;
 const OFFSETS: u64 = 1 << 54;
 
 // Writes what was edited, and ends the event.
-#[tactic(auto, using(crate::proofs::first::WriteLemmas::answers_steady))]
+#[tactic(auto, using(crate::proofs::first::WriteLemmas::answers_steady, core_chains::proofs::write::SaysLemmas::refuses_same, crate::proofs::first::SaidLemmas::piece_said))]
 fn commit_map<D: Device, L: Ledger>(
     desk: &mut Desk<D>,
     kept: &mut GroupKept,
@@ -50,6 +55,9 @@ fn commit_map<D: Device, L: Ledger>(
     requires room { vec_len desk.old.book.journal + 2 ≤ vec_capacity desk.old.book.journal }
     requires kept { IsKept kept.old }
     ensures answers { WriteAnswers D.Device desk.old desk.new result }
+    ensures said { IfOk result (λ n. SaysPiece entries.Mapped desk.old.store.geo plan.now.held
+        plan.now.offset n desk.old.book.journal.items desk.new.book.journal.items) }
+    ensures refused { RefusesBy result desk.old.book.journal.items desk.new.book.journal.items }
     ensures kept { IsKept kept.new }
 {
     commit_edit(desk, plan.spot.group, steps)?;
@@ -66,7 +74,7 @@ fn commit_map<D: Device, L: Ledger>(
 }
 
 // Puts the core into the edit, and writes all.
-#[tactic(auto, using(core_chains::proofs::write::PartLemmas::answers_on))]
+#[tactic(auto, using(core_chains::proofs::write::PartLemmas::answers_on, crate::proofs::first::SaidLemmas::pieces_on, core_chains::proofs::write::SaysLemmas::refuses_on, core_chains::proofs::write::SaysLemmas::refuses_same))]
 fn put_map<D: Device, L: Ledger>(
     desk: &mut Desk<D>,
     kept: &mut GroupKept,
@@ -81,6 +89,9 @@ fn put_map<D: Device, L: Ledger>(
     requires room { vec_len desk.old.book.journal + 2 ≤ vec_capacity desk.old.book.journal }
     requires kept { IsKept kept.old }
     ensures answers { WriteAnswers D.Device desk.old desk.new result }
+    ensures said { IfOk result (λ n. SaysPiece entries.Mapped desk.old.store.geo plan.now.held
+        plan.now.offset n desk.old.book.journal.items desk.new.book.journal.items) }
+    ensures refused { RefusesBy result desk.old.book.journal.items desk.new.book.journal.items }
     ensures kept { IsKept kept.new }
 {
     edit_core(desk, plan.spot.group, placed, steps)?;
@@ -88,7 +99,7 @@ fn put_map<D: Device, L: Ledger>(
 }
 
 // The run left free space: what else goes into the commit, if the fork has room.
-#[tactic(auto, using(core_chains::proofs::write::PartLemmas::answers_self))]
+#[tactic(auto, using(core_chains::proofs::write::PartLemmas::answers_self, core_chains::proofs::write::SaysLemmas::refuses_same))]
 fn map_taken<D: Device, L: Ledger>(
     desk: &mut Desk<D>,
     kept: &mut GroupKept,
@@ -101,6 +112,9 @@ fn map_taken<D: Device, L: Ledger>(
     requires room { vec_len desk.old.book.journal + 2 ≤ vec_capacity desk.old.book.journal }
     requires kept { IsKept kept.old }
     ensures answers { WriteAnswers D.Device desk.old desk.new result }
+    ensures said { IfOk result (λ n. SaysPiece entries.Mapped desk.old.store.geo plan.now.held
+        plan.now.offset n desk.old.book.journal.items desk.new.book.journal.items) }
+    ensures refused { RefusesBy result desk.old.book.journal.items desk.new.book.journal.items }
     ensures kept { IsKept kept.new }
 {
     freed_room(desk, kept)?;
@@ -126,7 +140,7 @@ fn first_left(left: &SpaceLeft) -> Option<(Kind, Cause)> {
 }
 
 // What follows from the edit of free space.
-#[tactic(auto, using(core_chains::proofs::write::PartLemmas::answers_self))]
+#[tactic(auto, using(core_chains::proofs::write::PartLemmas::answers_self, core_chains::proofs::write::SaysLemmas::not_ok, core_chains::proofs::write::SaysLemmas::marked_refuses))]
 fn map_or_mark<D: Device, L: Ledger>(
     desk: &mut Desk<D>,
     kept: &mut GroupKept,
@@ -140,6 +154,9 @@ fn map_or_mark<D: Device, L: Ledger>(
     requires room { vec_len desk.old.book.journal + 2 ≤ vec_capacity desk.old.book.journal }
     requires kept { IsKept kept.old }
     ensures answers { WriteAnswers D.Device desk.old desk.new result }
+    ensures said { IfOk result (λ n. SaysPiece entries.Mapped desk.old.store.geo plan.now.held
+        plan.now.offset n desk.old.book.journal.items desk.new.book.journal.items) }
+    ensures refused { RefusesBy result desk.old.book.journal.items desk.new.book.journal.items }
     ensures kept { IsKept kept.new }
 {
     match first_left(&left) {
@@ -149,7 +166,7 @@ fn map_or_mark<D: Device, L: Ledger>(
 }
 
 // Takes the run out of free space.
-#[tactic(auto, using(core_chains::proofs::write::PartLemmas::answers_on))]
+#[tactic(auto, using(core_chains::proofs::write::PartLemmas::answers_on, crate::proofs::first::SaidLemmas::pieces_on, core_chains::proofs::write::SaysLemmas::refuses_on, core_chains::proofs::write::SaysLemmas::refuses_same))]
 fn take_map<D: Device, L: Ledger>(
     alloc: Global,
     desk: &mut Desk<D>,
@@ -163,6 +180,9 @@ fn take_map<D: Device, L: Ledger>(
     requires room { vec_len desk.old.book.journal + 2 ≤ vec_capacity desk.old.book.journal }
     requires kept { IsKept kept.old }
     ensures answers { WriteAnswers D.Device desk.old desk.new result }
+    ensures said { IfOk result (λ n. SaysPiece entries.Mapped desk.old.store.geo plan.now.held
+        plan.now.offset n desk.old.book.journal.items desk.new.book.journal.items) }
+    ensures refused { RefusesBy result desk.old.book.journal.items desk.new.book.journal.items }
     ensures kept { IsKept kept.new }
 {
     let kinds = SpaceKinds {
@@ -178,7 +198,7 @@ fn take_map<D: Device, L: Ledger>(
 }
 
 // Begins the edit of the run's group, with the inode's block.
-#[tactic(auto, using(core_chains::proofs::write::PartLemmas::answers_on))]
+#[tactic(auto, using(core_chains::proofs::write::PartLemmas::answers_on, crate::proofs::first::SaidLemmas::pieces_on, core_chains::proofs::write::SaysLemmas::refuses_on, core_chains::proofs::write::SaysLemmas::refuses_same))]
 fn map_free<D: Device, L: Ledger>(
     alloc: Global,
     desk: &mut Desk<D>,
@@ -191,6 +211,9 @@ fn map_free<D: Device, L: Ledger>(
     requires room { vec_len desk.old.book.journal + 2 ≤ vec_capacity desk.old.book.journal }
     requires kept { IsKept kept.old }
     ensures answers { WriteAnswers D.Device desk.old desk.new result }
+    ensures said { IfOk result (λ n. SaysPiece entries.Mapped desk.old.store.geo plan.now.held
+        plan.now.offset n desk.old.book.journal.items desk.new.book.journal.items) }
+    ensures refused { RefusesBy result desk.old.book.journal.items desk.new.book.journal.items }
     ensures kept { IsKept kept.new }
 {
     let at = desk
@@ -202,7 +225,7 @@ fn map_free<D: Device, L: Ledger>(
 }
 
 // What follows from the guard.
-#[tactic(auto, using(core_chains::proofs::write::PartLemmas::answers_self))]
+#[tactic(auto, using(core_chains::proofs::write::PartLemmas::answers_self, core_chains::proofs::write::SaysLemmas::not_ok, core_chains::proofs::write::SaysLemmas::marked_refuses, core_chains::proofs::write::SaysLemmas::owned_refuses))]
 fn map_or_refuse<D: Device, L: Ledger>(
     alloc: Global,
     desk: &mut Desk<D>,
@@ -216,6 +239,9 @@ fn map_or_refuse<D: Device, L: Ledger>(
     requires room { vec_len desk.old.book.journal + 2 ≤ vec_capacity desk.old.book.journal }
     requires kept { IsKept kept.old }
     ensures answers { WriteAnswers D.Device desk.old desk.new result }
+    ensures said { IfOk result (λ n. SaysPiece entries.Mapped desk.old.store.geo plan.now.held
+        plan.now.offset n desk.old.book.journal.items desk.new.book.journal.items) }
+    ensures refused { RefusesBy result desk.old.book.journal.items desk.new.book.journal.items }
     ensures kept { IsKept kept.new }
 {
     let is_owned = match owned {
@@ -229,7 +255,7 @@ fn map_or_refuse<D: Device, L: Ledger>(
 }
 
 // Maps the run, where no record of reverse mappings has a block of it.
-#[tactic(auto, using(core_chains::proofs::write::PartLemmas::answers_on))]
+#[tactic(auto, using(core_chains::proofs::write::PartLemmas::answers_on, crate::proofs::first::SaidLemmas::pieces_on, core_chains::proofs::write::SaysLemmas::refuses_on, core_chains::proofs::write::SaysLemmas::refuses_same))]
 fn map_guarded<D: Device, L: Ledger>(
     alloc: Global,
     desk: &mut Desk<D>,
@@ -242,6 +268,9 @@ fn map_guarded<D: Device, L: Ledger>(
     requires room { vec_len desk.old.book.journal + 2 ≤ vec_capacity desk.old.book.journal }
     requires kept { IsKept kept.old }
     ensures answers { WriteAnswers D.Device desk.old desk.new result }
+    ensures said { IfOk result (λ n. SaysPiece entries.Mapped desk.old.store.geo plan.now.held
+        plan.now.offset n desk.old.book.journal.items desk.new.book.journal.items) }
+    ensures refused { RefusesBy result desk.old.book.journal.items desk.new.book.journal.items }
     ensures kept { IsKept kept.new }
 {
     let run = Run {
@@ -269,6 +298,9 @@ fn map_among<D: Device, L: Ledger>(
     requires room { vec_len desk.old.book.journal + 2 ≤ vec_capacity desk.old.book.journal }
     ensures left { IsLeftAll D.Device desk.old desk.new groups.old.items groups.new.items }
     ensures reason { WritesWell desk.new result }
+    ensures said { IfOk result (λ n. SaysPiece entries.Mapped desk.old.store.geo plan.now.held
+        plan.now.offset n desk.old.book.journal.items desk.new.book.journal.items) }
+    ensures refused { RefusesBy result desk.old.book.journal.items desk.new.book.journal.items }
 {
     let kept = &mut groups[plan.spot.group as usize];
     map_guarded(alloc, desk, kept, plan, steps)
@@ -289,13 +321,16 @@ fn mark_among<D: Device>(
     requires room { vec_len desk.old.book.journal + 2 ≤ vec_capacity desk.old.book.journal }
     ensures left { IsLeftAll D.Device desk.old desk.new groups.old.items groups.new.items }
     ensures reason { WritesWell desk.new result }
+    ensures sick { result ≡ Err (faults.Sick g Cnt) }
+    ensures said { desk.new.book.journal.items ≡ desk.old.book.journal.items ++ entries.Marked g
+        Cnt cause ∷ [] }
 {
     let kept = &mut groups[g as usize];
     mark_one(desk, kept, g, Kind::Cnt, cause)
 }
 
 // Maps the run that was chosen.
-#[tactic(auto, using(core_chains::proofs::write::PartLemmas::none_left, core_parts::proofs::common::AskLemmas::steady_self))]
+#[tactic(auto, using(core_chains::proofs::write::PartLemmas::none_left, core_parts::proofs::common::AskLemmas::steady_self, crate::proofs::first::SaidLemmas::pieces_at, core_chains::proofs::write::SaysLemmas::refused_none))]
 fn map_run<D: Device, L: Ledger>(
     alloc: Global,
     desk: &mut Desk<D>,
@@ -313,6 +348,9 @@ fn map_run<D: Device, L: Ledger>(
     requires room { vec_len desk.old.book.journal + 2 ≤ vec_capacity desk.old.book.journal }
     ensures left { IsLeftAll D.Device desk.old desk.new groups.old.items groups.new.items }
     ensures reason { WritesWell desk.new result }
+    ensures said { IfOk result (λ n. SaysPiece entries.Mapped desk.old.store.geo of.held offset n
+        desk.old.book.journal.items desk.new.book.journal.items) }
+    ensures refused { RefusesBy result desk.old.book.journal.items desk.new.book.journal.items }
 {
     match planned(alloc, desk, of, offset, run) {
         Ok(plan) => map_among(alloc, desk, groups, &plan, steps),
@@ -321,7 +359,7 @@ fn map_run<D: Device, L: Ledger>(
 }
 
 // Maps what was chosen, or marks what was met.
-#[tactic(auto, using(core_chains::proofs::write::PartLemmas::none_left, core_parts::proofs::common::AskLemmas::steady_self))]
+#[tactic(auto, using(core_chains::proofs::write::PartLemmas::none_left, core_parts::proofs::common::AskLemmas::steady_self, core_chains::proofs::write::SaysLemmas::not_ok, core_chains::proofs::write::SaysLemmas::marked_refuses, core_chains::proofs::write::SaysLemmas::refuses_same))]
 fn map_chosen<D: Device, L: Ledger>(
     alloc: Global,
     desk: &mut Desk<D>,
@@ -339,6 +377,9 @@ fn map_chosen<D: Device, L: Ledger>(
     requires room { vec_len desk.old.book.journal + 2 ≤ vec_capacity desk.old.book.journal }
     ensures left { IsLeftAll D.Device desk.old desk.new groups.old.items groups.new.items }
     ensures reason { WritesWell desk.new result }
+    ensures said { IfOk result (λ n. SaysPiece entries.Mapped desk.old.store.geo of.held offset n
+        desk.old.book.journal.items desk.new.book.journal.items) }
+    ensures refused { RefusesBy result desk.old.book.journal.items desk.new.book.journal.items }
 {
     let (g, cause) = match choice {
         Choice::Run(run) => return map_run(alloc, desk, groups, of, offset, &run, steps),
@@ -367,6 +408,7 @@ fn choose<D: Device, L: Ledger>(
     requires range { range.offset + range.count ≤ 2 ^ 54 }
     ensures answers { WriteAnswers D.Device desk.old desk.new result }
     ensures book { OnOk result (desk.new.book ≡ desk.old.book) }
+    ensures items { desk.new.book.journal.items ≡ desk.old.book.journal.items }
     ensures geometry { desk.new.store.geo ≡ desk.old.store.geo }
 {
     if is_range_mapped(of.file.list.as_slice(), range.offset, range.count) {
@@ -377,7 +419,7 @@ fn choose<D: Device, L: Ledger>(
 }
 
 // Maps a run at the range's offset of the chain's first file.
-#[tactic(auto, using(crate::proofs::first::GroupLemmas::answers_left, crate::proofs::first::GroupLemmas::asked_left, crate::proofs::first::WriteLemmas::file_on))]
+#[tactic(auto, using(crate::proofs::first::GroupLemmas::answers_left, crate::proofs::first::GroupLemmas::asked_left, crate::proofs::first::WriteLemmas::file_on, crate::proofs::first::SaidLemmas::pieces_on, core_chains::proofs::write::SaysLemmas::refuses_on, core_chains::proofs::write::SaysLemmas::refused_none))]
 fn map_file<D: Device, L: Ledger>(
     alloc: Global,
     desk: &mut Desk<D>,
@@ -395,6 +437,9 @@ fn map_file<D: Device, L: Ledger>(
     requires room { vec_len desk.old.book.journal + 2 ≤ vec_capacity desk.old.book.journal }
     ensures left { IsLeftAll D.Device desk.old desk.new groups.old.items groups.new.items }
     ensures reason { WritesWell desk.new result }
+    ensures said { IfOk result (λ n. SaysPiece entries.Mapped desk.old.store.geo of.held
+        range.offset n desk.old.book.journal.items desk.new.book.journal.items) }
+    ensures refused { RefusesBy result desk.old.book.journal.items desk.new.book.journal.items }
 {
     match choose(alloc, desk, groups.as_slice(), &of, range, steps) {
         Ok(choice) => map_chosen(alloc, desk, groups, of, range.offset, choice, steps),
@@ -410,7 +455,7 @@ fn is_asked(range: Range) -> bool
 }
 
 // Maps a run at the range's offset of the chain's first file, where no fault of the device was noted.
-#[tactic(auto, using(crate::proofs::first::GroupLemmas::answers_left, crate::proofs::first::GroupLemmas::asked_left, core_chains::proofs::write::PartLemmas::none_left, core_parts::proofs::common::AskLemmas::steady_self))]
+#[tactic(auto, using(crate::proofs::first::GroupLemmas::answers_left, crate::proofs::first::GroupLemmas::asked_left, core_chains::proofs::write::PartLemmas::none_left, core_parts::proofs::common::AskLemmas::steady_self, crate::proofs::first::SaidLemmas::held_piece, core_chains::proofs::write::SaysLemmas::refuses_on, core_chains::proofs::write::SaysLemmas::refused_none))]
 fn map_usable<D: Device, L: Ledger>(
     alloc: Global,
     desk: &mut Desk<D>,
@@ -424,6 +469,9 @@ fn map_usable<D: Device, L: Ledger>(
     requires kept { AreKept groups.old.items }
     ensures left { IsLeftAll D.Device desk.old desk.new groups.old.items groups.new.items }
     ensures reason { WritesWell desk.new result }
+    ensures said { IfOk result (λ n. HasPiece entries.Mapped chain range.offset n desk.old
+        desk.new) }
+    ensures refused { RefusesBy result desk.old.book.journal.items desk.new.book.journal.items }
 {
     // Never asked.
     if !is_asked(range) {
@@ -440,7 +488,7 @@ fn map_usable<D: Device, L: Ledger>(
 /// refused, in this order, with Shut, NoChain, OtherStep, TreeFork, Occupied (an offset of the whole range
 /// is mapped), Closing, Sick or NoSpace by the choice of the run, and ForkFull; then nothing changes, but
 /// that a fault of an index marks it (XFS Algorithms and Data Structures, "AG Free Space B+trees").
-#[tactic(auto, using(core_chains::proofs::write::PartLemmas::left_parts, core_chains::proofs::write::PartLemmas::same_parts))]
+#[tactic(auto, using(core_chains::proofs::write::PartLemmas::left_parts, core_chains::proofs::write::PartLemmas::same_parts, core_chains::proofs::write::SaysLemmas::refuses_same))]
 pub fn map_first<D: Device, L: Ledger>(
     alloc: Global,
     parts: &mut Parts<D>,
@@ -451,6 +499,10 @@ pub fn map_first<D: Device, L: Ledger>(
 ) -> Result<u32, WriteFault>
     requires safe { IsSafe D.Device parts.old }
     ensures left { WriteParts D.Device parts.old parts.new result }
+    ensures said { IfOk result (λ n. HasPiece entries.Mapped chain offset n parts.old.desk
+        parts.new.desk) }
+    ensures refused { RefusesBy result parts.old.desk.book.journal.items
+        parts.new.desk.book.journal.items }
 {
     writer_unshut(&parts.desk)?;
     let range = Range { offset, count };

@@ -75,6 +75,8 @@ pub(crate) fn planned<D: Device>(
     requires file { IsFile desk.now.store.geo of.file }
     requires number { of.held.number < 16 }
     ensures plan { IfOk result (IsPlan desk.now.store.geo) }
+    ensures held { IfOk result (λ p. p.held ≡ of.held) }
+    ensures offset { IfOk result (λ p. p.offset ≡ offset) }
     ensures reason { WritesWell desk.now result }
 {
     let found = find_run(desk, run)?;

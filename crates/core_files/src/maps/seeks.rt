@@ -131,6 +131,7 @@ pub(crate) fn records_behind<D: Device, L: Ledger>(
     requires group { tree.now.group < desk.old.store.geo.agcount }
     ensures answers { WriteAnswers D.Device desk.old desk.new result }
     ensures book { OnOk result (desk.new.book ≡ desk.old.book) }
+    ensures items { desk.new.book.journal.items ≡ desk.old.book.journal.items }
     ensures geometry { desk.new.store.geo ≡ desk.old.store.geo }
 {
     let fault = match call_leaf(alloc, desk, tree, after, steps) {
@@ -155,6 +156,7 @@ pub(crate) fn last_record<D: Device, L: Ledger>(
     requires group { tree.now.group < desk.old.store.geo.agcount }
     ensures answers { WriteAnswers D.Device desk.old desk.new result }
     ensures book { OnOk result (desk.new.book ≡ desk.old.book) }
+    ensures items { desk.new.book.journal.items ≡ desk.old.book.journal.items }
     ensures geometry { desk.new.store.geo ≡ desk.old.store.geo }
 {
     let fault = match call_last(desk, tree, steps) {
@@ -180,6 +182,7 @@ pub(crate) fn is_owned<D: Device, L: Ledger>(
     requires group { tree.now.group < desk.old.store.geo.agcount }
     ensures answers { WriteAnswers D.Device desk.old desk.new result }
     ensures book { OnOk result (desk.new.book ≡ desk.old.book) }
+    ensures items { desk.new.book.journal.items ≡ desk.old.book.journal.items }
     ensures geometry { desk.new.store.geo ≡ desk.old.store.geo }
 {
     let fault = match call_owner(desk, tree, run, steps) {

@@ -39,6 +39,7 @@ pub(crate) fn is_count_most<D: Device, L: Ledger>(
     requires group { tree.now.group < desk.old.store.geo.agcount }
     ensures answers { WriteAnswers D.Device desk.old desk.new result }
     ensures book { OnOk result (desk.new.book ≡ desk.old.book) }
+    ensures items { desk.new.book.journal.items ≡ desk.old.book.journal.items }
     ensures geometry { desk.new.store.geo ≡ desk.old.store.geo }
 {
     let found = match next_count(desk, tree, run, after, steps)? {

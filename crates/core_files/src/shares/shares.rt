@@ -1,14 +1,19 @@
-ghost use Rattle.std.specs.Prelude.{◌≡◌, ◌<◌, ◌≤◌, ◌+◌, ◌^◌, IfOk, IfSome, OnOk, length, true};
+ghost use Rattle.std.specs.Prelude.{◌≡◌, ◌<◌, ◌≤◌, ◌+◌, ◌^◌, ◌++◌, ◌∷◌, [], Err, IfOk, IfSome, OnErr, OnOk, length, true};
 ghost use Rattle.std.specs.Vec.{vec_capacity, vec_len};
+ghost use Rattle.core_calls.specs.declared.answers.WriteFault.TheVariants as faults;
 ghost use Rattle.core_parts.specs.Common.Asks.{IsUsable};
+ghost use Rattle.core_files.specs.Shares.Entries.{HasShared, SaysShared, shared_piece, target};
 ghost use Rattle.core_files.specs.Shares.Shares.{IsPlaced, IsTarget};
 ghost use Rattle.core_files.specs.First.Spots.{IsSpot};
 ghost use Rattle.core_parts.specs.Safe.{AreKept, IsSafe};
+ghost use Rattle.core_chains.specs.Write.Says.{RefusesBy};
 ghost use Rattle.core_chains.specs.Write.Writes.{IsLeftAll, WriteAnswers, WriteParts, WritesWell};
 ghost use Rattle.file_cores.specs.Files.{IsFile};
 ghost use Rattle.fork_change.specs.Lists.{AllFit};
+ghost use Rattle.fs_model.specs.declared.entry.Entry.TheVariants as entries;
 ghost use Rattle.geom.specs.Places.{HasInode};
 ghost use Rattle.intent_drain.specs.Drains.{gates_of};
+ghost use Rattle.sblock.specs.declared.kind.Kind.TheVariants.{Refc};
 
 use crate::first::{
     Held, HeldFile, MOST_PIECE, OwnerDue, PlacedCore, Range, Spot, add_mapping, finish, grown,
@@ -109,6 +114,7 @@ fn read_target<D: Device, L: Ledger>(
     ensures answers { WriteAnswers D.Device desk.old desk.new result }
     ensures file { IfOk result (IsTarget desk.new.store.geo) }
     ensures book { OnOk result (desk.new.book ≡ desk.old.book) }
+    ensures items { desk.new.book.journal.items ≡ desk.old.book.journal.items }
     ensures geometry { desk.new.store.geo ≡ desk.old.store.geo }
 {
     let Some(second) = chain.second() else {
@@ -149,6 +155,7 @@ fn share_in<D: Device>(
     requires target { IsTarget desk.now.store.geo pair.now.to }
     requires range { asked.now.to_offset + asked.now.range.count ≤ 2 ^ 54 }
     ensures spot { IfOk result (λ s. IsSpot desk.now.store.geo s.spot) }
+    ensures asked { IfOk result (λ s. s.asked ≡ asked.now) }
     ensures reason { WritesWell desk.now result }
 {
     let range = Range {
@@ -235,7 +242,9 @@ fn cores_of<D: Device>(
 }
 
 // The number of the target's inode.
-fn target_of(chain: &Chain) -> u64 {
+fn target_of(chain: &Chain) -> u64
+    ensures { result ≡ target chain.now }
+{
     match chain.second() {
         Some(second) => second.ino,
         None => chain.first().ino,
@@ -243,7 +252,10 @@ fn target_of(chain: &Chain) -> u64 {
 }
 
 // What the entry tells.
-fn entry_of(held: &Held, done: &Shared) -> Entry {
+fn entry_of(held: &Held, done: &Shared) -> Entry
+    ensures { result ≡ entries.Shared
+        (shared_piece held.now done.now.asked.range.offset done.now.asked.to_offset done.now.spot) }
+{
     let spot = done.spot;
     Entry::Shared(SharedPiece {
         writer: held.chain.writer(),
@@ -275,6 +287,11 @@ fn commit_shared<D: Device, L: Ledger>(
     requires ends { done.now.spot.block + done.now.spot.count < 2 ^ 32 }
     requires room { vec_len desk.old.book.journal + 2 ≤ vec_capacity desk.old.book.journal }
     ensures answers { WriteAnswers D.Device desk.old desk.new result }
+    ensures count { IfOk result (λ n. n ≡ done.now.spot.count) }
+    ensures said { OnOk result (desk.new.book.journal.items ≡ desk.old.book.journal.items ++
+        entries.Shared (shared_piece held.now done.now.asked.range.offset done.now.asked.to_offset
+        done.now.spot) ∷ []) }
+    ensures unsaid { OnErr result (desk.new.book.journal.items ≡ desk.old.book.journal.items) }
 {
     write_pair(desk, &cores.first, &cores.second, steps)?;
     let due = OwnerDue {
@@ -288,7 +305,7 @@ fn commit_shared<D: Device, L: Ledger>(
 }
 
 // Shares the piece, whose counts may all rise.
-#[tactic(auto, using(core_chains::proofs::write::PartLemmas::answers_self))]
+#[tactic(auto, using(core_chains::proofs::write::PartLemmas::answers_self, crate::proofs::shares::SaidLemmas::shared_said))]
 fn share_piece<D: Device, L: Ledger>(
     alloc: Global,
     desk: &mut Desk<D>,
@@ -303,6 +320,10 @@ fn share_piece<D: Device, L: Ledger>(
     requires spot { IsSpot desk.old.store.geo done.now.spot }
     requires room { vec_len desk.old.book.journal + 2 ≤ vec_capacity desk.old.book.journal }
     ensures answers { WriteAnswers D.Device desk.old desk.new result }
+    ensures said { IfOk result (λ n. SaysShared desk.old.store.geo pair.of.held
+        done.now.asked.range.offset done.now.asked.to_offset n desk.old.book.journal.items
+        desk.new.book.journal.items) }
+    ensures unsaid { OnErr result (desk.new.book.journal.items ≡ desk.old.book.journal.items) }
 {
     let held = pair.of.held;
     let cores = cores_of(alloc, desk, pair, done)?;
@@ -324,6 +345,9 @@ fn mark_counts<D: Device>(
     requires room { vec_len desk.old.book.journal + 2 ≤ vec_capacity desk.old.book.journal }
     ensures left { IsLeftAll D.Device desk.old desk.new groups.old.items groups.new.items }
     ensures reason { WritesWell desk.new result }
+    ensures sick { result ≡ Err (faults.Sick g Refc) }
+    ensures said { desk.new.book.journal.items ≡ desk.old.book.journal.items ++ entries.Marked g
+        Refc cause ∷ [] }
 {
     let kept = &mut groups[g as usize];
     mark_one(desk, kept, g, Kind::Refc, cause)
@@ -341,6 +365,7 @@ fn ask_counts<D: Device, L: Ledger>(
     requires group { spot.now.group < desk.old.store.geo.agcount }
     ensures answers { WriteAnswers D.Device desk.old desk.new result }
     ensures book { OnOk result (desk.new.book ≡ desk.old.book) }
+    ensures items { desk.new.book.journal.items ≡ desk.old.book.journal.items }
     ensures geometry { desk.new.store.geo ≡ desk.old.store.geo }
 {
     let tree = refc_tree(&groups[spot.group as usize], spot.group);
@@ -352,7 +377,7 @@ fn ask_counts<D: Device, L: Ledger>(
 }
 
 // What follows from the counts over the piece.
-#[tactic(auto, using(crate::proofs::first::GroupLemmas::answers_left, core_chains::proofs::write::PartLemmas::none_left, core_parts::proofs::common::AskLemmas::steady_self))]
+#[tactic(auto, using(crate::proofs::first::GroupLemmas::answers_left, core_chains::proofs::write::PartLemmas::none_left, core_parts::proofs::common::AskLemmas::steady_self, core_chains::proofs::write::SaysLemmas::not_ok, core_chains::proofs::write::SaysLemmas::marked_refuses, core_chains::proofs::write::SaysLemmas::refuses_none))]
 fn share_counted<D: Device, L: Ledger>(
     alloc: Global,
     desk: &mut Desk<D>,
@@ -372,6 +397,10 @@ fn share_counted<D: Device, L: Ledger>(
     requires room { vec_len desk.old.book.journal + 2 ≤ vec_capacity desk.old.book.journal }
     ensures left { IsLeftAll D.Device desk.old desk.new groups.old.items groups.new.items }
     ensures reason { WritesWell desk.new result }
+    ensures said { IfOk result (λ n. SaysShared desk.old.store.geo pair.of.held
+        done.now.asked.range.offset done.now.asked.to_offset n desk.old.book.journal.items
+        desk.new.book.journal.items) }
+    ensures refused { RefusesBy result desk.old.book.journal.items desk.new.book.journal.items }
 {
     let is_most = match counted {
         Ok(is_most) => is_most,
@@ -384,7 +413,7 @@ fn share_counted<D: Device, L: Ledger>(
 }
 
 // Shares a piece in a group that allows it.
-#[tactic(auto, using(crate::proofs::first::GroupLemmas::answers_left, crate::proofs::first::GroupLemmas::asked_left, crate::proofs::shares::ShareLemmas::file_kept, crate::proofs::shares::ShareLemmas::target_kept, crate::proofs::shares::ShareLemmas::spot_kept))]
+#[tactic(auto, using(crate::proofs::first::GroupLemmas::answers_left, crate::proofs::first::GroupLemmas::asked_left, crate::proofs::shares::ShareLemmas::file_kept, crate::proofs::shares::ShareLemmas::target_kept, crate::proofs::shares::ShareLemmas::spot_kept, crate::proofs::shares::SaidLemmas::shared_on, core_chains::proofs::write::SaysLemmas::refuses_on, core_chains::proofs::write::SaysLemmas::refused_none))]
 fn share_spot<D: Device, L: Ledger>(
     alloc: Global,
     desk: &mut Desk<D>,
@@ -403,6 +432,10 @@ fn share_spot<D: Device, L: Ledger>(
     requires room { vec_len desk.old.book.journal + 2 ≤ vec_capacity desk.old.book.journal }
     ensures left { IsLeftAll D.Device desk.old desk.new groups.old.items groups.new.items }
     ensures reason { WritesWell desk.new result }
+    ensures said { IfOk result (λ n. SaysShared desk.old.store.geo pair.of.held
+        done.now.asked.range.offset done.now.asked.to_offset n desk.old.book.journal.items
+        desk.new.book.journal.items) }
+    ensures refused { RefusesBy result desk.old.book.journal.items desk.new.book.journal.items }
 {
     match ask_counts(desk, groups.as_slice(), &done.spot, steps) {
         Ok(counted) => share_counted(alloc, desk, groups, pair, done, counted, steps),
@@ -411,7 +444,7 @@ fn share_spot<D: Device, L: Ledger>(
 }
 
 // Shares a piece of the first file.
-#[tactic(auto, using(core_chains::proofs::write::PartLemmas::none_left, core_parts::proofs::common::AskLemmas::steady_self))]
+#[tactic(auto, using(core_chains::proofs::write::PartLemmas::none_left, core_parts::proofs::common::AskLemmas::steady_self, crate::proofs::shares::SaidLemmas::shared_at, core_chains::proofs::write::SaysLemmas::refused_none))]
 fn share_files<D: Device, L: Ledger>(
     alloc: Global,
     desk: &mut Desk<D>,
@@ -430,6 +463,10 @@ fn share_files<D: Device, L: Ledger>(
     requires room { vec_len desk.old.book.journal + 2 ≤ vec_capacity desk.old.book.journal }
     ensures left { IsLeftAll D.Device desk.old desk.new groups.old.items groups.new.items }
     ensures reason { WritesWell desk.new result }
+    ensures said { IfOk result (λ n. SaysShared desk.old.store.geo pair.of.held
+        asked.now.range.offset asked.now.to_offset n desk.old.book.journal.items
+        desk.new.book.journal.items) }
+    ensures refused { RefusesBy result desk.old.book.journal.items desk.new.book.journal.items }
 {
     match share_in(desk, groups.as_slice(), &pair, asked) {
         Ok(done) => share_spot(alloc, desk, groups, pair, &done, steps),
@@ -438,7 +475,7 @@ fn share_files<D: Device, L: Ledger>(
 }
 
 // Shares a piece of the chain's first file.
-#[tactic(auto, using(crate::proofs::first::GroupLemmas::answers_left, crate::proofs::first::GroupLemmas::asked_left, crate::proofs::shares::ShareLemmas::file_kept))]
+#[tactic(auto, using(crate::proofs::first::GroupLemmas::answers_left, crate::proofs::first::GroupLemmas::asked_left, crate::proofs::shares::ShareLemmas::file_kept, crate::proofs::shares::SaidLemmas::shared_on, core_chains::proofs::write::SaysLemmas::refuses_on, core_chains::proofs::write::SaysLemmas::refused_none))]
 fn share_held<D: Device, L: Ledger>(
     alloc: Global,
     desk: &mut Desk<D>,
@@ -456,6 +493,9 @@ fn share_held<D: Device, L: Ledger>(
     requires room { vec_len desk.old.book.journal + 2 ≤ vec_capacity desk.old.book.journal }
     ensures left { IsLeftAll D.Device desk.old desk.new groups.old.items groups.new.items }
     ensures reason { WritesWell desk.new result }
+    ensures said { IfOk result (λ n. SaysShared desk.old.store.geo of.held asked.now.range.offset
+        asked.now.to_offset n desk.old.book.journal.items desk.new.book.journal.items) }
+    ensures refused { RefusesBy result desk.old.book.journal.items desk.new.book.journal.items }
 {
     match read_target(alloc, desk, &of.held.chain, steps) {
         Ok(to) => share_files(alloc, desk, groups, Pair { of, to }, asked, steps),
@@ -471,7 +511,7 @@ fn is_asked(asked: &Asked) -> bool
 }
 
 // Shares a piece of the first file of this chain, where no fault of the device was noted.
-#[tactic(auto, using(crate::proofs::first::GroupLemmas::answers_left, crate::proofs::first::GroupLemmas::asked_left, core_chains::proofs::write::PartLemmas::none_left, core_parts::proofs::common::AskLemmas::steady_self))]
+#[tactic(auto, using(crate::proofs::first::GroupLemmas::answers_left, crate::proofs::first::GroupLemmas::asked_left, core_chains::proofs::write::PartLemmas::none_left, core_parts::proofs::common::AskLemmas::steady_self, crate::proofs::shares::SaidLemmas::held_shared, core_chains::proofs::write::SaysLemmas::refuses_on, core_chains::proofs::write::SaysLemmas::refused_none))]
 fn share_usable<D: Device, L: Ledger>(
     alloc: Global,
     desk: &mut Desk<D>,
@@ -485,6 +525,9 @@ fn share_usable<D: Device, L: Ledger>(
     requires kept { AreKept groups.old.items }
     ensures left { IsLeftAll D.Device desk.old desk.new groups.old.items groups.new.items }
     ensures reason { WritesWell desk.new result }
+    ensures said { IfOk result (λ n. HasShared chain asked.now.range.offset asked.now.to_offset n
+        desk.old desk.new) }
+    ensures refused { RefusesBy result desk.old.book.journal.items desk.new.book.journal.items }
 {
     // Never asked.
     if !is_asked(asked) {
@@ -503,7 +546,7 @@ fn share_usable<D: Device, L: Ledger>(
 /// mapped as written), Occupied (a target offset of the whole range is mapped), Closing and Sick of the
 /// piece's group, CountMax, and ForkFull; then nothing changes, but that reference counts that can't be
 /// read are marked (XFS Algorithms and Data Structures, "Reference Count B+tree").
-#[tactic(auto, using(core_chains::proofs::write::PartLemmas::left_parts, core_chains::proofs::write::PartLemmas::same_parts))]
+#[tactic(auto, using(core_chains::proofs::write::PartLemmas::left_parts, core_chains::proofs::write::PartLemmas::same_parts, core_chains::proofs::write::SaysLemmas::refuses_same))]
 pub fn share_first<D: Device, L: Ledger>(
     alloc: Global,
     parts: &mut Parts<D>,
@@ -515,6 +558,10 @@ pub fn share_first<D: Device, L: Ledger>(
 ) -> Result<u32, WriteFault>
     requires safe { IsSafe D.Device parts.old }
     ensures left { WriteParts D.Device parts.old parts.new result }
+    ensures said { IfOk result (λ n. HasShared chain offset to_offset n parts.old.desk
+        parts.new.desk) }
+    ensures refused { RefusesBy result parts.old.desk.book.journal.items
+        parts.new.desk.book.journal.items }
 {
     writer_unshut(&parts.desk)?;
     let asked = Asked {

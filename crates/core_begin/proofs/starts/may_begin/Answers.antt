@@ -1,7 +1,8 @@
-use Rattle.std.proofs.Common.{ℕ, ◌<◌, ◌∙◌, sym, ap, subst}
+use Rattle.std.proofs.Common.{◌<◌, ◌∙◌, sym, ap, subst}
 use Rattle.geom.specs.declared.geometry.Geometry.{Geometry}
 use Rattle.core_begin.proofs.BeginLemmas.{answers_on, answers_usable}
 use Rattle.core_begin.proofs.starts.may_begin.Goals as goal
+use Rattle.core_parts.proofs.common.EntryLemmas.{more_after, room_exit}
 
 pub unless_skipped-requires-clause-usable : goal.unless_skipped-requires-clause-usable
 unless_skipped-requires-clause-usable g c = answers_usable g.D.Device c.args.desk.now c.take_room.new.desk _ c.in_ok-take_room.ensures.answers
@@ -15,4 +16,9 @@ unless_skipped-requires-clause-group g c = subst (λ (x : Geometry). c.args.g < 
 pub returns : goal.returns
 returns g c = record {
   answers = answers_on g.D.Device c.args.desk.now c.take_room.new.desk c.unless_skipped.new.desk c.unless_skipped.result c.in_ok-take_room.ensures.answers.steady c.unless_skipped.ensures.answers;
+  entries = more_after c.args.desk.now c.take_room.new.desk c.unless_skipped.new.desk _ c.in_ok-take_room.ensures.items c.unless_skipped.ensures.entries;
 }
+
+pub returns-in_err-take_room-clause-entries : goal.returns-in_err-take_room-clause-entries
+returns-in_err-take_room-clause-entries g c =
+    room_exit c.args.desk.now c.take_room.new.desk c.args.g c.args.unit c.in_err-take_room.field-0.0 c.from_residual.result c.from_residual.ensures c.in_err-take_room.ensures.items c.in_err-take_room.ensures.wants

@@ -4,6 +4,7 @@ use Rattle.core_parts.specs.declared.groups.GroupKept.{GroupKept}
 use Rattle.geom.specs.Places.{layout}
 use Rattle.core_begin.proofs.BeginLemmas.{early_works, safe_desk, safe_on, where_on}
 use Rattle.core_begin.proofs.starts.open_unit.Goals as goal
+use Rattle.core_parts.proofs.common.EntryLemmas.{none_more, room_exit}
 
 pub returns-in_err-work-clause-safe : goal.returns-in_err-work-clause-safe
 returns-in_err-work-clause-safe g c =
@@ -24,3 +25,10 @@ returns-clause-trees g c =
     c.args.unit
     (λ is. is ∙ (ap (λ (ks : List GroupKept). are_trees 0 ks) c.as_slice.ensures.value ∙ sym c.end_pass.ensures.trees))
     c.in_ok-work.ensures.trees
+
+pub returns-in_err-work-clause-entries : goal.returns-in_err-work-clause-entries
+returns-in_err-work-clause-entries g c =
+    room_exit c.args.parts.now.desk c.first_work.new.desk c.args.g c.args.unit c.in_err-work.field-0.0 c.from_residual.result c.from_residual.ensures c.in_err-work.ensures.items c.in_err-work.ensures.wants
+
+pub returns-clause-entries : goal.returns-clause-entries
+returns-clause-entries g c = none_more c.args.parts.now.desk c.first_work.new.desk c.in_ok-work.ensures.items

@@ -5,8 +5,8 @@ use Rattle.core_begin.proofs.whole.end_scan.Goals as goal
 pub returns-in-Some-clause-left : goal.returns-in-Some-clause-left
 returns-in-Some-clause-left g c =
     let usable = given_usable g.D.Device c.args.desk.now c.args.kept.now c.args.unit.now c.requires.given in
-    left_early g.D.Device c.args.desk.now c.args.desk.now c.args.kept.now c.args.unit.now c.take_scan.new.unit _ _ c.requires.given (usable_ok g.D.Device {T = Unit {0}} c.args.desk.now tt usable) c.in-Some.ensures refl tt
+    left_early g.D.Device c.args.desk.now c.args.desk.now c.args.kept.now c.args.unit.now c.take_scan.new.unit _ _ c.requires.given (usable_ok g.D.Device {T = Unit {0}} c.args.desk.now tt usable) c.in-Some.ensures.taken refl tt
 
 pub returns-in-None-clause-left : goal.returns-in-None-clause-left
 returns-in-None-clause-left g c =
-    left_same g.D.Device c.args.desk.now c.args.kept.now c.args.unit.now c.take_scan.new.unit c.requires.given c.in-None.ensures
+    left_same g.D.Device c.args.desk.now c.args.kept.now c.args.unit.now c.take_scan.new.unit c.requires.given c.in-None.ensures.taken

@@ -6,4 +6,5 @@ returns g c = record {
   acted =
       worked_acts g.D.Device c.args.parts.now c.end_among-answer.new.desk c.end_among-answer.new.groups c.put_unit.new.units c.args.unit c.end_among-answer.new.unit c.end_among-answer.result
       c.requires.safe c.requires.unshut c.end_among-answer.ensures.left c.end_among-answer.ensures.told c.put_unit.ensures.put;
+  desk = c.end_among-answer.ensures.desk;
 }

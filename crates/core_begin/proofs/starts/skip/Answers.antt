@@ -1,0 +1,6 @@
+use Rattle.core_begin.proofs.starts.skip.Goals as goal
+use Rattle.core_parts.proofs.common.EntryLemmas.{room_more}
+
+pub returns-in-Err-clause-entries : goal.returns-in-Err-clause-entries
+returns-in-Err-clause-entries g c =
+    room_more c.args.desk.now c.say_verdict.new.desk c.args.group c.args.unit c.in-Err.fault c.in-Err.ensures.unsaid c.in-Err.ensures.wants
