@@ -1,3 +1,4 @@
+mod SoundLemmas
 pub mod FitLemmas
 pub mod ListLemmas
 pub mod WrittenLemmas

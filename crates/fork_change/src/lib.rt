@@ -9,4 +9,4 @@ mod written;
 
 pub use change::{ForkChange, add, convert, take};
 pub use joins::MOST_MAPPED;
-pub use written::put_list;
+pub use written::{put_list, sound_fits};

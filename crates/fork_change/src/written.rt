@@ -5,6 +5,7 @@ ghost use Rattle.dinode_core.specs.Shape.{format_of, has_large_counts as large, 
 ghost use Rattle.dinode_core.specs.declared.mapping.Fork.TheVariants.{Attr, Data};
 ghost use Rattle.dinode_core.specs.declared.shape.Format.TheVariants.{Extents};
 ghost use Rattle.fork_change.specs.Lists.{AllFit, Fits};
+ghost use Rattle.fork_change.specs.Sound.{SoundFits};
 ghost use Rattle.fork_change.specs.Written.{ReadsAs, laid, numbered, put_answer, with_list};
 
 use crate::change::ForkChange;
@@ -93,3 +94,9 @@ pub fn put_list(core: &mut Core3, list: &[Mapping]) -> Result<(), ForkChange>
     put_all(core, list);
     Ok(())
 }
+
+/// A law: where an inode shows no fault of a fork, the mappings that stand in it fit, so that they can be
+/// changed (XFS Algorithms and Data Structures, "Data Extents").
+pub fn sound_fits()
+    ensures { SoundFits }
+{}

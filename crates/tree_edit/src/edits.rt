@@ -1,5 +1,6 @@
 // The three edits of a tree.
 ghost use Rattle.std.specs.Prelude.{◌≡◌, ◌<◌, ◌≤◌, true, OnOk, OnErr, IfErr};
+ghost use Rattle.std.specs.Vec.{vec_capacity};
 ghost use Rattle.blk_cache.specs.Cache.{AgreesTold};
 ghost use Rattle.blk_device.specs.Causes.{HasCause};
 ghost use Rattle.blk_device.specs.declared.device.Region.TheVariants.{Image};
@@ -57,6 +58,7 @@ pub fn insert<K: RecKind, D: Device, L: Ledger>(
     ensures ticks { IfErr result (StoppedInsert K.form geo.now rec (D.content dev.old) tree.old txn.old steps.old steps.new) }
     ensures refused { IfErr result (RefusesInsert K.form geo.now rec (D.content dev.old) tree.old txn.old list.old limbo.old) }
     ensures kept { IfErr result (IsAsBefore tree.old txn.old list.old limbo.old tree.new txn.new list.new limbo.new) }
+    ensures capacity { vec_capacity limbo.old ≤ vec_capacity limbo.new }
     ensures stops { OnErr result (Stops K.form geo.now (D.content dev.old) tree.old txn.old list.old txn.new) }
     ensures below { AreBelow (D.blocks dev.old Image) txn.old.blocks → OnOk result (AreBelow (D.blocks dev.old Image) txn.new.blocks) }
     ensures same { StaySame tree.old txn.old list.old tree.new txn.new list.new }
@@ -93,6 +95,7 @@ pub fn remove<K: RecKind, D: Device, L: Ledger>(
     ensures ticks { IfErr result (StoppedRemove K.form geo.now rec (D.content dev.old) tree.old txn.old steps.old steps.new) }
     ensures refused { IfErr result (RefusesRemove K.form geo.now rec (D.content dev.old) tree.old txn.old list.old limbo.old) }
     ensures kept { IfErr result (IsAsBefore tree.old txn.old list.old limbo.old tree.new txn.new list.new limbo.new) }
+    ensures capacity { vec_capacity limbo.old ≤ vec_capacity limbo.new }
     ensures stops { OnErr result (Stops K.form geo.now (D.content dev.old) tree.old txn.old list.old txn.new) }
     ensures below { AreBelow (D.blocks dev.old Image) txn.old.blocks → OnOk result (AreBelow (D.blocks dev.old Image) txn.new.blocks) }
     ensures same { StaySame tree.old txn.old list.old tree.new txn.new list.new }
@@ -132,6 +135,7 @@ pub fn change<K: RecKind, D: Device, L: Ledger>(
     ensures ticks { IfErr result (StoppedChange K.form geo.now rec (D.content dev.old) tree.old txn.old steps.old steps.new) }
     ensures refused { IfErr result (RefusesChange K.form geo.now rec (D.content dev.old) tree.old txn.old list.old limbo.old) }
     ensures kept { IfErr result (IsAsBefore tree.old txn.old list.old limbo.old tree.new txn.new list.new limbo.new) }
+    ensures capacity { vec_capacity limbo.old ≤ vec_capacity limbo.new }
     ensures stops { OnErr result (Stops K.form geo.now (D.content dev.old) tree.old txn.old list.old txn.new) }
     ensures below { AreBelow (D.blocks dev.old Image) txn.old.blocks → OnOk result (AreBelow (D.blocks dev.old Image) txn.new.blocks) }
     ensures same { StaySame tree.old txn.old list.old tree.new txn.new list.new }

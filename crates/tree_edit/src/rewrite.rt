@@ -1,5 +1,6 @@
 // An edit of a tree, which is written anew.
 ghost use Rattle.std.specs.Prelude.{◌≡◌, ◌+◌, ◌*◌, ◌^◌, ◌<◌, ◌≤◌, true, OnOk, OnErr, IfErr};
+ghost use Rattle.std.specs.Vec.{vec_capacity};
 ghost use Rattle.ag_headers.specs.Ring.{entries};
 ghost use Rattle.blk_cache.specs.Cache.{AgreesTold};
 ghost use Rattle.blk_device.specs.Causes.{HasCause};
@@ -56,6 +57,7 @@ pub(crate) fn rewrite<K: RecKind, D: Device, L: Ledger>(
     ensures stops { OnErr result (StopsAt K.form site.now (D.content dev.old) tree.old txn.old list.old txn.new) }
     ensures below { AreBelow (D.blocks dev.old Image) txn.old.blocks → OnOk result (AreBelow (D.blocks dev.old Image) txn.new.blocks) }
     ensures same { StaySame tree.old txn.old list.old tree.new txn.new list.new }
+    ensures capacity { vec_capacity limbo.old ≤ vec_capacity limbo.new }
     ensures left { IsLeft D.Device dev.old dev.new steps.old steps.new }
     ensures cause { HasCause is_devices (D.faults dev.old) (D.faults dev.new) result }
     ensures agrees { AgreesTold cache.new (D.content dev.new) }

@@ -1,5 +1,6 @@
 // What an edit takes from the free list and gives back.
 ghost use Rattle.std.specs.Prelude.{◌≡◌, ◌≤◌, ◌++◌, length, drop};
+ghost use Rattle.std.specs.Vec.{vec_capacity};
 ghost use Rattle.ag_headers.specs.Ring.{entries};
 ghost use Rattle.edit_blocks.specs.Choice.{for_list, for_limbo, IsSameList, HasRoomFor};
 
@@ -13,6 +14,7 @@ pub(crate) fn settle(list: &mut Agfl, limbo: &mut Vec<u32>, need: u32, left: &[u
     requires room { HasRoomFor limbo.old (for_limbo (drop need (entries list.old)) left.now) }
     ensures list { entries list.new ≡ drop need (entries list.old) ++ for_list (drop need (entries list.old)) left.now }
     ensures limbo { limbo.new.items ≡ limbo.old.items ++ for_limbo (drop need (entries list.old)) left.now }
+    ensures capacity { vec_capacity limbo.new ≡ vec_capacity limbo.old }
     ensures same { IsSameList list.old list.new }
 {
     take_from(list, need);
