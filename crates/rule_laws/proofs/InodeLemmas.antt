@@ -1,5 +1,5 @@
 -- A bit of a chunk's mask that turns, in both btrees, and cores.
-use Rattle.std.proofs.Common.{◌≡◌, ◌≢◌, ℕ, zero, suc, ◌+◌, ◌-◌, ◌^◌, ◌<◌, ◌≤◌, Bool, true, false, cond, not, ◌&&◌, ◌||◌, List, [], ◌∷◌, ◌++◌, Option, Some, None, refl, sym, ap, ◌∙◌, arith, inl, inr}
+use Rattle.std.proofs.Common.{◌≡◌, ℕ, zero, suc, ◌+◌, ◌-◌, ◌^◌, ◌<◌, ◌≤◌, Bool, true, false, cond, not, ◌&&◌, ◌||◌, List, [], ◌∷◌, ◌++◌, Option, Some, None, refl, sym, ap, ◌∙◌, arith, inl, inr}
 use Rattle.std.specs.Prelude.{◌==◌, nat_lt, filter, find, map, option_map, if◌then◌else◌}
 use Rattle.std.specs.Int.{bit_at}
 use Rattle.std.specs.List.{list_any}
@@ -37,11 +37,11 @@ gives_inode r new slot clear h =
 
 -- ---- the lowest free inode
 
-find_none : (p : ℕ → Bool) (a n : ℕ) → ((b : ℕ) → p b ≡ false) → find p (numbers a n) ≡ None
+pub find_none : (p : ℕ → Bool) (a n : ℕ) → ((b : ℕ) → p b ≡ false) → find p (numbers a n) ≡ None
 find_none p a zero h = refl
 find_none p a (suc n) h = ap (λ (t : Bool). cond t (Some a) (find p (numbers (a + 1) n))) (h a) ∙ find_none p (a + 1) n h
 
-find_lowest : (p : ℕ → Bool) (a n x : ℕ) → a ≤ x → x < a + n → p x ≡ true → ((b : ℕ) → b < x → p b ≡ false) → find p (numbers a n) ≡ Some x
+pub find_lowest : (p : ℕ → Bool) (a n x : ℕ) → a ≤ x → x < a + n → p x ≡ true → ((b : ℕ) → b < x → p b ≡ false) → find p (numbers a n) ≡ Some x
 find_lowest p a zero x low high here before = absurd (omega (arith, low, high))
 find_lowest p a (suc n) x low high here before = elim (cases_lt a x) [
   | inl later ↦ ap (λ (t : Bool). cond t (Some a) (find p (numbers (a + 1) n))) (before a later) ∙ find_lowest p (a + 1) n x (omega (arith, later)) (omega (arith, high)) here before

@@ -2,4 +2,5 @@ pub mod ForkLemmas
 pub mod GroupLemmas
 pub mod InodeLemmas
 pub mod LimboLemmas
+pub mod RunLemmas
 pub mod SwitchLemmas

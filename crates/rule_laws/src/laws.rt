@@ -7,6 +7,7 @@ ghost use Rattle.rule_laws.specs.Forks.{AddsAlike, ConvertsAlike, OccupiedAlike,
 ghost use Rattle.rule_laws.specs.Groups.{ChoosesAlike, CountsAlike, QuietAlike};
 ghost use Rattle.rule_laws.specs.Inodes.{CoresAlike, FindsLowest, FindsNone, GivesInode, MakesAlike, TakesInode, TurnsAlike};
 ghost use Rattle.rule_laws.specs.Limbo.{JoinsAlike, LeavesAlike, LongestAlike, OwnersAlike};
+ghost use Rattle.rule_laws.specs.Runs.{ChunkRunsAlike};
 ghost use Rattle.rule_laws.specs.Switches.{LastIsGreatest, SumsAlike, SwitchesAlike};
 
 use free_space::{MOST_LISTED, WANTED_LISTED};
@@ -44,6 +45,13 @@ pub fn trims_alike()
 /// chooses none where that takes none (XFS Algorithms and Data Structures, "AG Free Space B+trees").
 pub fn chooses_alike()
     ensures { ChoosesAlike }
+{}
+
+/// A law: of records of free space that lie apart, asked in their order, the first one in which a chunk of
+/// inodes fits gives the run that a step takes of the group
+/// (XFS Algorithms and Data Structures, "Inode Allocation").
+pub fn chunk_runs_alike()
+    ensures { ChunkRunsAlike }
 {}
 
 /// A law: the stretch of equal counts that the rule tells, and its count, are those of a step

@@ -4,7 +4,7 @@
 mod laws;
 
 pub use laws::{
-    adds_alike, chooses_alike, chunks_alike, converts_alike, cores_alike, counters_alike,
-    counts_alike, inodes_alike, joins_alike, leaves_alike, quiet_alike, switches_alike,
-    takes_alike, totals_alike, trims_alike,
+    adds_alike, chooses_alike, chunk_runs_alike, chunks_alike, converts_alike, cores_alike,
+    counters_alike, counts_alike, inodes_alike, joins_alike, leaves_alike, quiet_alike,
+    switches_alike, takes_alike, totals_alike, trims_alike,
 };
