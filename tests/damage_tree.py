@@ -4,6 +4,7 @@
     tests/damage_tree.py IMAGE --rows SEED:SINGLES:PAIRS [--groups N]
     tests/damage_tree.py IMAGE --on ROW ..
     tests/damage_tree.py SOUND --damaged IMAGE REPORT
+    tests/damage_tree.py DAMAGED --written IMAGE REPORT
     tests/damage_tree.py SOUND --kept IMAGE [-l LOG]
     tests/damage_tree.py IMAGE --model
     tests/damage_tree.py --lines
@@ -12,7 +13,8 @@
 picked by the seed: each tree and each kind before any comes again. 0 singles stand for all of them. --on does
 them. --model prints what a check shows, as tests/xfs_model.py does. --damaged says what a repair of the damaged
 IMAGE has to report: `same`, or `lost` where a chunk of the sound image isn't told by any tree and no unit is given
-up; a line `status N`; and then the lines of REPORT that aren't as they should be. --kept compares a repaired image
+up; a line `status N`; and then the lines of REPORT that aren't as they should be. --written prints what a repair that
+rebuilt no unit has written where it may not. --kept compares a repaired image
 with the sound one, and prints what is wrong: all is good by the model, xfs_db prints the same records of all trees,
 and each inode in use, its forks, the bytes of the blocks that chunks, forks and the log have, and the heads'
 other fields are as before; -l names to xfs_db a log that is another file. With --lines each line of standard input has the words of one call; what it prints is
@@ -296,23 +298,36 @@ def lacks_space(told, reported):
     return False
 
 
-def judge_report(modelled, reported):
-    """What is wrong with the report of a repair, where a check of the damaged image would show `modelled`."""
+def unbuilt_form(told, unit):
+    """The line with which a unit is given up whose tree has a form that isn't built, if it has one."""
+    group, of = unit
+    trees = told.groups[number(group)].trees
+    later = [name for name, tree in trees.items() if unit_of(name) == of and tree.bad and tree.bad[1] == "later"]
+    return [f"{group} {of} gaveup later {name} {trees[name].bad[0]}" for name in later[:1]]
+
+
+def judge_report(told, reported):
+    """The status that a repair should have, and what is wrong with its report, where the image was as told of."""
+    modelled = told.lines
     marked = [line for line in reported if line.split(" ")[2:3] == ["marked"]]
     wanted, found = units_in(modelled), units_in([line for line in reported if line not in marked])
     # an index that an edit left as it was is judged as that leaves it
     left = {(line.split(" ")[0], unit_of(line.split(" ")[1])) for line in marked}
+    status = gave_up = status_of(modelled)
     if list(wanted) != list(found):
-        return ["the units aren't those of the image, in their order"]
-    wrong, gave_up = [], status_of(modelled)
+        return status, ["the units aren't those of the image, in their order"]
+    wrong = []
     for unit, lines in wanted.items():
         if unit in left or (lines[-1].split(" ")[2] == "skipped" and not gave_up):
             # judged by what was rebuilt meanwhile
-            if found[unit][-1].split(" ")[2] not in ("good", "rebuilt"):
+            given_up = unbuilt_form(told, unit)
+            if given_up:
+                status = 6
+            if found[unit][-1].split(" ")[2] not in ("good", "rebuilt") if not given_up else found[unit] != given_up:
                 wrong.append(f"not repaired: {found[unit][-1]}")
         elif [as_repaired(line) for line in lines] != found[unit]:
             wrong += [f"expected: {as_repaired(line)}" for line in lines] + [f"found: {line}" for line in found[unit]]
-    return wrong
+    return status, wrong
 
 
 def chunks_of(check):
@@ -365,9 +380,38 @@ def print_damaged(sound, image, report):
     if lacks_space(told, reported):
         print("status 6")
         return
-    print(f"status {status_of(told.lines)}")
-    for line in judge_report(told.lines, reported):
+    status, wrong = judge_report(told, reported)
+    print(f"status {status}")
+    for line in wrong:
         print(line)
+
+
+# ---- what a repair that rebuilds nothing may write
+
+
+def print_written(damaged, image, report):
+    """What was written, but for the free lists of groups in which a unit gave up for space: it has taken, and keeps,
+    all blocks of the list before it gives up."""
+    system = System(image)
+    with open(report, encoding="utf-8") as lines:
+        taken = {number(words[0]) for words in map(str.split, lines) if words[2:4] == ["gaveup", "space"]}
+    places = [*(AGF.fields[name] for name in ("flfirst", "fllast", "flcount")), Field(AGF.checksum, 4)]
+    heads = {group * system.length * BLOCK + AGF.start: group for group in taken}
+    for at, group in heads.items():
+        if system.read(group, 0)[AGF.start :][AGF.fields["flcount"].offset :][:4] != bytes(4):
+            print(f"group {group} has given up for space, and has blocks in its free list")
+    with open(damaged, "rb") as before, open(image, "rb") as after:
+        step = 256 * BLOCK
+        for start in range(0, os.path.getsize(damaged), step):
+            old, new = bytearray(before.read(step)), bytearray(after.read(step))
+            for at in heads:
+                for place in places:
+                    if start <= at < start + step:
+                        there = slice(at - start + place.offset, at - start + place.offset + place.width)
+                        new[there] = old[there]
+            if old != new:
+                where = next(i for i in range(0, step, BLOCK) if old[i : i + BLOCK] != new[i : i + BLOCK])
+                print(f"block {(start + where) // BLOCK} was written")
 
 
 # ---- what a repair keeps
@@ -517,6 +561,8 @@ def run(words):
         image.save()
     elif what == "--damaged":
         print_damaged(path, *rest)
+    elif what == "--written":
+        print_written(path, *rest)
     elif what == "--kept":
         print_kept(path, *rest)
     elif what == "--model":

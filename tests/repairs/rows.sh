@@ -119,7 +119,8 @@ row() {
     if [ "$wanted" = 0 ]; then
       whole real.img && again real.img
     elif ! grep -q ' rebuilt$' said; then
-      cmp -s damaged.img real.img || why+=('the image was written')
+      tool damaged.img --written real.img said
+      why+=("${answered[@]}")
     fi
   fi
   [ ${#why[@]} = 0 ]
