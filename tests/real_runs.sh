@@ -1,17 +1,27 @@
 #!/usr/bin/env bash
 # Runs scripts of writers beside a repair, on images of mkfs.xfs: all units end good or rebuilt, the replies are the
-# same each time, a check then finds all good, and xfs_repair -n finds nothing wrong but what a run leaves alone:
-# counters of the superblock, and files without a name. So it is where a run was killed and made again. Then come
-# scripts that are wrong, lines that are refused, and drills.
+# same each time, a check then finds all good, each file has the blocks that the replies say, and xfs_repair -n
+# finds nothing wrong but what a run leaves alone: counters of the superblock, files without a name, and times of an
+# inode that was used before. So it is on images that a kernel used, whose files grow and shrink, and where a run was
+# killed and made again. Then come scripts that are wrong, lines that are refused, and drills.
 #
-#     tests/real_runs.sh [PROGRAM]
+#     tests/real_runs.sh [--times N] [PROGRAM [IMAGE ..]]
 #
-# PROGRAM is the launcher ./xscrub where nothing is said. Each case prints `ok NAME` or `FAILED NAME`. The last line
-# is `N passed, M failed`; the status is 1 where one failed. Where xfsprogs isn't here, nothing is tested.
+# PROGRAM is the launcher ./xscrub where nothing is said, the images are those of a kernel, perhaps packed by xz.
+# Sixteen writers run N times (4 where nothing is said) on as many processors as there are, and as often on one.
+# Each case prints `ok NAME` or `FAILED NAME`. The last line is `N passed, M failed`; the status is 1 where one
+# failed. Where xfsprogs isn't here, nothing is tested.
 # shellcheck disable=SC1091,SC2154
 set -u
 top=$(cd -- "$(dirname -- "$0")/.." && pwd) || exit 1
+times=4
+[ "${1-}" != --times ] || { times=$2 && shift 2; }
 program=$(readlink -f -- "${1:-$top/xscrub}") || exit 1
+[ $# = 0 ] || shift
+images=()
+for image in "$@"; do
+  images+=("$(readlink -m -- "$image")")
+done
 if ! command -v mkfs.xfs >/dev/null || ! command -v xfs_repair >/dev/null; then
   echo 'tests/real_runs.sh needs mkfs.xfs and xfs_repair'
   exit 0
@@ -22,13 +32,15 @@ cd -- "$room" || exit 1
 . "$top/tests/verdict.sh"
 
 beside='^Phase|^ *- |^sb_|disconnected|would move|host filesystem|sector size|the image and|No modify'
+beside+='|^Bad (a|m|c|cr)time nsec|^would reset to zero$'
 
-# ran NAME WORD..: a run of script.txt on a copy of fresh.img, with these words besides.
+# ran NAME WORD..: a run of script.txt on a copy of fresh.img, with these words besides, started by ${by[@]}.
+by=()
 ran() {
   local name=$1 ended bad replies
   shift
   cp fresh.img image.img && rm -f redo
-  timeout 300 "$program" run image.img --redo redo --script script.txt "$@" >report.txt 2>said.txt </dev/null
+  timeout 300 "${by[@]}" "$program" run image.img --redo redo --script script.txt "$@" >report.txt 2>said.txt </dev/null
   ended=$?
   [ "$ended" = 0 ]
   verdict "$name: status 0" $? "status $ended" "$(tail -n 3 report.txt said.txt)"
@@ -41,6 +53,9 @@ ran() {
   bad=$(xfs_repair -n image.img 2>&1 | grep -Ev "$beside")
   [ -z "$bad" ]
   verdict "$name: xfs_repair finds no more" $? "$(head -n 5 <<<"$bad")"
+  bad=$(python3 "$top/tests/replied_files.py" fresh.img image.img script.txt report.txt 2>&1)
+  [ -z "$bad" ]
+  verdict "$name: each file is as the replies say" $? "$(head -n 5 <<<"$bad")"
 }
 
 head -c 4096 /dev/urandom >data
@@ -61,6 +76,30 @@ done
 first=''
 python3 "$top/tests/scripts.py" 3 1 200 >script.txt || exit 1
 ran 'one writer' --rebuild
+first=''
+python3 "$top/tests/scripts.py" 5 16 30 >script.txt || exit 1
+for ((turn = 1; turn <= times; turn++)); do
+  by=()
+  ran "16 writers, run $turn" --rebuild
+  ! command -v taskset >/dev/null || by=(taskset -c 0)
+  ran "16 writers, run $turn on one processor" --rebuild
+done
+by=()
+
+# An image that a kernel used, whose files grow and shrink.
+mv fresh.img made.img
+[ ${#images[@]} -gt 0 ] || echo 'skipped: no image that a kernel used was named'
+for image in "${images[@]}"; do
+  { xz -dc -- "$image" 2>/dev/null || cat -- "$image"; } |
+    dd of=fresh.img bs=64K iflag=fullblock conv=sparse status=none
+  read -ra files <<<"$(python3 "$top/tests/replied_files.py" fresh.img --files 40)"
+  first=''
+  python3 "$top/tests/scripts.py" 6 8 30 "${files[@]}" >script.txt || exit 1
+  ran "${image##*/}"
+  ran "${image##*/}, all rebuilt" --rebuild
+  rm -f fresh.img
+done
+mv made.img fresh.img
 
 # whole NAME: a check finds all good, and xfs_repair -n nothing wrong but what a run leaves alone.
 whole() {
