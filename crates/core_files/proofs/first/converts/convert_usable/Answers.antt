@@ -1,0 +1,8 @@
+use Rattle.core_files.proofs.first.SaidLemmas.{held_piece}
+use Rattle.fs_model.specs.declared.entry.Entry.TheVariants as entries
+use Rattle.core_files.proofs.first.converts.convert_usable.Goals as goal
+
+-- it says of the chain that was asked for
+pub returns-clause-said : goal.returns-clause-said
+returns-clause-said g c = held_piece (λ x. entries.Converted x) c.args.desk.now c.held_file.new.desk c.convert_file.new.desk c.in_ok-of.of.held c.args.chain c.args.range.offset c.convert_file.result
+    c.convert_file.ensures.said c.in_ok-of.ensures.held c.in_ok-of.ensures.geometry c.in_ok-of.ensures.items
