@@ -10,7 +10,7 @@ returns-in-Start-clause-says g c =
 
 pub returns-in-Advance-clause-says : goal.returns-in-Advance-clause-says
 unfolding Says
-returns-in-Advance-clause-says g c = says_as c.args.ask (asks.Advance c.in-Advance.group) c.args.parts.now c.run_in-in-Advance.new.parts c.run_in-in-Advance.result c.in-Advance.is c.run_in-in-Advance.ensures.says
+returns-in-Advance-clause-says g c = says_as c.args.ask (asks.Advance c.in-Advance.group) c.args.parts.now c.run_in.new.parts c.run_in.result c.in-Advance.is c.run_in.ensures.says
 
 pub returns-in-ScanPiece-clause-says : goal.returns-in-ScanPiece-clause-says
 unfolding Says

@@ -9,13 +9,13 @@ returns-in-Advance-clause-says g c =
 
 pub returns-in-Scan-clause-says : goal.returns-in-Scan-clause-says
 returns-in-Scan-clause-says g c =
-    in_event c.args.event events.Scan c.args.unit.now c.scan_piece.new.unit c.args.kept.now c.scan_piece.new.kept c.args.desk.now c.scan_piece.new.desk c.tell_piece-in-Scan.result c.in-Scan.is
-    (piece_says c.args.desk.now c.scan_piece.new.desk c.args.unit.now.group c.args.unit.now.unit c.scan_piece.result c.tell_piece-in-Scan.result c.tell_piece-in-Scan.ensures c.scan_piece.ensures.entries)
+    in_event c.args.event events.Scan c.args.unit.now c.scan_piece.new.unit c.args.kept.now c.scan_piece.new.kept c.args.desk.now c.scan_piece.new.desk c.tell_piece.result c.in-Scan.is
+    (piece_says c.args.desk.now c.scan_piece.new.desk c.args.unit.now.group c.args.unit.now.unit c.scan_piece.result c.tell_piece.result c.tell_piece.ensures c.scan_piece.ensures.entries)
 
 pub returns-in-Close-clause-says : goal.returns-in-Close-clause-says
 returns-in-Close-clause-says g c =
-    in_event c.args.event events.Close c.args.unit.now c.close.new.unit c.args.kept.now c.close.new.kept c.args.desk.now c.close.new.desk c.tell_done-in-Close.result c.in-Close.is
-    (done_says c.args.desk.now c.close.new.desk c.args.unit.now.group c.args.unit.now.unit c.close.result c.tell_done-in-Close.result c.tell_done-in-Close.ensures c.close.ensures.entries)
+    in_event c.args.event events.Close c.args.unit.now c.close.new.unit c.args.kept.now c.close.new.kept c.args.desk.now c.close.new.desk c.tell_done.result c.in-Close.is
+    (done_says c.args.desk.now c.close.new.desk c.args.unit.now.group c.args.unit.now.unit c.close.result c.tell_done.result c.tell_done.ensures c.close.ensures.entries)
 
 pub returns-in-Gather-clause-says : goal.returns-in-Gather-clause-says
 returns-in-Gather-clause-says g c =
