@@ -86,6 +86,7 @@ done
 if [ -n "$repairs" ]; then
   large_trees
   lean_trees
+  three_levels
   refused_heads
   stops
   bad_redo_files

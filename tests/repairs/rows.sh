@@ -290,6 +290,26 @@ lean_trees() {
   all_good 'lean trees are good' real.img
 }
 
+# highest TREE: the highest level of a tree of group 0 of real.img, counted from 0.
+highest() {
+  make_image real.img --on --tree "0:$1" && lines "${printed[@]}" | sed -n '$s/ .*//p'
+}
+
+# Reverse mappings of three levels, a node of which can't be read: the new btree has three levels too.
+three_levels() {
+  group_count=1
+  make_image three.img --groups 1 --blocks 40000 --pieces 15600 --half && copy three.img real.img || {
+    verdict 'three levels' 1 "${printed[@]}"
+    return
+  }
+  rm -f redo
+  tool real.img --on 0:rmap:byte:1:0:70
+  repair real.img
+  [ "$ended $(highest rmap) $(tail -n 1 said)" = '0 2 0 refc good' ]
+  verdict 'three levels are repaired' $? "found status $ended, level $(highest rmap):" "$(tail -n 4 said)"
+  all_good 'three levels are good' real.img
+}
+
 # A head that is refused, in the group that isn't the first.
 refused_heads() {
   local edit line
