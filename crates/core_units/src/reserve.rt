@@ -137,8 +137,8 @@ fn note(building: &mut Building, block: u32, spare: bool) -> Result<(), AllocErr
     note_spare(building.unit, &mut building.lists, block)
 }
 
-/// Puts a block behind the reserve, and answers whether the need is met now. Without memory the reserve
-/// stays; a spare block may be claimed then, so that it isn't chosen again.
+/// Puts a block behind the reserve, and answers whether the need is met now. Without memory reserve and
+/// lists stay; a spare block may be claimed then, so that it isn't chosen again.
 pub(crate) fn take(building: &mut Building, block: u32, spare: bool) -> Result<bool, AllocError>
     requires fits { spare ≡ true → block + 1 < 2 ^ 32 }
     requires left { 0 < building.old.left }
@@ -150,6 +150,7 @@ pub(crate) fn take(building: &mut Building, block: u32, spare: bool) -> Result<b
     ensures unit { building.new.unit ≡ building.old.unit }
     ensures ends { (limit : ℕ) → FreeEnds limit building.old.lists → FreeEnds limit building.new.lists }
 {
+    building.reserve.reserve(1)?;
     note(building, block, spare)?;
     building.reserve.push(block)?;
     building.left -= 1;
