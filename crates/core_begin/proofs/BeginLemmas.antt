@@ -1,15 +1,12 @@
 -- What the first events of a unit keep.
 use Rattle.std.proofs.Common.{◌≡◌, ◌<◌, ◌≤◌, ◌∙◌, ℕ, zero, suc, ◌+◌, refl, sym, ap, subst, arith, ◌∷◌, [], Vec, Global}
-use Rattle.std.specs.Prelude.{Bool, true, false, List, None, Some, Option, Result, Ok, Err, length, slice_set, OnOk, ⊤}
+use Rattle.std.specs.Prelude.{Bool, true, false, List, None, Some, Option, Result, Ok, Err, length, slice_set}
 use Rattle.std.specs.List.{slice_get}
-use Rattle.std.proofs.Math.ListN.{set, length-set}
+use Rattle.std.proofs.Math.ListN.{set}
 use Rattle.blk_cache.specs.Cache.{AgreesTold}
-use Rattle.blk_cache.specs.declared.cache.BlkCache.{BlkCache}
 use Rattle.blk_device.specs.Causes.{HasCause, MovesOnly, Rose}
-use Rattle.blk_device.specs.Contents.{Contents}
 use Rattle.blk_device.specs.Reading.{OnlyRead}
 use Rattle.blk_device.specs.declared.device.Device.{Ghosts}
-use Rattle.block_reap.specs.Limbo.{IsLimbo}
 use Rattle.byte_fields.specs.Steps.{StepCount}
 use Rattle.core_begin.specs.Early.{IsEarly, IsTaken, WhereScanned}
 use Rattle.core_calls.specs.declared.answers.ScrubFault.{ScrubFault}
@@ -26,7 +23,6 @@ use Rattle.core_parts.specs.declared.parts.Parts.{Parts}
 use Rattle.core_parts.specs.declared.units.UnitState.{UnitState}
 use Rattle.core_parts.specs.declared.units.Work.{Work}
 use Rattle.core_parts.specs.declared.units.Work.TheVariants as works
-use Rattle.core_edit.specs.declared.store.Store.{Store}
 use Rattle.fs_model.specs.declared.unit.Unit.{Unit as ScrubUnit}
 use Rattle.fs_model.specs.declared.unit.Unit.TheVariants as units
 use Rattle.geom.specs.Layout.{Layout}

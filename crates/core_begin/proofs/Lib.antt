@@ -1,2 +1,4 @@
 pub mod AfterLemmas
 pub mod BeginLemmas
+pub mod MayLemmas
+pub mod StartLemmas

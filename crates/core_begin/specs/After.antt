@@ -1,5 +1,5 @@
 -- What a refusal leaves of the work on a unit ("Metadata Scrubbing").
-use Rattle.std.specs.Prelude.{◌≡◌, ◌⊎◌, ⊤, ◌+◌, Result, Ok, Err}
+use Rattle.std.specs.Prelude.{◌≡◌, ◌⊎◌, ⊤, ℕ, ◌+◌, Result, Ok, Err}
 use Rattle.core_begin.specs.declared.moves.Reach.{Reach}
 use Rattle.core_begin.specs.declared.moves.Reach.TheVariants as reaches
 use Rattle.core_calls.specs.declared.answers.ScrubFault.{ScrubFault}
@@ -10,6 +10,7 @@ use Rattle.core_parts.specs.declared.units.Work.TheVariants as works
 use Rattle.core_scan.specs.Calls.{IsAt, Stays}
 use Rattle.core_scan.specs.declared.scan.Moved.TheVariants.{End}
 use Rattle.core_scan.specs.declared.scan.Scan.{Scan}
+use Rattle.fs_state.specs.Session.{FitsReason}
 
 -- A unit that is given up has no work left, one that waits for a writer has lost a turn more; else it stays.
 abbrev pub left_by : UnitState → ScrubFault → UnitState
@@ -60,6 +61,32 @@ IsGivingUp fault = ⊥
 pub record IsSetAside {D : Type 0} (old new : Parts D) : Type 0 where
   pub units : new.units ≡ old.units
   pub groups : new.groups ≡ old.groups
+
+-- ---- which refusals may come
+
+-- of a piece, where the unit may lose so many turns
+abbrev pub MayRead : ℕ → ScrubFault → Type 0
+MayRead turns (faults.GaveUp reason) = FitsReason turns reason
+MayRead turns (faults.OtherPhase phase) = ⊤
+MayRead turns faults.JournalFull = ⊤
+MayRead turns (faults.Shut count) = ⊤
+MayRead turns faults.Memory = ⊤
+MayRead turns fault = ⊥
+
+-- of a move, which may also find an inode held
+abbrev pub MayMove : ℕ → ScrubFault → Type 0
+MayMove turns (faults.Busy ino) = ⊤
+MayMove turns fault = MayRead turns fault
+
+-- of the closing of a gate, which may also find intents unfinished
+abbrev pub MayClose : ℕ → ScrubFault → Type 0
+MayClose turns (faults.Draining g count) = ⊤
+MayClose turns fault = MayRead turns fault
+
+-- the unit is in another phase
+abbrev pub IsOtherPhase : ScrubFault → Type 0
+IsOtherPhase (faults.OtherPhase phase) = ⊤
+IsOtherPhase fault = ⊥
 
 -- ---- the moves of a scan
 

@@ -1,3 +1,4 @@
 pub mod After
 pub mod Early
+pub mod Starts
 pub mod Whole

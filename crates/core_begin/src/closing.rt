@@ -1,5 +1,5 @@
 ghost use Rattle.std.specs.Prelude.{◌≡◌, ◌<◌, IfErr, OnOk};
-ghost use Rattle.core_begin.specs.After.{left_by};
+ghost use Rattle.core_begin.specs.After.{MayClose, left_by};
 ghost use Rattle.core_begin.specs.Early.{IsEarly};
 ghost use Rattle.core_calls.specs.declared.answers.Phase.{Phase};
 ghost use Rattle.core_parts.specs.Common.Asks.{Answers, IsUsable};
@@ -41,6 +41,8 @@ fn close_group<D: Device>(
     ensures entries { HasMore desk.old desk.new (entries_of unit.old.group unit.old.unit result) }
     ensures kept { IfErr result (λ fault.
         unit.new ≡ left_by (record unit.old { work = Work.Open owners }) fault) }
+    ensures rest { unit.new ≡ record unit.old { work = unit.new.work; asked = unit.new.asked } }
+    ensures may { IfErr result (MayClose unit.old.turns) }
 {
     let g = unit.group;
     match close_gate(desk, g) {
@@ -69,6 +71,9 @@ pub fn close<D: Device>(
     ensures phase { OnOk result (phase_in unit.new.work ≡ Phase.Closed) }
     ensures entries { HasMore desk.old desk.new (entries_of unit.old.group unit.old.unit result) }
     ensures kept { IfErr result (λ fault. unit.new ≡ left_by unit.old fault) }
+    ensures rest { unit.new ≡ record unit.old { work = unit.new.work; asked = unit.new.asked } }
+    ensures group { kept.new ≡ kept.old }
+    ensures may { IfErr result (MayClose unit.old.turns) }
 {
     match take_owners(unit) {
         Some(owners) => close_group(desk, unit, owners),

@@ -1,11 +1,12 @@
-ghost use Rattle.std.specs.Prelude.{◌≡◌};
-ghost use Rattle.core_begin.specs.After.{IsGivingUp, IsWait, left_by};
+ghost use Rattle.std.specs.Prelude.{◌≡◌, ◌⊎◌};
+ghost use Rattle.core_begin.specs.After.{IsGivingUp, IsWait, MayRead, left_by};
 ghost use Rattle.core_begin.specs.Early.{IsEarly};
 ghost use Rattle.core_parts.specs.Common.Asks.{IsUsable};
 ghost use Rattle.core_parts.specs.Common.Entries.{HasMore, entries_on};
 ghost use Rattle.core_parts.specs.Keeps.{IsSteady};
 ghost use Rattle.core_parts.specs.Reasons.{HasReason};
 ghost use Rattle.core_parts.specs.Safe.{IsDesk};
+ghost use Rattle.fs_state.specs.Session.{FitsReason};
 
 use crate::taking::put_work;
 use blk_device::Device;
@@ -31,6 +32,8 @@ pub(crate) fn give_up<D: Device>(
     ensures entries { HasMore desk.old desk.new (entries_on unit.old.group unit.old.unit result) }
     ensures kept { unit.new ≡ left_by unit.old result }
     ensures gives { IsGivingUp result }
+    ensures rest { unit.new ≡ record unit.old { work = unit.new.work; asked = unit.new.asked } }
+    ensures may { FitsReason unit.old.turns reason → MayRead unit.old.turns result }
 {
     match say_verdict(desk, unit.group, unit.unit, Verdict::GaveUp(reason)) {
         Ok(()) => {
@@ -58,6 +61,8 @@ pub(crate) fn lose_turn<D: Device>(
     ensures entries { IsWait fault
         → HasMore desk.old desk.new (entries_on unit.old.group unit.old.unit result) }
     ensures kept { IsWait fault → unit.new ≡ left_by unit.old result }
+    ensures rest { unit.new ≡ record unit.old { work = unit.new.work; asked = unit.new.asked } }
+    ensures may { MayRead unit.old.turns result ⊎ (result ≡ fault) }
 {
     let turns = unit.turns;
     if unit.asked >= turns || turns - unit.asked == 1 {

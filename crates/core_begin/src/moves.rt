@@ -1,5 +1,5 @@
 ghost use Rattle.std.specs.Prelude.{◌≡◌, IfErr, IfOk, OnErr};
-ghost use Rattle.core_begin.specs.After.{IsLeftAt, IsLeftByMove, IsStuck, Reaches};
+ghost use Rattle.core_begin.specs.After.{IsLeftAt, IsLeftByMove, IsStuck, MayMove, Reaches};
 ghost use Rattle.core_begin.specs.Early.{IsEarly, phase_after};
 ghost use Rattle.core_parts.specs.Common.Asks.{Answers, IsStopped, IsUsable};
 ghost use Rattle.core_parts.specs.Common.Entries.{HasMore, IsHalt, entries_of};
@@ -99,6 +99,7 @@ fn end_scan(alloc: Global, unit: &mut UnitState, scan: Scan) -> Result<Moved, Sc
     ensures phase { IfOk result (λ moved. phase_in unit.new.work ≡ phase_after moved) }
     ensures memory { IfErr result (λ fault. fault ≡ ScrubFault.Memory) }
     ensures kept { OnErr result (unit.new ≡ record unit.old { work = Work.Scanning scan }) }
+    ensures rest { unit.new ≡ record unit.old { work = unit.new.work; asked = unit.new.asked } }
 {
     match owners_of(alloc, &scan) {
         Ok(owners) => {
@@ -128,6 +129,8 @@ fn go_on<D: Device>(
     ensures entries { HasMore desk.old desk.new (entries_of unit.old.group unit.old.unit result) }
     ensures kept { IfErr result (λ fault.
         IsLeftAt reach (record unit.old { work = Work.Scanning scan }) fault unit.new) }
+    ensures rest { unit.new ≡ record unit.old { work = unit.new.work; asked = unit.new.asked } }
+    ensures may { IfErr result (MayMove unit.old.turns) }
 {
     match reach {
         Reach::At(ino) => {
@@ -164,6 +167,8 @@ fn move_on<D: Device, L: Ledger>(
     ensures entries { HasMore desk.old desk.new (entries_of unit.old.group unit.old.unit result) }
     ensures kept { IfErr result (λ fault.
         IsLeftByMove (record unit.old { work = Work.Scanning scan }) fault unit.new) }
+    ensures rest { unit.new ≡ record unit.old { work = unit.new.work; asked = unit.new.asked } }
+    ensures may { IfErr result (MayMove unit.old.turns) }
 {
     match next_inode(desk, &mut scan, steps) {
         Ok(reach) => go_on(alloc, desk, unit, scan, reach),
@@ -191,6 +196,9 @@ pub fn advance<D: Device, L: Ledger>(
     ensures phase { IfOk result (λ moved. phase_in unit.new.work ≡ phase_after moved) }
     ensures entries { HasMore desk.old desk.new (entries_of unit.old.group unit.old.unit result) }
     ensures kept { IfErr result (λ fault. IsLeftByMove unit.old fault unit.new) }
+    ensures rest { unit.new ≡ record unit.old { work = unit.new.work; asked = unit.new.asked } }
+    ensures group { kept.new ≡ kept.old }
+    ensures may { IfErr result (MayMove unit.old.turns) }
 {
     match take_scan(unit) {
         Some(scan) => move_on(alloc, desk, unit, scan, steps),

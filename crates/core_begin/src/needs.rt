@@ -1,4 +1,6 @@
-ghost use Rattle.std.specs.Prelude.{◌≡◌, ◌<◌, length};
+ghost use Rattle.std.specs.Prelude.{◌≡◌, ◌<◌, length, if◌then◌else◌};
+ghost use Rattle.core_begin.specs.Starts.{inodes_from};
+ghost use Rattle.unit_trust.specs.Trusts.{first_lacking, is_stood, lacks};
 
 use core_parts::common::is_unit_stood;
 use core_parts::{GroupKept, UnitState};
@@ -62,6 +64,7 @@ pub(crate) fn open_beside(units: &[Option<UnitState>], g: u32, unit: Unit) -> Op
 // The first of so many groups whose inode unit doesn't stand.
 fn first_fallen(groups: &[GroupKept], count: u32) -> Option<(u32, Unit)>
     requires { length groups.now ≡ count }
+    ensures { result ≡ first_lacking groups.now (inodes_from 0 count) }
 {
     for h in 0..count {
         if !is_unit_stood(&groups[h as usize], Unit::Inode) {
@@ -72,7 +75,9 @@ fn first_fallen(groups: &[GroupKept], count: u32) -> Option<(u32, Unit)>
 }
 
 // The reverse mappings of a group, where their unit doesn't stand.
-fn fallen_rmap(kept: &GroupKept, g: u32) -> Option<(u32, Unit)> {
+fn fallen_rmap(kept: &GroupKept, g: u32) -> Option<(u32, Unit)>
+    ensures { result ≡ (if is_stood kept.now Unit.Rmap then None else Some (g, Unit.Rmap)) }
+{
     if is_unit_stood(kept, Unit::Rmap) {
         return None;
     }
@@ -89,6 +94,7 @@ pub(crate) fn first_needed(
 ) -> Option<(u32, Unit)>
     requires all { length groups.now ≡ count }
     requires group { g < count }
+    ensures { result ≡ lacks groups.now count g unit }
 {
     match unit {
         Unit::Inode => None,

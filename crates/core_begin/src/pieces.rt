@@ -1,5 +1,5 @@
 ghost use Rattle.std.specs.Prelude.{◌≡◌, IfErr, OnOk};
-ghost use Rattle.core_begin.specs.After.{IsGivingUp, IsLeftByPiece, left_by};
+ghost use Rattle.core_begin.specs.After.{IsGivingUp, IsLeftByPiece, MayRead, left_by};
 ghost use Rattle.core_begin.specs.Early.{IsEarly};
 ghost use Rattle.core_calls.specs.declared.answers.Phase.{Phase};
 ghost use Rattle.core_parts.specs.Common.Asks.{Answers, IsStopped, IsUsable};
@@ -92,6 +92,8 @@ fn take_piece<D: Device>(
     ensures kept { IfErr result (λ fault.
         unit.new ≡ left_by (record unit.old { work = Work.Scanning scan }) fault) }
     ensures gives { IfErr result IsGivingUp }
+    ensures rest { unit.new ≡ record unit.old { work = unit.new.work; asked = unit.new.asked } }
+    ensures may { IfErr result (MayRead unit.old.turns) }
 {
     put_scan(unit, scan);
     match piece {
@@ -116,6 +118,8 @@ fn read_on<D: Device, L: Ledger>(
     ensures entries { HasMore desk.old desk.new (entries_of unit.old.group unit.old.unit result) }
     ensures kept { IfErr result (λ fault.
         IsLeftByPiece (record unit.old { work = Work.Scanning scan }) fault unit.new) }
+    ensures rest { unit.new ≡ record unit.old { work = unit.new.work; asked = unit.new.asked } }
+    ensures may { IfErr result (MayRead unit.old.turns) }
 {
     match next_piece(alloc, desk, &mut scan, steps) {
         Ok(piece) => take_piece(desk, unit, scan, piece),
@@ -142,6 +146,8 @@ fn read_held<D: Device, L: Ledger>(
     ensures entries { HasMore desk.old desk.new (entries_of unit.old.group unit.old.unit result) }
     ensures kept { IfErr result (λ fault.
         IsLeftByPiece (record unit.old { work = Work.Scanning scan }) fault unit.new) }
+    ensures rest { unit.new ≡ record unit.old { work = unit.new.work; asked = unit.new.asked } }
+    ensures may { IfErr result (MayRead unit.old.turns) }
 {
     match scan.held {
         Some(_) => read_on(alloc, desk, unit, scan, steps),
@@ -168,6 +174,9 @@ pub fn scan_piece<D: Device, L: Ledger>(
     ensures phase { OnOk result (phase_in unit.new.work ≡ Phase.Scanning) }
     ensures entries { HasMore desk.old desk.new (entries_of unit.old.group unit.old.unit result) }
     ensures kept { IfErr result (λ fault. IsLeftByPiece unit.old fault unit.new) }
+    ensures rest { unit.new ≡ record unit.old { work = unit.new.work; asked = unit.new.asked } }
+    ensures group { kept.new ≡ kept.old }
+    ensures may { IfErr result (MayRead unit.old.turns) }
 {
     match take_scan(unit) {
         Some(scan) => read_held(alloc, desk, unit, scan, steps),

@@ -1,13 +1,16 @@
-ghost use Rattle.std.specs.Prelude.{◌≡◌, ◌<◌, IfErr, IfOk, None, OnErr, OnOk, Some, length};
+ghost use Rattle.std.specs.Prelude.{◌≡◌, ◌<◌, IfErr, IfOk, None, OnErr, OnOk, Some, false, length, slice_set};
 ghost use Rattle.core_begin.specs.After.{IsSetAside};
 ghost use Rattle.core_begin.specs.Early.{IsEarly, WhereScanned};
+ghost use Rattle.core_begin.specs.Starts.{Clears, IsOpened, MayBar};
 ghost use Rattle.core_parts.specs.Common.Asks.{Answers, IsUsable};
+ghost use Rattle.core_parts.specs.Common.Kinds.{with_pass};
 ghost use Rattle.core_parts.specs.Common.Entries.{HasMore, WantsRoom, entries_of, entries_on};
 ghost use Rattle.core_parts.specs.Opens.Inodes.{are_trees};
 ghost use Rattle.core_parts.specs.Keeps.{IsSteady};
 ghost use Rattle.core_parts.specs.Reasons.{AnswersWell, HasReason};
 ghost use Rattle.core_parts.specs.Safe.{AreKept, AreUnits, IsDesk, IsSafe, IsUnit};
 ghost use Rattle.geom.specs.Layout.{Layout};
+ghost use Rattle.unit_trust.specs.Trusts.{lacks};
 
 use crate::needs::{first_needed, open_beside};
 use blk_device::Device;
@@ -36,6 +39,7 @@ fn skip<D: Device>(desk: &mut Desk<D>, group: u32, unit: Unit, needed: (u32, Uni
     ensures steady { IsSteady D.Device desk.old desk.new }
     ensures reason { HasReason desk.new result }
     ensures entries { HasMore desk.old desk.new (entries_on group unit result) }
+    ensures bars { MayBar (Some needed) result }
 {
     let (h, other) = needed;
     match say_verdict(desk, group, unit, Verdict::Skipped(h, other)) {
@@ -56,6 +60,8 @@ fn unless_skipped<D: Device>(
     requires group { g < desk.old.store.geo.agcount }
     ensures answers { Answers D.Device desk.old desk.new result }
     ensures entries { HasMore desk.old desk.new (entries_of g unit result) }
+    ensures ready { OnOk result (lacks groups.now desk.old.store.geo.agcount g unit ≡ None) }
+    ensures bars { IfErr result (MayBar (lacks groups.now desk.old.store.geo.agcount g unit)) }
 {
     match first_needed(groups, desk.store.geo.agcount, g, unit) {
         Some(needed) => Err(skip(desk, g, unit, needed)),
@@ -77,6 +83,8 @@ fn may_begin<D: Device>(
     requires group { g < desk.old.store.geo.agcount }
     ensures answers { Answers D.Device desk.old desk.new result }
     ensures entries { HasMore desk.old desk.new (entries_of g unit result) }
+    ensures ready { OnOk result (lacks groups.now desk.old.store.geo.agcount g unit ≡ None) }
+    ensures bars { IfErr result (MayBar (lacks groups.now desk.old.store.geo.agcount g unit)) }
 {
     if let Some((h, open)) = open_beside(units, g, unit) {
         return Err(ScrubFault::UnitOpen(h, open));
@@ -138,6 +146,8 @@ fn first_work<D: Device>(
 fn clear_pass(kept: &mut GroupKept, unit: Unit)
     ensures heads { kept.new.heads ≡ kept.old.heads }
     ensures limbo { kept.new.limbo ≡ kept.old.limbo }
+    ensures trust { kept.new.trust ≡ kept.old.trust }
+    ensures passed { kept.new.passed ≡ with_pass kept.old.passed unit false }
 {
     match unit {
         Unit::Inode => kept.passed.inode = false,
@@ -153,6 +163,7 @@ fn end_pass(groups: &mut Vec<GroupKept>, g: u32, unit: Unit)
     ensures many { length groups.new.items ≡ length groups.old.items }
     ensures kept { AreKept groups.old.items → AreKept groups.new.items }
     ensures trees { are_trees 0 groups.new.items ≡ are_trees 0 groups.old.items }
+    ensures cleared { Clears g unit groups.old.items groups.new.items }
 {
     clear_pass(&mut groups[g as usize], unit);
 }
@@ -162,6 +173,7 @@ fn add_unit(units: &mut Vec<Option<UnitState>>, unit: UnitState)
     requires { unit.group < length units.old.items }
     ensures many { length units.new.items ≡ length units.old.items }
     ensures works { (at : Layout) → IsUnit at unit → AreUnits at units.old.items → AreUnits at units.new.items }
+    ensures put { units.new.items ≡ slice_set units.old.items unit.group (Some unit) }
 {
     put_unit(units, unit.group, unit);
 }
@@ -184,6 +196,10 @@ fn open_unit<D: Device>(
     ensures trees { WhereScanned unit (OnOk result (parts.new.desk.ino_trees.items ≡ are_trees 0 parts.new.groups.items)) }
     ensures entries { HasMore parts.old.desk parts.new.desk (entries_of g unit result) }
     ensures kept { OnErr result (IsSetAside parts.old parts.new) }
+    ensures opened { OnOk result
+        (IsOpened g unit plan turns parts.old.units.items parts.new.units.items) }
+    ensures cleared { OnOk result (Clears g unit parts.old.groups.items parts.new.groups.items) }
+    ensures wants { IfErr result WantsRoom }
 {
     let work = first_work(alloc, &mut parts.desk, parts.groups.as_slice(), g, unit)?;
     end_pass(&mut parts.groups, g, unit);
@@ -221,6 +237,13 @@ pub fn start<D: Device>(
     ensures trees { WhereScanned unit (OnOk result (parts.new.desk.ino_trees.items ≡ are_trees 0 parts.new.groups.items)) }
     ensures entries { HasMore parts.old.desk parts.new.desk (entries_of g unit result) }
     ensures kept { OnErr result (IsSetAside parts.old parts.new) }
+    ensures opened { OnOk result
+        (IsOpened g unit plan turns parts.old.units.items parts.new.units.items) }
+    ensures cleared { OnOk result (Clears g unit parts.old.groups.items parts.new.groups.items) }
+    ensures ready { OnOk result
+        (lacks parts.old.groups.items parts.old.desk.store.geo.agcount g unit ≡ None) }
+    ensures bars { IfErr result
+        (MayBar (lacks parts.old.groups.items parts.old.desk.store.geo.agcount g unit)) }
 {
     let groups = parts.groups.as_slice();
     let units = parts.units.as_slice();

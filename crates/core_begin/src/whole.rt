@@ -1,4 +1,5 @@
-ghost use Rattle.std.specs.Prelude.{◌≡◌, ◌<◌, OnOk};
+ghost use Rattle.std.specs.Prelude.{◌≡◌, ◌<◌, IfErr, OnOk};
+ghost use Rattle.core_begin.specs.After.{IsOtherPhase};
 ghost use Rattle.core_begin.specs.Early.{IsEarly};
 ghost use Rattle.core_begin.specs.Whole.{HasOwners};
 ghost use Rattle.core_calls.specs.declared.answers.Phase.{Phase};
@@ -28,6 +29,8 @@ pub fn end_scan<D: Device>(
     ensures kept { kept.new ≡ kept.old }
     ensures owners { OnOk result (HasOwners owners unit.new.work) }
     ensures phase { OnOk result (phase_in unit.new.work ≡ Phase.Open) }
+    ensures rest { unit.new ≡ record unit.old { work = unit.new.work; asked = unit.new.asked } }
+    ensures may { IfErr result IsOtherPhase }
 {
     match take_scan(unit) {
         Some(_) => {

@@ -77,14 +77,13 @@ memory_of was p fault is = subst (MayRefuseOf was p) (sym is) tt
 -- by what is next
 next_may : (p : GroupKept) (r : Rebuild) (next : Next) (fault : ScrubFault) → IsNextBy p r next → MayRefuse next fault → MayRefuseBy p r fault
 next_may p r next (faults.GaveUp reason) chosen is = subst (IsNextBy p r) is chosen
-next_may p r next (faults.Skipped g unit) chosen is = is
-next_may p r next fault chosen is = tt
+next_may p r next fault chosen is = is
 
 -- of the unit's work
 by_work : (was : Work) (p : GroupKept) (r : Rebuild) (fault : ScrubFault) → IsBegun was r → MayRefuseBy p r fault → MayRefuseOf was p fault
 by_work was p r (faults.GaveUp reason) begun may = (r, begun, may)
-by_work was p r (faults.Skipped g unit) begun may = may
-by_work was p r fault begun may = tt
+by_work was p r (faults.OtherPhase phase) begun may = tt
+by_work was p r fault begun may = may
 
 module _ {D : Type 0} where
   pub no_more : (k : Desk D) → HasMore k k []
@@ -147,7 +146,7 @@ module _ {D : Type 0} where
   next_as g unit n m r s p q old new result is says = subst (λ (x : Next). SaysNext g unit x r s p q old new result) (sym is) says
 
   pub met_next : (g : ℕ) (unit : ScrubUnit) (r s : Rebuild) (p : GroupKept) (k : Desk D) (result : Result Bool ScrubFault) → IfMemory result → IfOk result (λ is_met. is_met ≡ true) → SaysNext g unit Met r s p p k k result
-  met_next g unit r s p k (Ok answer) memory told = (told, no_more k)
+  met_next g unit r s p k (Ok answer) memory told = (told, no_more k, refl)
   met_next g unit r s p k (Err fault) memory told = (memory_may Met fault memory, memory_on k k g unit fault memory refl)
 
   pub gave_next : (g : ℕ) (unit : ScrubUnit) (reason : Reason) (r : Rebuild) (p : GroupKept) (old new : Desk D) (result : Result Bool ScrubFault) → IsErr result → IfErr result (MayRefuse (GaveUp reason)) → HasMore old new (entries_of g unit result) → SaysNext g unit (GaveUp reason) r r p p old new result

@@ -1,6 +1,7 @@
--- What is left of a unit after a piece of its reserving.
+-- What is left of a unit after a piece of its reserving or staging.
 use Rattle.std.proofs.Common.{◌≡◌, ◌<◌, ℕ, refl, sym, subst}
-use Rattle.std.specs.Prelude.{Bool, true, false, Result, Ok, Err, IsErr, IsErrAnd}
+use Rattle.std.specs.Prelude.{Bool, true, false, IfOk, IfSome, Option, Some, None, Result, Ok, Err, IsErr, IsErrAnd}
+use Rattle.block_reap.specs.Limbo.{IsLimbo}
 use Rattle.blk_device.specs.declared.device.Device.{Ghosts}
 use Rattle.geom.specs.Layout.{Layout}
 use Rattle.geom.specs.Places.{layout}
@@ -15,9 +16,12 @@ use Rattle.core_parts.specs.Safe.{IsKept, IsUnit, IsWork}
 use Rattle.core_parts.specs.declared.desk.Desk.{Desk}
 use Rattle.core_parts.specs.declared.groups.GroupKept.{GroupKept}
 use Rattle.core_parts.specs.declared.units.UnitState.{UnitState}
-use Rattle.core_units.specs.Rebuilt.{IsRebuilding}
+use Rattle.core_units.specs.Rebuilt.{IsRebuilding, IsReserved}
+use Rattle.core_units.specs.Staged.{IsAt}
 use Rattle.core_units.specs.declared.rebuild.Rebuild.{Rebuild}
-use Rattle.core_build.specs.Pieces.{MetBy, work_by}
+use Rattle.core_units.specs.declared.released.Staged.{Staged}
+use Rattle.core_units.specs.declared.stage.Staging.{Staging}
+use Rattle.core_build.specs.Pieces.{MetBy, staged_by, work_by}
 
 -- after a refusal it still is a rebuild
 refused_fits : (at : Layout) (g : ℕ) (r : Rebuild) (f : ScrubFault) → IsRebuilding at g r → IsWork at g (work_by r (Err f))
@@ -36,6 +40,12 @@ pub work_fits : (at : Layout) (g : ℕ) (r : Rebuild) (answer : Result Bool Scru
 work_fits at g r (Ok true) b met = (record { rebuilding = b; ready = (met refl).ready }, (met refl).begins)
 work_fits at g r (Ok false) b met = b
 work_fits at g r (Err f) b met = refused_fits at g r f b
+
+-- nor does a piece of the staging spoil it
+pub staged_fits : (at : Layout) (g : ℕ) (r : Rebuild) (s : Staging) (made : Result (Option Staged) ScrubFault) → IsReserved at g r → IsAt r.building.lists s → IfOk made (λ m. IfSome m (λ staged. IsLimbo staged.limbo.items)) → IsWork at g (staged_by r s made)
+staged_fits at g r s (Ok (Some staged)) reserved stands limbo = (reserved.rebuilding, limbo)
+staged_fits at g r s (Ok None) reserved stands limbo = (reserved, stands)
+staged_fits at g r s (Err fault) reserved stands limbo = (reserved, stands)
 
 module _ {D : Type 0} (d : Ghosts D) where
   -- the unit has this work now

@@ -21,6 +21,7 @@ use Rattle.fs_model.specs.declared.entry.Entry.TheVariants as entries
 use Rattle.fs_model.specs.declared.fault.Cause.{Cause}
 use Rattle.fs_model.specs.declared.unit.Trust.TheVariants.{Sick}
 use Rattle.fs_model.specs.declared.unit.Unit.{Unit as ScrubUnit}
+use Rattle.fs_model.specs.declared.verdict.Reason.TheVariants.{Space}
 use Rattle.sblock.specs.declared.kind.Kind.TheVariants.{Rmap}
 use Rattle.core_edit.specs.declared.place.IndexesLeft.{IndexesLeft}
 use Rattle.unit_plan.specs.declared.spare.SpaceTrust.{SpaceTrust}
@@ -49,16 +50,18 @@ pub record LeavesBlock {D : Type 0} (g : ℕ) (answer : Bool) (r s : Rebuild) (p
 
 -- what the answer tells of the next thing that a rebuild needs, and which entries come
 abbrev pub Does : {D : Type 0} → ℕ → ScrubUnit → Next → Bool → (r s : Rebuild) → (p q : GroupKept) → (old new : Desk D) → Type 0
-Does g unit Met answer r s p q old new = (answer ≡ true) × HasMore old new []
+Does g unit Met answer r s p q old new = (answer ≡ true) × HasMore old new [] × (q.trust ≡ p.trust)
 Does g unit (GaveUp reason) answer r s p q old new = ⊥
 Does g unit (Listed block) answer r s p q old new = Takes g unit block false r s p q old new
 Does g unit (Spare block) answer r s p q old new = Takes g unit block true r s p q old new ⊎ LeavesBlock g answer r s p q old new
 
--- no unit is skipped, and one is given up only where that is next, for its reason
+-- a unit is given up only where that is next, for its reason; else room or memory is wanting, or the core is shut
 abbrev pub MayRefuse : Next → ScrubFault → Type 0
-MayRefuse next (faults.Skipped g unit) = ⊥
 MayRefuse next (faults.GaveUp reason) = next ≡ GaveUp reason
-MayRefuse next fault = ⊤
+MayRefuse next faults.JournalFull = ⊤
+MayRefuse next (faults.Shut count) = ⊤
+MayRefuse next faults.Memory = ⊤
+MayRefuse next fault = ⊥
 
 -- and by a refusal: a unit that is given up has its verdict
 abbrev pub SaysNext : {D : Type 0} → ℕ → ScrubUnit → Next → (r s : Rebuild) → (p q : GroupKept) → (old new : Desk D) → Result Bool ScrubFault → Type 0
@@ -82,9 +85,11 @@ IsNextBy p r next = IsNext (space_in p.trust) (list_entries p.heads.list) r.tree
 
 -- the same by what is kept of the group
 abbrev pub MayRefuseBy : GroupKept → Rebuild → ScrubFault → Type 0
-MayRefuseBy p r (faults.Skipped g unit) = ⊥
 MayRefuseBy p r (faults.GaveUp reason) = IsNextBy p r (GaveUp reason)
-MayRefuseBy p r fault = ⊤
+MayRefuseBy p r faults.JournalFull = ⊤
+MayRefuseBy p r (faults.Shut count) = ⊤
+MayRefuseBy p r faults.Memory = ⊤
+MayRefuseBy p r fault = ⊥
 
 abbrev pub SaysPiece : {D : Type 0} → ℕ → ScrubUnit → (r s : Rebuild) → (p q : GroupKept) → (old new : Desk D) → Result Bool ScrubFault → Type 0
 SaysPiece g unit r s p q old new (Ok answer) = (next : Next) × IsNextBy p r next × Does g unit next answer r s p q old new
@@ -108,14 +113,36 @@ IsBegun (works.Building rebuild) r = r ≡ rebuild
 IsBegun (works.Chosen judging) r = r.building.unit ≡ judging.unit
 IsBegun work r = ⊥
 
--- the unit is given up only where no block is to be had for its rebuild
+-- the unit is given up only where no block is to be had for its rebuild, or it is in another phase
 abbrev pub MayRefuseOf : Work → GroupKept → ScrubFault → Type 0
-MayRefuseOf was p (faults.Skipped g unit) = ⊥
 MayRefuseOf was p (faults.GaveUp reason) = (r : Rebuild) × IsBegun was r × IsNextBy p r (GaveUp reason)
-MayRefuseOf was p fault = ⊤
+MayRefuseOf was p (faults.OtherPhase phase) = ⊤
+MayRefuseOf was p faults.JournalFull = ⊤
+MayRefuseOf was p (faults.Shut count) = ⊤
+MayRefuseOf was p faults.Memory = ⊤
+MayRefuseOf was p fault = ⊥
 
 -- What a piece adds, by its answer and the work before and after it: the entry of the block that is chosen next, with
 -- its marks, or that of a unit that is given up.
 abbrev pub SaysReserving : {D : Type 0} → ℕ → ScrubUnit → (was w : Work) → (p q : GroupKept) → (old new : Desk D) → Result Bool ScrubFault → Type 0
 SaysReserving g unit was w p q old new (Ok answer) = (r : Rebuild) × IsBegun was r × Reserves g unit answer r w p q old new
 SaysReserving g unit was w p q old new (Err fault) = MayRefuseOf was p fault × HasMore old new (entries_on g unit fault)
+
+-- ---- which refusals come
+
+-- of a piece of the reserving: the unit is given up for want of space alone, and waits for nobody
+abbrev pub GivesSpace : ScrubFault → Type 0
+GivesSpace (faults.GaveUp (Space reserve need)) = ⊤
+GivesSpace (faults.OtherPhase phase) = ⊤
+GivesSpace faults.JournalFull = ⊤
+GivesSpace (faults.Shut count) = ⊤
+GivesSpace faults.Memory = ⊤
+GivesSpace fault = ⊥
+
+-- of a piece of the staging
+abbrev pub MayStage : ScrubFault → Type 0
+MayStage (faults.OtherPhase phase) = ⊤
+MayStage faults.JournalFull = ⊤
+MayStage (faults.Shut count) = ⊤
+MayStage faults.Memory = ⊤
+MayStage fault = ⊥

@@ -41,6 +41,7 @@ pub(crate) fn limbo_room<D: Device>(
 ) -> Result<(), ScrubFault>
     ensures limbo { kept.new.limbo.items ≡ kept.old.limbo.items }
     ensures trust { kept.new.trust ≡ kept.old.trust }
+    ensures passed { kept.new.passed ≡ kept.old.passed }
     ensures memory { IfMemory result }
 {
     let freed = &desk.store.edit.freed;
@@ -99,6 +100,7 @@ fn keep_edited<D: Device>(desk: &Desk<D>, kept: &mut GroupKept)
     requires kept { IsKept kept.old }
     ensures kept { IsKept kept.new }
     ensures trust { kept.new.trust ≡ kept.old.trust }
+    ensures passed { kept.new.passed ≡ kept.old.passed }
 {
     kept.heads = desk.store.edit.heads;
     put_all_freed(&mut kept.limbo, &desk.store.edit.freed);
@@ -112,6 +114,7 @@ fn mark<D: Device>(desk: &mut Desk<D>, kept: &mut GroupKept, group: u32, kind: K
     ensures limbo { kept.new.limbo ≡ kept.old.limbo }
     ensures more { HasMore desk.old desk.new (entries.Marked group kind cause ∷ []) }
     ensures trust { kept.new.trust ≡ with_trust kept.old.trust kind Trust.Sick }
+    ensures passed { kept.new.passed ≡ kept.old.passed }
 {
     mark_sick(kept, kind);
     add_entry(desk, Entry::Marked { group, kind, cause });
@@ -131,6 +134,7 @@ fn mark_left<D: Device>(
     ensures limbo { kept.new.limbo ≡ kept.old.limbo }
     ensures more { HasMore desk.old desk.new (mark_of group kind cause) }
     ensures trust { kept.new.trust ≡ sick_if kind cause kept.old.trust }
+    ensures passed { kept.new.passed ≡ kept.old.passed }
 {
     if let Some(met) = cause {
         mark(desk, kept, group, kind, met);
@@ -145,6 +149,7 @@ fn mark_all<D: Device>(desk: &mut Desk<D>, kept: &mut GroupKept, group: u32, lef
     ensures limbo { kept.new.limbo ≡ kept.old.limbo }
     ensures more { HasMore desk.old desk.new (marks_of group left.now) }
     ensures trust { kept.new.trust ≡ sick_by left.now kept.old.trust }
+    ensures passed { kept.new.passed ≡ kept.old.passed }
 {
     mark_left(desk, kept, group, Kind::Bno, left.bno);
     mark_left(desk, kept, group, Kind::Cnt, left.cnt);
@@ -186,6 +191,7 @@ pub(crate) fn note_block<D: Device>(
     ensures more { HasMore desk.old desk.new (reserved_of place.now.group place.now.unit
         taken.now.block taken.now.is_spare taken.now.left) }
     ensures trust { kept.new.trust ≡ sick_by taken.now.left kept.old.trust }
+    ensures passed { kept.new.passed ≡ kept.old.passed }
 {
     keep_edited(desk, kept);
     note_reserved(desk, place, taken);
@@ -208,6 +214,7 @@ pub(crate) fn note_unnoted<D: Device>(
     ensures met { (r : Rebuild) → MetBy result r }
     ensures told { result ≡ Ok false }
     ensures unnoted { IsUnnoted group kept.old kept.new desk.old desk.new }
+    ensures passed { kept.new.passed ≡ kept.old.passed }
 {
     mark(desk, kept, group, Kind::Rmap, cause);
     Ok(false)

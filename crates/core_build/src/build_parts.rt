@@ -153,6 +153,7 @@ fn work_after(rebuild: Rebuild, answer: &Result<bool, ScrubFault>) -> Work
 pub(crate) fn put_work(unit: &mut UnitState, rebuild: Rebuild, answer: &Result<bool, ScrubFault>)
     ensures work { unit.new.work ≡ work_by rebuild answer.now }
     ensures group { unit.new.group ≡ unit.old.group }
+    ensures rest { unit.new ≡ record unit.old { work = unit.new.work } }
 {
     unit.work = work_after(rebuild, answer);
 }

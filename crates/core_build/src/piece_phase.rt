@@ -9,6 +9,7 @@ use core_parts::{UnitState, Work, phase_of};
 pub(crate) fn other_phase(unit: &mut UnitState, work: Work) -> Result<bool, ScrubFault>
     ensures work { unit.new.work ≡ work }
     ensures group { unit.new.group ≡ unit.old.group }
+    ensures rest { unit.new ≡ record unit.old { work = unit.new.work } }
     ensures answer { result ≡ Err (OtherPhase (phase_in work)) }
 {
     let phase = phase_of(&work);

@@ -1,7 +1,7 @@
-ghost use Rattle.std.specs.Prelude.{◌≡◌, ◌<◌, ◌≤◌, ◌+◌, IfErr, IfOk, IsErr, true};
+ghost use Rattle.std.specs.Prelude.{◌≡◌, ◌<◌, ◌≤◌, ◌+◌, IfErr, IfOk, IsErr, OnErr, true};
 ghost use Rattle.std.specs.Vec.{vec_capacity, vec_len};
 ghost use Rattle.core_build.specs.Pieces.{IfMemory, KeepsBuild, MetBy};
-ghost use Rattle.core_build.specs.Says.{MayRefuse, SaysFrom, SaysNext, SaysPiece, SaysReserving, SaysTaken};
+ghost use Rattle.core_build.specs.Says.{GivesSpace, MayRefuse, SaysFrom, SaysNext, SaysPiece, SaysReserving, SaysTaken};
 ghost use Rattle.core_parts.specs.Common.Asks.{Answers, IsUsable};
 ghost use Rattle.core_parts.specs.Common.Entries.{HasMore, entries_of};
 ghost use Rattle.core_units.specs.Judging.{IsJudging};
@@ -83,6 +83,8 @@ fn keep_block<D: Device, L: Ledger>(
     requires inside { taken.now.block < rebuild.old.length }
     ensures answers { Answers D.Device desk.old desk.new result }
     ensures kept { IsKept kept.new }
+    ensures passed { kept.new.passed ≡ kept.old.passed }
+    ensures trust { OnErr result (kept.new.trust ≡ kept.old.trust) }
     ensures keeps { KeepsBuild rebuild.old rebuild.new }
     ensures met { MetBy result rebuild.new }
     ensures says { SaysTaken place.now.group place.now.unit taken.now.block taken.now.is_spare
@@ -111,6 +113,8 @@ fn reserve_listed_block<D: Device, L: Ledger>(
     requires steady { IsSteady rebuild.old }
     ensures answers { Answers D.Device desk.old desk.new result }
     ensures kept { IsKept kept.new }
+    ensures passed { kept.new.passed ≡ kept.old.passed }
+    ensures trust { OnErr result (kept.new.trust ≡ kept.old.trust) }
     ensures keeps { KeepsBuild rebuild.old rebuild.new }
     ensures met { MetBy result rebuild.new }
     ensures says { SaysNext place.now.group place.now.unit (Next.Listed block)
@@ -149,6 +153,8 @@ fn keep_spare<D: Device, L: Ledger>(
     requires inside { edited.0 < rebuild.old.length }
     ensures answers { Answers D.Device desk.old desk.new result }
     ensures kept { IsKept kept.new }
+    ensures passed { kept.new.passed ≡ kept.old.passed }
+    ensures trust { OnErr result (kept.new.trust ≡ kept.old.trust) }
     ensures keeps { KeepsBuild rebuild.old rebuild.new }
     ensures met { MetBy result rebuild.new }
     ensures says { SaysNext place.now.group place.now.unit (Next.Spare edited.0)
@@ -184,6 +190,8 @@ fn reserve_spare_block<D: Device, L: Ledger>(
     requires inside { block < rebuild.old.length }
     ensures answers { Answers D.Device desk.old desk.new result }
     ensures kept { IsKept kept.new }
+    ensures passed { kept.new.passed ≡ kept.old.passed }
+    ensures trust { OnErr result (kept.new.trust ≡ kept.old.trust) }
     ensures keeps { KeepsBuild rebuild.old rebuild.new }
     ensures met { MetBy result rebuild.new }
     ensures says { SaysNext place.now.group place.now.unit (Next.Spare block)
@@ -211,6 +219,8 @@ fn do_next<D: Device, L: Ledger>(
     requires spare { IsSpareBelow rebuild.old.length next }
     ensures answers { Answers D.Device desk.old desk.new result }
     ensures kept { IsKept kept.new }
+    ensures passed { kept.new.passed ≡ kept.old.passed }
+    ensures trust { OnErr result (kept.new.trust ≡ kept.old.trust) }
     ensures keeps { KeepsBuild rebuild.old rebuild.new }
     ensures met { MetBy result rebuild.new }
     ensures says { SaysNext place.now.group place.now.unit next
@@ -241,6 +251,8 @@ fn reserve_one<D: Device, L: Ledger>(
     requires steady { IsSteady rebuild.old }
     ensures answers { Answers D.Device desk.old desk.new result }
     ensures kept { IsKept kept.new }
+    ensures passed { kept.new.passed ≡ kept.old.passed }
+    ensures trust { OnErr result (kept.new.trust ≡ kept.old.trust) }
     ensures keeps { KeepsBuild rebuild.old rebuild.new }
     ensures met { MetBy result rebuild.new }
     ensures says { SaysPiece place.now.group place.now.unit
@@ -262,6 +274,10 @@ fn reserve_with<D: Device, L: Ledger>(
     requires given { IsGiven D.Device desk.old kept.old unit.old }
     requires rebuilding { IsRebuilding (layout desk.old.store.geo) unit.old.group rebuild }
     ensures left { IsLeft D.Device desk.old desk.new kept.new unit.old unit.new }
+    ensures rest { unit.new ≡ record unit.old { work = unit.new.work } }
+    ensures passed { kept.new.passed ≡ kept.old.passed }
+    ensures trust { OnErr result (kept.new.trust ≡ kept.old.trust) }
+    ensures gives { IfErr result GivesSpace }
     ensures reason { AnswersWell desk.new result }
     ensures says { SaysFrom unit.old.group unit.old.unit rebuild unit.new.work
         kept.old kept.new desk.old desk.new result }
@@ -284,6 +300,10 @@ fn begin_with<D: Device, L: Ledger>(
     requires given { IsGiven D.Device desk.old kept.old unit.old }
     requires judged { IsJudging (layout desk.old.store.geo) unit.old.group judging }
     ensures left { IsLeft D.Device desk.old desk.new kept.new unit.old unit.new }
+    ensures rest { unit.new ≡ record unit.old { work = unit.new.work } }
+    ensures passed { kept.new.passed ≡ kept.old.passed }
+    ensures trust { OnErr result (kept.new.trust ≡ kept.old.trust) }
+    ensures gives { IfErr result GivesSpace }
     ensures reason { AnswersWell desk.new result }
     ensures says { SaysReserving unit.old.group unit.old.unit (Work.Chosen judging) unit.new.work
         kept.old kept.new desk.old desk.new result }
@@ -306,6 +326,10 @@ pub fn reserve_piece<D: Device, L: Ledger>(
 ) -> Result<bool, ScrubFault>
     requires given { IsGiven D.Device desk.old kept.old unit.old }
     ensures left { IsLeft D.Device desk.old desk.new kept.new unit.old unit.new }
+    ensures rest { unit.new ≡ record unit.old { work = unit.new.work } }
+    ensures passed { kept.new.passed ≡ kept.old.passed }
+    ensures trust { OnErr result (kept.new.trust ≡ kept.old.trust) }
+    ensures gives { IfErr result GivesSpace }
     ensures reason { AnswersWell desk.new result }
     ensures says { SaysReserving unit.old.group unit.old.unit unit.old.work unit.new.work
         kept.old kept.new desk.old desk.new result }

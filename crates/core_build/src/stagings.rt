@@ -1,7 +1,9 @@
-ghost use Rattle.std.specs.Prelude.{◌≡◌, ◌<◌, IfOk, IfSome};
+ghost use Rattle.std.specs.Prelude.{◌≡◌, ◌<◌, IfErr, IfOk, IfSome};
 ghost use Rattle.block_reap.specs.Limbo.{IsLimbo};
 ghost use Rattle.core_build.specs.Pieces.{IfMemory, staged_by, told_by};
+ghost use Rattle.core_build.specs.Says.{MayStage};
 ghost use Rattle.core_parts.specs.Common.Asks.{Answers, IsSame, IsUsable};
+ghost use Rattle.core_parts.specs.Common.Entries.{IsHalt};
 ghost use Rattle.core_parts.specs.Keeps.{IsAsked, IsGiven, IsLeft, failed_by};
 ghost use Rattle.core_parts.specs.Reasons.{AnswersWell};
 ghost use Rattle.core_parts.specs.Safe.{IsKept};
@@ -77,6 +79,7 @@ fn stage_more<D: Device, L: Ledger>(
     ensures answers { Answers D.Device desk.old desk.new result }
     ensures at { IsAt rebuild.now.building.lists at.new }
     ensures items { desk.new.book.journal.items ≡ desk.old.book.journal.items }
+    ensures halts { IfErr result IsHalt }
 {
     match ask_stage(alloc, desk, rebuild, at, steps) {
         Ok(is_done) => Ok(is_done),
@@ -126,6 +129,7 @@ fn switch_made<D: Device>(
     ensures answers { Answers D.Device desk.old desk.new result }
     ensures limbo { IfOk result (λ made. IfSome made (λ staged. IsLimbo staged.limbo.items)) }
     ensures items { desk.new.book.journal.items ≡ desk.old.book.journal.items }
+    ensures halts { IfErr result IsHalt }
 {
     switch_room(desk)?;
     let staged = switch_of(alloc, desk, kept, rebuild)?;
@@ -150,6 +154,7 @@ fn stage_one<D: Device, L: Ledger>(
     ensures limbo { IfOk result (λ made. IfSome made (λ staged. IsLimbo staged.limbo.items)) }
     ensures at { IsAt rebuild.now.building.lists at.new }
     ensures items { desk.new.book.journal.items ≡ desk.old.book.journal.items }
+    ensures halts { IfErr result IsHalt }
 {
     if !stage_more(alloc, desk, rebuild, at, steps)? {
         return Ok(None);
@@ -166,6 +171,7 @@ fn staged_as(
 ) -> Result<bool, ScrubFault>
     ensures work { unit.new.work ≡ staged_by rebuild at made }
     ensures group { unit.new.group ≡ unit.old.group }
+    ensures rest { unit.new ≡ record unit.old { work = unit.new.work } }
     ensures answer { result ≡ told_by made }
 {
     match made {
@@ -198,6 +204,9 @@ fn stage_with<D: Device, L: Ledger>(
     requires at { IsAt reserved.0.building.lists reserved.1 }
     ensures left { IsLeft D.Device desk.old desk.new kept.new unit.old unit.new }
     ensures reason { AnswersWell desk.new result }
+    ensures rest { unit.new ≡ record unit.old { work = unit.new.work } }
+    ensures same { kept.new ≡ kept.old }
+    ensures halts { IfErr result IsHalt }
     ensures items { desk.new.book.journal.items ≡ desk.old.book.journal.items }
 {
     let (rebuild, staging) = reserved;
@@ -219,6 +228,9 @@ pub fn stage_piece<D: Device, L: Ledger>(
     requires given { IsGiven D.Device desk.old kept.old unit.old }
     ensures left { IsLeft D.Device desk.old desk.new kept.new unit.old unit.new }
     ensures reason { AnswersWell desk.new result }
+    ensures rest { unit.new ≡ record unit.old { work = unit.new.work } }
+    ensures same { kept.new ≡ kept.old }
+    ensures may { IfErr result MayStage }
     ensures items { desk.new.book.journal.items ≡ desk.old.book.journal.items }
 {
     match mem::replace(&mut unit.work, Work::Judged) {

@@ -1,6 +1,6 @@
 -- The entries and the work of a piece, one call after the other.
 use Rattle.std.proofs.Common.{◌≡◌, ◌∙◌, ℕ, ◌+◌, ◌^◌, ◌<◌, refl, sym, ap, subst, append_assoc, inl, inr}
-use Rattle.std.specs.Prelude.{◌⊎◌, ◌++◌, Bool, List, Result, Ok, Err, IfErr, IfOk, OnErr, OnOk, length, map}
+use Rattle.std.specs.Prelude.{◌++◌, Bool, List, Result, Ok, Err, IfErr, IfOk, OnErr, OnOk, length, map}
 use Rattle.std.specs.Global.{Vec}
 use Rattle.core_calls.specs.declared.answers.ScrubFault.{ScrubFault}
 use Rattle.core_calls.specs.declared.answers.ScrubFault.TheVariants as faults
@@ -21,7 +21,7 @@ use Rattle.group_trees.specs.declared.group.GroupTrees.{GroupTrees}
 use Rattle.group_trees.specs.declared.heads.GroupHeads.{GroupHeads}
 use Rattle.rmap_recs.specs.declared.records.RmapRec.{RmapRec}
 use Rattle.core_check.specs.Ends.{end_of}
-use Rattle.core_check.specs.Entries.{Follows, GathersFor, IsGatheredBy, IsLeftByGathering, IsListed, IsNext, Stands, TellsNext, TellsPiece, is_end, owners_in, told_by, verdict_by, work_by}
+use Rattle.core_check.specs.Entries.{Follows, GathersFor, GivesEvidence, IsGatheredBy, IsLeftByGathering, IsListed, IsNext, Stands, TellsPiece, is_end, owners_in, told_by, verdict_by, work_by}
 use Rattle.core_check.specs.Told.{entry_of}
 use Rattle.core_check.specs.declared.tell.Outcome.{Outcome}
 use Rattle.core_check.specs.declared.work.Left.{Left}
@@ -73,15 +73,17 @@ answer_by : Outcome → Result Bool ScrubFault
 answer_by outcome = Ok (is_end outcome)
 
 module _ {D : Type 0} where
+  -- entries came, and then others
+  pub told_more : (old mid new : Desk D) (told more : List Entry) → HasMore old mid told → HasMore mid new more → HasMore old new (told ++ more)
+  told_more old mid new told more first then = then ∙ (ap (λ (es : List Entry). es ++ more) first ∙ append_assoc old.book.journal.items told more)
+
   pub follows_of : (which : Which) (next : Judging) (piece : List Fault) (old mid new : Desk D) (left : Left) (outcome : Outcome) → outcome ≡ end_of which.plan next.at next.found
       → mid.book.journal.items ≡ old.book.journal.items ++ map (entry_of which.group which.unit) piece → HasMore mid new (verdict_by which.group which.unit outcome)
       → left.work ≡ work_by next outcome → left.answer ≡ Ok (is_end outcome) → Follows which next piece old new left
   unfolding answer_by
   follows_of which next piece old mid new left outcome is told more work answer = record {
-    entries = more
-        ∙ (ap (λ (es : List Entry). es ++ verdict_by which.group which.unit outcome) told
-        ∙ (append_assoc old.book.journal.items (map (entry_of which.group which.unit) piece) (verdict_by which.group which.unit outcome)
-        ∙ ap (λ (o : Outcome). old.book.journal.items ++ told_by which.group which.unit piece o) is));
+    entries = told_more old mid new (map (entry_of which.group which.unit) piece) (verdict_by which.group which.unit outcome) told more
+        ∙ ap (λ (o : Outcome). old.book.journal.items ++ told_by which.group which.unit piece o) is;
     work = work ∙ ap (λ (o : Outcome). work_by next o) is;
     answer = answer ∙ ap answer_by is;
   }
@@ -130,6 +132,16 @@ room_judged owners fault is = absurd is
 
 pub gathered_for : (os ps : List RmapRec) (r : Result Bool ScrubFault) (w : Work) → os ≡ ps → IfErr r (λ fault. IsGatheredBy os fault w) → IfErr r (λ fault. IsGatheredBy ps fault w)
 gathered_for os ps r w same by = subst (λ (xs : List RmapRec). IfErr r (λ fault. IsGatheredBy xs fault w)) same by
+
+pub room_gives : (fault : ScrubFault) → WantsRoom fault → GivesEvidence fault
+room_gives faults.JournalFull is = tt
+room_gives faults.Memory is = tt
+room_gives fault is = absurd is
+
+pub halt_gives : (fault : ScrubFault) → IsHalt fault → GivesEvidence fault
+halt_gives (faults.Shut count) is = tt
+halt_gives faults.Memory is = tt
+halt_gives fault is = absurd is
 
 left_gathered : (old : Work) (fault : ScrubFault) (new : Work) → IsGatheredBy (owners_in old) fault new → IsLeftByGathering old fault new
 left_gathered old (faults.OtherPhase phase) new by = absurd by

@@ -1,2 +1,4 @@
 pub mod CheckLemmas
+pub mod EndedLemmas
 pub mod EntryLemmas
+pub mod KnownLemmas

@@ -1,5 +1,5 @@
 -- Which entries the events of a check add, and what they make of the unit's work ("Metadata Scrubbing").
-use Rattle.std.specs.Prelude.{◌≡◌, ◌⊎◌, ⊤, ℕ, ◌+◌, ◌^◌, ◌<◌, ◌∷◌, [], ◌++◌, Bool, true, false, List, Result, Ok, length, map}
+use Rattle.std.specs.Prelude.{◌≡◌, ◌⊎◌, ⊤, ℕ, ◌+◌, ◌^◌, ◌<◌, ◌∷◌, [], ◌++◌, Bool, true, false, List, Ok, length, map}
 use Rattle.ag_headers.specs.Ring.{entries as list_entries}
 use Rattle.core_calls.specs.declared.answers.ScrubFault.{ScrubFault}
 use Rattle.core_calls.specs.declared.answers.ScrubFault.TheVariants as faults
@@ -15,6 +15,7 @@ use Rattle.core_parts.specs.declared.units.Work.TheVariants as works
 use Rattle.fs_model.specs.declared.entry.Entry.{Entry}
 use Rattle.fs_model.specs.declared.fault.Fault.{Fault}
 use Rattle.fs_model.specs.declared.unit.Unit.{Unit as ScrubUnit}
+use Rattle.fs_model.specs.declared.verdict.Reason.TheVariants.{Contradiction}
 use Rattle.fs_model.specs.declared.verdict.Verdict.TheVariants as verdicts
 use Rattle.group_trees.specs.declared.heads.GroupHeads.{GroupHeads}
 use Rattle.rmap_recs.specs.declared.records.RmapRec.{RmapRec}
@@ -120,3 +121,9 @@ IsGatheredBy owners fault new = ⊥
 abbrev pub IsLeftByGathering : Work → ScrubFault → Work → Type 0
 IsLeftByGathering old (faults.OtherPhase phase) new = new ≡ old
 IsLeftByGathering old fault new = IsGatheredBy (owners_in old) fault new
+
+-- a unit that is gathered is given up by contradicting evidence alone
+abbrev pub GivesEvidence : ScrubFault → Type 0
+GivesEvidence (faults.GaveUp (Contradiction evidence)) = ⊤
+GivesEvidence (faults.GaveUp reason) = ⊥
+GivesEvidence fault = ⊤

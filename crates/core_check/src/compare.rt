@@ -1,16 +1,20 @@
 // The comparison of a unit's btrees with what they must hold.
-ghost use Rattle.std.specs.Prelude.{◌≡◌, ℕ, ◌+◌, length, IfOk, OnErr, OnOk};
+ghost use Rattle.std.specs.Prelude.{◌≡◌, ℕ, ◌+◌, List, length, IfOk, OnErr, OnOk};
 ghost use Rattle.core_check.specs.Ends.{IsSpareBy, end_of, verdicts};
 ghost use Rattle.core_check.specs.Entries.{Follows, IsNext, Stands, TellsNext, TellsPiece, which_of};
 ghost use Rattle.core_check.specs.Leaves.{IsComparedBy, Leaves};
+ghost use Rattle.core_check.specs.Told.{IsKnown};
 ghost use Rattle.core_parts.specs.Common.Asks.{IsUsable};
+ghost use Rattle.core_parts.specs.Common.Entries.{HasMore};
 ghost use Rattle.core_units.specs.Compared.{AreComparable};
 ghost use Rattle.core_units.specs.Judging.{IsJudging, StaysJudged};
 ghost use Rattle.core_parts.specs.Keeps.{IsGiven, IsLeft};
 ghost use Rattle.core_parts.specs.Reasons.{AnswersWell};
 ghost use Rattle.core_parts.specs.Safe.{IsWork};
+ghost use Rattle.fs_model.specs.declared.entry.Entry.{Entry};
 ghost use Rattle.geom.specs.Layout.{Layout};
 ghost use Rattle.geom.specs.Places.{layout};
+ghost use Rattle.unit_trust.specs.Trusts.{KnownBy};
 
 use crate::heads::listed_heads;
 use crate::tell::{decide, outcome_of, piece_room, tell_faults};
@@ -67,6 +71,7 @@ fn enter_piece<D: Device>(
     ensures limbo { kept.new.limbo ≡ kept.old.limbo }
     ensures phase { IsComparedBy result }
     ensures follows { Follows which judging faults.now desk.old desk.new result }
+    ensures known { IsKnown desk.old desk.new kept.old kept.new }
 {
     let outcome = outcome_of(which.plan, &judging);
     tell_faults(desk, kept, which, faults);
@@ -108,6 +113,8 @@ fn compare_on<D: Device>(
     ensures stands { OnErr result.answer (Stands
         (Work.Gathered (record piece.judging { at = piece.at; found = piece.found }))
         desk.old desk.new result) }
+    ensures known { OnOk result.answer (IsKnown desk.old desk.new kept.old kept.new) }
+    ensures unknown { OnErr result.answer (kept.new ≡ kept.old) }
 {
     let outcome = outcome_of(which.plan, &piece.judging);
     match piece_room(desk, piece.faults.as_slice(), outcome) {
@@ -142,6 +149,8 @@ fn compare_more<D: Device>(
     ensures tells { OnOk result.answer
         (TellsNext which kept.old.heads judging desk.old desk.new result) }
     ensures stands { OnErr result.answer (Stands (Work.Gathered judging) desk.old desk.new result) }
+    ensures known { OnOk result.answer (IsKnown desk.old desk.new kept.old kept.new) }
+    ensures unknown { OnErr result.answer (kept.new ≡ kept.old) }
 {
     let at = judging.at;
     let found = judging.found;
@@ -180,6 +189,8 @@ fn compare_work<D: Device>(
     ensures tells { OnOk result.answer
         (TellsPiece which kept.old.heads work desk.old desk.new result) }
     ensures stands { OnErr result.answer (Stands work desk.old desk.new result) }
+    ensures known { OnOk result.answer (IsKnown desk.old desk.new kept.old kept.new) }
+    ensures unknown { OnErr result.answer (kept.new ≡ kept.old) }
 {
     match work {
         Work::Gathered(judging) => compare_more(alloc, desk, kept, which, judging),
@@ -211,6 +222,9 @@ pub fn compare_piece<D: Device>(
         desk.old desk.new (record { work = unit.new.work; answer = result })) }
     ensures items { OnErr result (desk.new.book.journal.items ≡ desk.old.book.journal.items) }
     ensures stands { OnErr result (unit.new ≡ unit.old) }
+    ensures known { OnOk result ((es : List Entry) → HasMore desk.old desk.new es
+        → KnownBy es kept.old kept.new) }
+    ensures unknown { OnErr result (kept.new ≡ kept.old) }
     ensures rest { unit.new ≡ record unit.old { work = unit.new.work } }
 {
     let which = Which {

@@ -1,6 +1,6 @@
 // The gathering of what a unit is judged by.
 ghost use Rattle.std.specs.Prelude.{◌≡◌, ◌<◌, IfErr, IfOk, List, OnErr};
-ghost use Rattle.core_check.specs.Entries.{IsGatheredBy, IsLeftByGathering};
+ghost use Rattle.core_check.specs.Entries.{GivesEvidence, IsGatheredBy, IsLeftByGathering};
 ghost use Rattle.core_check.specs.Leaves.{IsGathered, Leaves};
 ghost use Rattle.core_parts.specs.Common.Asks.{Answers, IsUsable};
 ghost use Rattle.core_parts.specs.Common.Entries.{HasMore, IsHalt, WantsRoom, entries_of, entries_on};
@@ -95,6 +95,7 @@ fn note_evidence<D: Device>(
         (entries_on which.group which.unit (ScrubFault.GaveUp reason))) }
     ensures unsaid { OnErr result (desk.new.book.journal.items ≡ desk.old.book.journal.items) }
     ensures wants { IfErr result WantsRoom }
+    ensures gives { IfOk result (λ reason. GivesEvidence (ScrubFault.GaveUp reason)) }
 {
     let reason = Reason::Contradiction(evidence);
     say_verdict(desk, which.group, which.unit, Verdict::GaveUp(reason))?;
@@ -115,6 +116,7 @@ fn give_up<D: Device>(
     ensures entries { HasMore desk.old desk.new (entries_of which.group which.unit result.answer) }
     ensures stands { IfErr result.answer (λ fault.
         IsGatheredBy gathered.owners.items fault result.work) }
+    ensures gives { IfErr result.answer GivesEvidence }
 {
     match note_evidence(desk, which, evidence) {
         Ok(reason) => Left {
@@ -136,6 +138,7 @@ fn give_up_whole<D: Device>(desk: &mut Desk<D>, which: Which, evidence: Evidence
     ensures entries { HasMore desk.old desk.new (entries_of which.group which.unit result.answer) }
     ensures stands { (owners : List RmapRecOf) → IfErr result.answer (λ fault.
         IsGatheredBy owners fault result.work) }
+    ensures gives { IfErr result.answer GivesEvidence }
 {
     match note_evidence(desk, which, evidence) {
         Ok(reason) => Left {
@@ -167,6 +170,7 @@ fn conclude_unit<D: Device>(
     ensures entries { HasMore desk.old desk.new (entries_of which.group which.unit result.answer) }
     ensures stands { IfErr result.answer (λ fault.
         IsGatheredBy gathered.owners.items fault result.work) }
+    ensures gives { IfErr result.answer GivesEvidence }
 {
     let geo = &desk.store.geo;
     let limbo = kept.limbo.as_slice();
@@ -201,6 +205,7 @@ fn follow<D: Device>(
     ensures entries { HasMore desk.old desk.new (entries_of which.group which.unit result.answer) }
     ensures stands { IfErr result.answer (λ fault.
         IsGatheredBy piece.gathered.owners.items fault result.work) }
+    ensures gives { IfErr result.answer GivesEvidence }
 {
     let Piece {
         gathered,
@@ -240,6 +245,7 @@ fn gather_by<D: Device, L: Ledger>(
     ensures entries { HasMore desk.old desk.new (entries_of which.group which.unit result.answer) }
     ensures stands { IfErr result.answer (λ fault.
         IsGatheredBy gathered.owners.items fault result.work) }
+    ensures gives { IfErr result.answer GivesEvidence }
 {
     let mut gathered = gathered;
     match gather_more(alloc, desk, heads, which, &mut gathered, steps) {
@@ -274,6 +280,7 @@ fn gather_from<D: Device, L: Ledger>(
     ensures entries { HasMore desk.old desk.new (entries_of which.group which.unit result.answer) }
     ensures stands { IfErr result.answer (λ fault.
         IsGatheredBy gathered.owners.items fault result.work) }
+    ensures gives { IfErr result.answer GivesEvidence }
 {
     match listed_heads(alloc, &kept.heads) {
         Ok(heads) => gather_by(alloc, desk, kept, which, &heads, gathered, steps),
@@ -300,6 +307,7 @@ fn gather_first<D: Device, L: Ledger>(
     ensures entries { HasMore desk.old desk.new (entries_of which.group which.unit result.answer) }
     ensures stands { IfErr result.answer (λ fault.
         IsGatheredBy owners.items fault result.work) }
+    ensures gives { IfErr result.answer GivesEvidence }
 {
     match begin(alloc, &kept.bad, owners) {
         Ok(gathered) => gather_from(alloc, desk, kept, which, gathered, steps),
@@ -327,6 +335,7 @@ fn gather_work<D: Device, L: Ledger>(
     ensures entries { HasMore desk.old desk.new (entries_of which.group which.unit result.answer) }
     ensures stands { IfErr result.answer (λ fault.
         IsLeftByGathering work fault result.work) }
+    ensures gives { IfErr result.answer GivesEvidence }
 {
     match work {
         Work::Closed(owners) => gather_first(alloc, desk, kept, which, owners, steps),
@@ -360,6 +369,7 @@ pub fn gather_piece<D: Device, L: Ledger>(
     ensures entries { HasMore desk.old desk.new (entries_of unit.old.group unit.old.unit result) }
     ensures stands { IfErr result (λ fault.
         IsLeftByGathering unit.old.work fault unit.new.work) }
+    ensures gives { IfErr result GivesEvidence }
     ensures rest { unit.new ≡ record unit.old { work = unit.new.work } }
 {
     let which = Which {

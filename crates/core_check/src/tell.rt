@@ -1,14 +1,15 @@
 // The faults that a piece found, and what its end makes of the unit.
-ghost use Rattle.std.specs.Prelude.{◌≡◌, ◌+◌, ◌∷◌, [], Ok, length, IfSome, OnOk};
+ghost use Rattle.std.specs.Prelude.{◌≡◌, ◌+◌, ◌∷◌, [], Ok, length, map, IfSome, OnOk};
 ghost use Rattle.core_check.specs.Ends.{IsSpareBy, end_of, verdicts};
 ghost use Rattle.core_check.specs.Entries.{is_end, verdict_by, work_by};
 ghost use Rattle.core_check.specs.Leaves.{IsComparedBy, Leaves};
-ghost use Rattle.core_check.specs.Told.{Tells};
+ghost use Rattle.core_check.specs.Told.{Tells, entry_of};
 ghost use Rattle.core_parts.specs.Common.Asks.{Answers, IsUsable};
 ghost use Rattle.core_parts.specs.Common.Entries.{HasMore, verdict_entry};
 ghost use Rattle.core_units.specs.Judging.{IsJudging};
 ghost use Rattle.core_parts.specs.Keeps.{IsSteady};
 ghost use Rattle.geom.specs.Places.{layout};
+ghost use Rattle.unit_trust.specs.Trusts.{KnownBy};
 
 use crate::kinds::kind_of_fault;
 use crate::work::{Left, Which};
@@ -97,6 +98,7 @@ pub(crate) fn tell_faults<D: Device>(
     requires room { IsSpareBy (length faults.now) desk.old.book.journal }
     ensures told { Tells which.group which.unit faults.now desk.old desk.new }
     ensures limbo { kept.new.limbo ≡ kept.old.limbo }
+    ensures known { KnownBy (map (entry_of which.group which.unit) faults.now) kept.old kept.new }
 {
     for fault in faults {
         mark_sick(kept, kind_of_fault(fault));
@@ -145,6 +147,7 @@ pub(crate) fn decide<D: Device>(
     ensures limbo { kept.new.limbo ≡ kept.old.limbo }
     ensures phase { IsComparedBy result }
     ensures entries { HasMore desk.old desk.new (verdict_by which.group which.unit outcome) }
+    ensures known { KnownBy (verdict_by which.group which.unit outcome) kept.old kept.new }
     ensures work { result.work ≡ work_by judging outcome }
     ensures answer { result.answer ≡ Ok (is_end outcome) }
 {

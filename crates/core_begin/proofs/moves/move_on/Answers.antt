@@ -2,6 +2,8 @@ use Rattle.core_begin.proofs.AfterLemmas.{err_on, halted_move, moved_left}
 use Rattle.core_begin.proofs.BeginLemmas.{answers_on}
 use Rattle.core_begin.proofs.moves.move_on.Goals as goal
 use Rattle.core_parts.proofs.common.EntryLemmas.{halt_more, more_after}
+use Rattle.core_begin.proofs.MayLemmas.{halt_move, rest_put}
+use Rattle.core_parts.specs.declared.units.Work.TheVariants as works
 
 pub returns-in-Ok-clause-answers : goal.returns-in-Ok-clause-answers
 returns-in-Ok-clause-answers g c =
@@ -23,3 +25,9 @@ returns-in-Err-clause-entries g c =
 pub returns-in-Err-clause-kept : goal.returns-in-Err-clause-kept
 returns-in-Err-clause-kept g c =
     halted_move c.args.unit.now c.args.scan c.next_inode.new.scan c.put_scan.new.unit c.in-Err.fault c.in-Err.ensures.halts c.in-Err.ensures.reaches c.put_scan.ensures.put
+
+pub returns-in-Err-clause-rest : goal.returns-in-Err-clause-rest
+returns-in-Err-clause-rest g c = rest_put c.args.unit.now c.put_scan.new.unit (works.Scanning c.next_inode.new.scan) c.put_scan.ensures.put
+
+pub returns-in-Err-clause-may : goal.returns-in-Err-clause-may
+returns-in-Err-clause-may g c = halt_move c.args.unit.now.turns c.in-Err.fault c.in-Err.ensures.halts

@@ -2,6 +2,8 @@ use Rattle.core_begin.proofs.AfterLemmas.{err_both, given_up_piece, halted_piece
 use Rattle.core_begin.proofs.BeginLemmas.{answers_on}
 use Rattle.core_begin.proofs.pieces.read_on.Goals as goal
 use Rattle.core_parts.proofs.common.EntryLemmas.{halt_more, more_after}
+use Rattle.core_begin.proofs.MayLemmas.{halt_may, rest_put}
+use Rattle.core_parts.specs.declared.units.Work.TheVariants as works
 
 pub returns-in-Ok-clause-answers : goal.returns-in-Ok-clause-answers
 returns-in-Ok-clause-answers g c =
@@ -23,3 +25,9 @@ returns-in-Err-clause-entries g c =
 pub returns-in-Err-clause-kept : goal.returns-in-Err-clause-kept
 returns-in-Err-clause-kept g c =
     halted_piece c.args.unit.now c.args.scan c.next_piece.new.scan c.put_scan.new.unit c.in-Err.fault c.in-Err.ensures.halts c.in-Err.ensures.stays c.put_scan.ensures.put
+
+pub returns-in-Err-clause-rest : goal.returns-in-Err-clause-rest
+returns-in-Err-clause-rest g c = rest_put c.args.unit.now c.put_scan.new.unit (works.Scanning c.next_piece.new.scan) c.put_scan.ensures.put
+
+pub returns-in-Err-clause-may : goal.returns-in-Err-clause-may
+returns-in-Err-clause-may g c = halt_may c.args.unit.now.turns c.in-Err.fault c.in-Err.ensures.halts

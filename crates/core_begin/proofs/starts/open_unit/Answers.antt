@@ -4,7 +4,10 @@ use Rattle.core_parts.specs.declared.groups.GroupKept.{GroupKept}
 use Rattle.geom.specs.Places.{layout}
 use Rattle.core_begin.proofs.BeginLemmas.{early_works, safe_desk, safe_on, where_on}
 use Rattle.core_begin.proofs.starts.open_unit.Goals as goal
-use Rattle.core_parts.proofs.common.EntryLemmas.{none_more, room_exit}
+use Rattle.core_parts.proofs.common.EntryLemmas.{none_more, room_exit, with_err}
+use Rattle.core_parts.specs.Common.Entries.{WantsRoom}
+use Rattle.core_calls.specs.declared.answers.ScrubFault.{ScrubFault}
+use Rattle.std.specs.Prelude.{IfErr, Result}
 
 pub returns-in_err-work-clause-safe : goal.returns-in_err-work-clause-safe
 returns-in_err-work-clause-safe g c =
@@ -32,3 +35,10 @@ returns-in_err-work-clause-entries g c =
 
 pub returns-clause-entries : goal.returns-clause-entries
 returns-clause-entries g c = none_more c.args.parts.now.desk c.first_work.new.desk c.in_ok-work.ensures.items
+
+pub returns-clause-opened : goal.returns-clause-opened
+returns-clause-opened g c = record { work = c.in_ok-work.work; units = c.add_unit.ensures.put }
+
+pub returns-in_err-work-clause-wants : goal.returns-in_err-work-clause-wants
+returns-in_err-work-clause-wants g c =
+    with_err (λ (r : Result (Unit {0}) ScrubFault). IfErr r WantsRoom) c.in_err-work.field-0.0 c.from_residual.result c.from_residual.ensures c.in_err-work.ensures.wants

@@ -1,10 +1,16 @@
 use Rattle.core_parts.proofs.common.AskLemmas.{steady_on}
-use Rattle.std.proofs.Common.{◌<◌, refl, sym, subst}
+use Rattle.std.proofs.Common.{◌<◌, refl, sym, subst, ◌∙◌, List, ap}
 use Rattle.geom.specs.declared.geometry.Geometry.{Geometry}
 use Rattle.core_begin.proofs.AfterLemmas.{err_then}
 use Rattle.core_begin.proofs.BeginLemmas.{safe_desk}
 use Rattle.core_begin.proofs.starts.start.Goals as goal
-use Rattle.core_parts.proofs.common.EntryLemmas.{more_after, same_of_none}
+use Rattle.core_parts.proofs.common.EntryLemmas.{more_after, same_of_none, with_err}
+use Rattle.core_begin.proofs.StartLemmas.{all_room_bars, ready_on}
+use Rattle.unit_trust.specs.Trusts.{lacks}
+use Rattle.core_begin.specs.Starts.{MayBar}
+use Rattle.core_calls.specs.declared.answers.ScrubFault.{ScrubFault}
+use Rattle.core_parts.specs.declared.groups.GroupKept.{GroupKept}
+use Rattle.std.specs.Prelude.{IfErr, Result}
 
 pub open_unit-requires-clause-safe : goal.open_unit-requires-clause-safe
 open_unit-requires-clause-safe g c =
@@ -28,3 +34,14 @@ returns-clause-entries g c =
 
 pub returns-clause-kept : goal.returns-clause-kept
 returns-clause-kept g c = err_then c.open_unit.result (λ s. record { units = s.units; groups = s.groups }) c.open_unit.ensures.kept
+
+pub returns-clause-ready : goal.returns-clause-ready
+returns-clause-ready g c = ready_on c.open_unit.result (ap (λ (ks : List GroupKept). lacks ks c.args.parts.now.desk.store.geo.agcount c.args.g c.args.unit) (sym c.as_slice-groups.ensures.value) ∙ c.in_ok-may_begin.ensures.ready)
+
+pub returns-clause-bars : goal.returns-clause-bars
+returns-clause-bars g c = all_room_bars (lacks c.args.parts.now.groups.items c.args.parts.now.desk.store.geo.agcount c.args.g c.args.unit) c.open_unit.result c.open_unit.ensures.wants
+
+pub returns-in_err-may_begin-clause-bars : goal.returns-in_err-may_begin-clause-bars
+returns-in_err-may_begin-clause-bars g c =
+    with_err (λ (r : Result (Unit {0}) ScrubFault). IfErr r (MayBar (lacks c.args.parts.now.groups.items c.args.parts.now.desk.store.geo.agcount c.args.g c.args.unit))) c.in_err-may_begin.field-0.0 c.from_residual.result c.from_residual.ensures
+    (subst (λ (ks : List GroupKept). MayBar (lacks ks c.args.parts.now.desk.store.geo.agcount c.args.g c.args.unit) c.in_err-may_begin.field-0.0) c.as_slice-groups.ensures.value c.in_err-may_begin.ensures.bars)

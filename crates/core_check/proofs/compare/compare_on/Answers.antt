@@ -6,6 +6,7 @@ use Rattle.fs_model.specs.declared.fault.Fault.{Fault}
 use Rattle.core_check.specs.Entries.{Follows}
 use Rattle.core_check.proofs.CheckLemmas.{leaves_at}
 use Rattle.core_check.proofs.EntryLemmas.{follows_after, not_refused, on_ok}
+use Rattle.core_check.proofs.KnownLemmas.{known_after}
 use Rattle.core_check.proofs.compare.compare_on.Goals as goal
 
 pub returns-in-Err-clause-leaves : goal.returns-in-Err-clause-leaves
@@ -24,3 +25,10 @@ returns-in-Ok-clause-stands g c = not_refused _ c.enter_piece.result.answer _ c.
 
 pub returns-in-Err-clause-stands : goal.returns-in-Err-clause-stands
 returns-in-Err-clause-stands g c = record { items = c.in-Err.ensures.items; work = ap (λ (j : Judging). works.Gathered j) c.put_back.ensures.stood }
+
+pub returns-in-Ok-clause-known : goal.returns-in-Ok-clause-known
+returns-in-Ok-clause-known g c =
+    on_ok c.enter_piece.result.answer (known_after c.args.desk.now c.piece_room.new.desk c.enter_piece.new.desk c.args.kept.now c.enter_piece.new.kept c.in-Ok.ensures.items c.enter_piece.ensures.known)
+
+pub returns-in-Ok-clause-unknown : goal.returns-in-Ok-clause-unknown
+returns-in-Ok-clause-unknown g c = not_refused _ c.enter_piece.result.answer _ c.enter_piece.ensures.follows.answer

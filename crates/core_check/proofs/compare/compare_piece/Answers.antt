@@ -1,4 +1,4 @@
-use Rattle.std.proofs.Common.{◌∙◌, ap, sym}
+use Rattle.std.proofs.Common.{◌∙◌, ap}
 use Rattle.core_parts.specs.declared.units.UnitState.{UnitState}
 use Rattle.core_check.proofs.EntryLemmas.{err_then, piece_told, unit_back, unit_rest}
 use Rattle.core_check.proofs.compare.compare_piece.Goals as goal

@@ -3,7 +3,7 @@ use Rattle.std.specs.Global.{Vec}
 use Rattle.core_parts.specs.declared.units.Work.TheVariants as works
 use Rattle.rmap_recs.specs.declared.records.RmapRec.{RmapRec}
 use Rattle.core_parts.proofs.common.EntryLemmas.{halt_more, more_after}
-use Rattle.core_check.proofs.EntryLemmas.{gathered_for, halt_gathers}
+use Rattle.core_check.proofs.EntryLemmas.{gathered_for, halt_gathers, halt_gives}
 use Rattle.core_check.proofs.gather.gather_by.Goals as goal
 
 pub returns-in-Ok-clause-entries : goal.returns-in-Ok-clause-entries
@@ -20,3 +20,6 @@ returns-in-Err-clause-entries g c =
 pub returns-in-Err-clause-stands : goal.returns-in-Err-clause-stands
 returns-in-Err-clause-stands g c =
     halt_gathers c.args.gathered.owners.items c.in-Err.fault (works.Gathering c.gather_more.new.gathered) c.in-Err.ensures.halts (ap (λ (v : Vec RmapRec). v.items) c.in-Err.ensures.owners)
+
+pub returns-in-Err-clause-gives : goal.returns-in-Err-clause-gives
+returns-in-Err-clause-gives g c = halt_gives c.in-Err.fault c.in-Err.ensures.halts

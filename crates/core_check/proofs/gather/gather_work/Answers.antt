@@ -1,5 +1,4 @@
 use Rattle.std.proofs.Common.{ap, sym}
-use Rattle.core_parts.specs.declared.units.Work.{Work}
 use Rattle.core_check.specs.Entries.{owners_in}
 use Rattle.core_check.proofs.EntryLemmas.{left_for}
 use Rattle.core_check.proofs.gather.gather_work.Goals as goal

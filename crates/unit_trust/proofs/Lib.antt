@@ -1,0 +1,4 @@
+pub mod Agreeing
+pub mod Lacking
+pub mod Places
+pub mod Standing
