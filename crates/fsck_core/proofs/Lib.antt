@@ -1,3 +1,4 @@
+pub mod MoveLemmas
 pub mod OpenLemmas
 pub mod Places
 pub mod ReplyLemmas

@@ -19,6 +19,7 @@ use Rattle.fs_state.specs.declared.plan.Plan.{Plan}
 use Rattle.fs_model.specs.declared.unit.Unit.{Unit as ScrubUnit}
 use Rattle.fsck_core.proofs.Places.{none_some}
 use Rattle.fsck_core.specs.Entries.{IsDoneBy, IsOut, IsSetBack, Says, SaysAmong, SaysIn, SaysOpen, SaysReleased, SaysReopened, entries_told}
+use Rattle.fsck_core.specs.Moves.{StaysKnown}
 use Rattle.fsck_core.specs.Replies.{reply_asked}
 use Rattle.fsck_core.specs.Told.{told_done, told_moved, told_piece}
 use Rattle.fsck_core.specs.declared.events.Event.{Event}
@@ -80,12 +81,16 @@ module _ {D : Type 0} where
     says = among_groups event u done.later old.groups mid.groups new.groups.items old.desk new.desk a out.groups (among_on event u done.later mid.groups.items new.groups.items old.desk mid.desk new.desk a out.desk done.says);
   })
 
-  pub released_from : (g : ℕ) (old mid new : Parts D) (u : UnitState) (a : Answer) → IsOut g old mid u → new.units ≡ mid.units → SaysReleased u mid.desk new.desk a → SaysReopened g old new a
-  released_from g old mid new u a out same says = inr (record {
+  known_on : (g : ℕ) (old mid new : Parts D) (u : UnitState) → IsOut g old mid u → StaysKnown u.group mid.groups.items new.groups.items → StaysKnown g old.groups.items new.groups.items
+  known_on g old mid new u out known = subst (λ (i : ℕ). StaysKnown i old.groups.items new.groups.items) out.group (subst (λ (ks : Vec GroupKept). StaysKnown u.group ks.items new.groups.items) out.groups known)
+
+  pub released_from : (g : ℕ) (old mid new : Parts D) (u : UnitState) (a : Answer) → IsOut g old mid u → new.units ≡ mid.units → SaysReleased u mid.desk new.desk a → StaysKnown u.group mid.groups.items new.groups.items → SaysReopened g old new a
+  released_from g old mid new u a out same says known = inr (record {
     unit = u;
     place = out.unit;
     units = ap (λ (us : Vec (Option UnitState)). us.items) same ∙ out.units;
     says = subst (λ (k : Desk D). SaysReleased u k new.desk a) out.desk says;
+    known = known_on g old mid new u out known;
   })
 
   pub back_open : (g : ℕ) (event : Event) (old new : Parts D) (fault : ScrubFault) → IsSetBack g old new fault → SaysOpen g event old new (Scrub fault)

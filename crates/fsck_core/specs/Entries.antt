@@ -3,7 +3,9 @@ use Rattle.std.specs.Prelude.{◌≡◌, ◌⊎◌, ⊤, ℕ, [], Bool, List, So
 use Rattle.std.specs.List.{slice_get}
 use Rattle.core_build.specs.Says.{SaysReserving}
 use Rattle.core_calls.specs.declared.answers.Answer.{Answer}
-use Rattle.core_calls.specs.declared.answers.Answer.TheVariants.{Scrub}
+use Rattle.core_begin.specs.After.{IsSetAside}
+use Rattle.core_begin.specs.Starts.{Clears, IsOpened, MayBar}
+use Rattle.core_calls.specs.declared.answers.Answer.TheVariants.{Done, Scrub}
 use Rattle.core_calls.specs.declared.answers.Phase.TheVariants.{Idle}
 use Rattle.core_calls.specs.declared.answers.ScrubFault.{ScrubFault}
 use Rattle.core_calls.specs.declared.answers.ScrubFault.TheVariants as faults
@@ -19,9 +21,12 @@ use Rattle.core_switch.specs.Says.{SaysBy, SaysReaping, released_by}
 use Rattle.core_switch.specs.Switched.{HasSwitched}
 use Rattle.fs_model.specs.declared.entry.Entry.{Entry}
 use Rattle.fs_model.specs.declared.unit.Unit.{Unit as ScrubUnit}
+use Rattle.fs_state.specs.declared.plan.Plan.{Plan}
+use Rattle.fsck_core.specs.Moves.{MovesIn, StaysKnown}
 use Rattle.fsck_core.specs.Told.{told_done, told_piece}
 use Rattle.fsck_core.specs.declared.events.Event.{Event}
 use Rattle.fsck_core.specs.declared.events.Event.TheVariants as events
+use Rattle.unit_trust.specs.Trusts.{lacks}
 
 -- The verdict of a unit that is skipped or given up; any other answer tells of no entry.
 abbrev pub entries_told : ℕ → ScrubUnit → Answer → List Entry
@@ -63,6 +68,7 @@ pub record SaysAmong {D : Type 0} (event : Event) (u v : UnitState) (was ks : Li
   pub kept : slice_get was u.group ≡ Some before
   pub left : ks ≡ slice_set was u.group after
   pub says : SaysIn event u v before after old new a
+  pub moves : MovesIn event u v before after old new a
 
 -- ---- among all parts
 
@@ -98,6 +104,7 @@ pub record IsReleased {D : Type 0} (g : ℕ) (old new : Parts D) (a : Answer) : 
   pub place : slice_get old.units.items g ≡ Some (Some unit)
   pub units : new.units.items ≡ slice_set old.units.items g None
   pub says : SaysReleased unit old.desk new.desk a
+  pub known : StaysKnown g old.groups.items new.groups.items
 
 -- no unit is open there, as is answered
 pub record IsIdleIn {D : Type 0} (g : ℕ) (old : Parts D) (fault : ScrubFault) : Type 0 where
@@ -118,11 +125,31 @@ SaysReopened g old new a = IsRefused g old new a ⊎ IsReleased g old new a
 abbrev pub SaysOpen : {D : Type 0} → ℕ → Event → (old new : Parts D) → Answer → Type 0
 SaysOpen g event old new a = IsRefused g old new a ⊎ IsDone g event old new a
 
+-- ---- a unit that is opened
+
+-- none was, since the core is shut, or by what bars it
+pub record IsUnopened {D : Type 0} (g : ℕ) (unit : ScrubUnit) (old new : Parts D) (a : Answer) : Type 0 where
+  pub fault : ScrubFault
+  pub told : a ≡ Scrub fault
+  pub why : IsShutBy old.desk fault ⊎ MayBar (lacks old.groups.items old.desk.store.geo.agcount g unit) fault
+  pub aside : IsSetAside old new
+
+-- it is open, with the plan and the turns that were asked for; none of the units that it needs was lacking
+pub record IsStarted {D : Type 0} (g : ℕ) (unit : ScrubUnit) (plan : Plan) (turns : ℕ) (old new : Parts D) (a : Answer) : Type 0 where
+  pub told : a ≡ Done
+  pub ready : lacks old.groups.items old.desk.store.geo.agcount g unit ≡ None
+  pub opened : IsOpened g unit plan turns old.units.items new.units.items
+  pub cleared : Clears g unit old.groups.items new.groups.items
+
+pub record SaysStarting {D : Type 0} (g : ℕ) (unit : ScrubUnit) (plan : Plan) (turns : ℕ) (old new : Parts D) (a : Answer) : Type 0 where
+  pub entries : HasMore old.desk new.desk (entries_told g unit a)
+  pub comes : IsUnopened g unit old new a ⊎ IsStarted g unit plan turns old new a
+
 -- ---- what is asked
 
 -- Of a scrubber's event; what writers ask for isn't of a repair, and nothing is said of it.
 unfoldable pub Says : {D : Type 0} → Ask → (old new : Parts D) → Answer → Type 0
-Says (asks.Start g unit plan turns) old new a = HasMore old.desk new.desk (entries_told g unit a)
+Says (asks.Start g unit plan turns) old new a = SaysStarting g unit plan turns old new a
 Says (asks.Advance g) old new a = SaysOpen g events.Advance old new a
 Says (asks.ScanPiece g) old new a = SaysOpen g events.Scan old new a
 Says (asks.Close g) old new a = SaysOpen g events.Close old new a

@@ -2,6 +2,7 @@ pub mod Acts
 pub mod Asks
 pub mod Entries
 pub mod Glances
+pub mod Moves
 pub mod Opens
 pub mod Replies
 pub mod Said

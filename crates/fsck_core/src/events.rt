@@ -1,7 +1,10 @@
 ghost use Rattle.std.specs.Prelude.{◌≡◌};
 ghost use Rattle.core_parts.specs.Keeps.{IsGiven, IsLeft};
+ghost use Rattle.core_parts.specs.Reasons.{AnswersWell};
+ghost use Rattle.core_switch.specs.Says.{SaysReaping};
 ghost use Rattle.fsck_core.specs.Acts.{IsGivenAll, IsWorked, TellsAll};
 ghost use Rattle.fsck_core.specs.Entries.{SaysAmong, SaysIn};
+ghost use Rattle.fsck_core.specs.Moves.{MovesIn};
 ghost use Rattle.fsck_core.specs.Told.{told_done, told_moved, told_piece};
 
 use blk_device::Device;
@@ -15,9 +18,9 @@ use core_switch::{reap_piece, switch};
 use std::alloc::Global;
 use std::sync::ledger::Ledger;
 
-/// An event of a unit that is open and stays so.
+/// An event of a unit that is open and stays so (XFS Online Fsck Design, "Metadata Scrubbing").
 #[derive(Clone, Copy, Debug, PartialEq, Eq)]
-pub(crate) enum Event {
+pub enum Event {
     Advance,
     Scan,
     Close,
@@ -58,6 +61,27 @@ fn tell_moved(moved: Result<Moved, ScrubFault>) -> Answer
     }
 }
 
+// Reaps the next run of limbo. Which units passed is no matter of it.
+fn reap<D: Device, L: Ledger>(
+    alloc: Global,
+    desk: &mut Desk<D>,
+    kept: &mut GroupKept,
+    unit: &mut UnitState,
+    steps: &mut Steps<L>,
+) -> Result<bool, ScrubFault>
+    requires given { IsGiven D.Device desk.old kept.old unit.old }
+    ensures left { IsLeft D.Device desk.old desk.new kept.new unit.old unit.new }
+    ensures reason { AnswersWell desk.new result }
+    ensures unit { unit.new ≡ unit.old }
+    ensures says { SaysReaping unit.old.group kept.old kept.new desk.old desk.new result }
+    ensures passed { kept.new.passed ≡ kept.old.passed }
+{
+    let passed = kept.passed;
+    let reaped = reap_piece(alloc, desk, kept, unit, steps);
+    kept.passed = passed;
+    reaped
+}
+
 // Does one event of an open unit.
 #[tactic(auto, using(crate::proofs::ToldLemmas::piece_well, crate::proofs::ToldLemmas::done_well, crate::proofs::ToldLemmas::moved_well))]
 fn run<D: Device, L: Ledger>(
@@ -72,6 +96,7 @@ fn run<D: Device, L: Ledger>(
     ensures left { IsLeft D.Device desk.old desk.new kept.new unit.old unit.new }
     ensures told { TellsAll desk.new result }
     ensures says { SaysIn event unit.old unit.new kept.old kept.new desk.old desk.new result }
+    ensures moves { MovesIn event unit.old unit.new kept.old kept.new desk.old desk.new result }
 {
     match event {
         Event::Advance => tell_moved(advance(alloc, desk, kept, unit, steps)),
@@ -82,7 +107,7 @@ fn run<D: Device, L: Ledger>(
         Event::Reserve => tell_piece(reserve_piece(alloc, desk, kept, unit, steps)),
         Event::Stage => tell_piece(stage_piece(alloc, desk, kept, unit, steps)),
         Event::Switch => tell_done(switch(desk, kept, unit, steps)),
-        Event::Reap => tell_piece(reap_piece(alloc, desk, kept, unit, steps)),
+        Event::Reap => tell_piece(reap(alloc, desk, kept, unit, steps)),
     }
 }
 

@@ -1,11 +1,12 @@
 ghost use Rattle.std.specs.Prelude.{◌≡◌, ◌<◌, IfErr, IfOk, None};
-ghost use Rattle.core_parts.specs.Common.Entries.{HasMore};
 ghost use Rattle.core_calls.specs.declared.answers.Answer.TheVariants.{Scrub};
 ghost use Rattle.core_parts.specs.Reasons.{AnswersWell};
-ghost use Rattle.core_parts.specs.Safe.{IsSafe, IsUnit};
+ghost use Rattle.core_parts.specs.Keeps.{IsGiven, IsSteady};
+ghost use Rattle.core_parts.specs.Safe.{IsDesk, IsKept, IsSafe, IsUnit};
 ghost use Rattle.fsck_core.specs.Acts.{Acts, IsGivenAll, IsLeftAll, IsTaken};
 ghost use Rattle.core_switch.specs.Says.{SaysBy, released_by};
-ghost use Rattle.fsck_core.specs.Entries.{IsDoneBy, IsOut, IsSetBack, SaysOpen, SaysReleased, SaysReopened, entries_told};
+ghost use Rattle.fsck_core.specs.Entries.{IsDoneBy, IsOut, IsSetBack, SaysOpen, SaysReleased, SaysReopened, SaysStarting};
+ghost use Rattle.fsck_core.specs.Moves.{StaysKnown};
 ghost use Rattle.geom.specs.Places.{layout};
 
 use crate::events::{Event, run_among, tell_done};
@@ -84,6 +85,29 @@ pub(crate) fn run_in<D: Device, L: Ledger>(
     }
 }
 
+// Opens a group again. What is known of its btrees and units is no matter of it.
+fn reopen_known<D: Device>(
+    desk: &mut Desk<D>,
+    kept: &mut GroupKept,
+    unit: UnitState,
+) -> Result<(), ScrubFault>
+    requires given { IsGiven D.Device desk.old kept.old unit }
+    ensures desk { IsDesk D.Device desk.new }
+    ensures steady { IsSteady D.Device desk.old desk.new }
+    ensures kept { IsKept kept.new }
+    ensures reason { AnswersWell desk.new result }
+    ensures says { SaysBy (released_by unit) desk.old desk.new result }
+    ensures trust { kept.new.trust ≡ kept.old.trust }
+    ensures passed { kept.new.passed ≡ kept.old.passed }
+{
+    let trust = kept.trust;
+    let passed = kept.passed;
+    let opened = reopen(desk, kept, unit);
+    kept.trust = trust;
+    kept.passed = passed;
+    opened
+}
+
 // Opens a group again, with what is kept of it among all groups.
 fn reopen_among<D: Device>(
     desk: &mut Desk<D>,
@@ -94,9 +118,10 @@ fn reopen_among<D: Device>(
     ensures left { IsLeftAll D.Device desk.old desk.new groups.old.items groups.new.items }
     ensures reason { AnswersWell desk.new result }
     ensures says { SaysBy (released_by unit) desk.old desk.new result }
+    ensures known { StaysKnown unit.group groups.old.items groups.new.items }
 {
     let kept = &mut groups[unit.group as usize];
-    reopen(desk, kept, unit)
+    reopen_known(desk, kept, unit)
 }
 
 // Opens the group of a unit again that was taken out of its place, which stays empty.
@@ -107,6 +132,7 @@ fn reopen_taken<D: Device>(parts: &mut Parts<D>, unit: UnitState) -> Answer
     ensures acted { Acts D.Device parts.old parts.new result }
     ensures says { SaysReleased unit parts.old.desk parts.new.desk result }
     ensures units { parts.new.units ≡ parts.old.units }
+    ensures known { StaysKnown unit.group parts.old.groups.items parts.new.groups.items }
 {
     tell_done(reopen_among(&mut parts.desk, &mut parts.groups, unit))
 }
@@ -137,7 +163,7 @@ fn start_unshut<D: Device>(
     requires unshut { parts.old.desk.book.shut ≡ None }
     requires group { g < parts.old.desk.store.geo.agcount }
     ensures acted { Acts D.Device parts.old parts.new result }
-    ensures says { HasMore parts.old.desk parts.new.desk (entries_told g unit result) }
+    ensures says { SaysStarting g unit plan turns parts.old parts.new result }
 {
     tell_done(start(alloc, parts, g, unit, plan, turns))
 }
@@ -154,7 +180,7 @@ pub(crate) fn start_in<D: Device>(
     requires safe { IsSafe D.Device parts.old }
     requires group { g < parts.old.desk.store.geo.agcount }
     ensures acted { Acts D.Device parts.old parts.new result }
-    ensures says { HasMore parts.old.desk parts.new.desk (entries_told g unit result) }
+    ensures says { SaysStarting g unit plan turns parts.old parts.new result }
 {
     match unless_shut(&parts.desk) {
         Ok(()) => start_unshut(alloc, parts, g, unit, plan, turns),

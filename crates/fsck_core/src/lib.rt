@@ -16,6 +16,7 @@ mod writers;
 
 pub use calls::act;
 pub use ends::{any_sick, into_device};
+pub use events::Event;
 pub use glances::{glance, list_len};
 pub use noted::{Core, run_event, with_notes};
 pub use opening::open;

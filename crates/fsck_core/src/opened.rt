@@ -3,9 +3,10 @@ ghost use Rattle.blk_device.specs.Causes.{HasCause};
 ghost use Rattle.core_parts.specs.Opens.Heads.{is_failed};
 ghost use Rattle.core_parts.specs.Safe.{AreKept};
 ghost use Rattle.core_edit.specs.Ready.{IsReady};
-ghost use Rattle.fsck_core.specs.Opens.{AreBeside, NoneOpen};
+ghost use Rattle.fsck_core.specs.Opens.{AreBeside, NoneOpen, RefusesFirst};
 ghost use Rattle.inode_scan.specs.Cursor.{AllInoTrees};
 ghost use Rattle.intent_drain.specs.Drains.{gates_of};
+ghost use Rattle.unit_trust.specs.Laws.{AllFresh};
 
 use blk_device::Device;
 use byte_fields::Steps;
@@ -77,6 +78,7 @@ fn trees_of(alloc: Global, groups: &[GroupKept]) -> Result<Vec<TreeAt>, OpenRefu
 fn beside_of(alloc: Global, groups: Vec<GroupKept>, count: u32) -> Result<Beside, OpenRefused>
     requires all { length groups.items ≡ count }
     requires kept { AreKept groups.items }
+    requires fresh { AllFresh groups.items }
     ensures beside { IfOk result (AreBeside count) }
     ensures memory { IfErr result (λ stop. stop ≡ OpenRefused.Memory) }
 {
@@ -101,6 +103,9 @@ fn read_kept<D: Device, L: Ledger>(
     requires ready { IsReady D.Device store.old }
     ensures all { IfOk result (λ groups. length groups.items ≡ store.old.geo.agcount) }
     ensures kept { IfOk result (λ groups. AreKept groups.items) }
+    ensures fresh { IfOk result (λ groups. AllFresh groups.items) }
+    ensures refused { IfErr result (RefusesFirst (D.content store.old.dev) store.old.geo) }
+    ensures same { D.content store.new.dev ≡ D.content store.old.dev }
     ensures geometry { store.new.geo ≡ store.old.geo }
     ensures ready { IsReady D.Device store.new }
     ensures sizes { D.blocks store.new.dev ≡ D.blocks store.old.dev }
@@ -110,6 +115,7 @@ fn read_kept<D: Device, L: Ledger>(
 }
 
 /// Reads what a core has beside its store. The store is only read, and is ready still.
+#[tactic(auto, using(crate::proofs::OpenLemmas::memory_first))]
 pub(crate) fn read_beside<D: Device, L: Ledger>(
     alloc: Global,
     store: &mut Store<D>,
@@ -117,6 +123,8 @@ pub(crate) fn read_beside<D: Device, L: Ledger>(
 ) -> Result<Beside, OpenRefused>
     requires ready { IsReady D.Device store.old }
     ensures beside { IfOk result (AreBeside store.old.geo.agcount) }
+    ensures refused { IfErr result (RefusesFirst (D.content store.old.dev) store.old.geo) }
+    ensures same { D.content store.new.dev ≡ D.content store.old.dev }
     ensures geometry { store.new.geo ≡ store.old.geo }
     ensures ready { IsReady D.Device store.new }
     ensures sizes { D.blocks store.new.dev ≡ D.blocks store.old.dev }

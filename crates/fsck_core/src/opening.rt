@@ -58,7 +58,7 @@ fn open_store<D: Device, L: Ledger>(
     requires calm { begun ≡ D.faults store.dev }
     ensures safe { IfOk result (IsSafe D.Device) }
     ensures begun { IfOk result (IsBegun D.Device store.dev store.geo) }
-    ensures back { IfErr result (IsBack D.Device store.dev) }
+    ensures back { IfErr result (IsBack D.Device store.dev store.geo) }
 {
     let mut store = store;
     match read_beside(alloc, &mut store, steps) {
@@ -80,7 +80,7 @@ pub fn open<D: Device, L: Ledger>(
     requires redo { REDO_BLOCKS ≤ D.blocks dev Redo }
     ensures safe { IfOk result (IsSafe D.Device) }
     ensures begun { IfOk result (IsBegun D.Device dev geo) }
-    ensures back { IfErr result (IsBack D.Device dev) }
+    ensures back { IfErr result (IsBack D.Device dev geo) }
 {
     let begun = dev.fault_count();
     match Store::new(alloc, dev, geo) {

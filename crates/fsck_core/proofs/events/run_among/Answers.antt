@@ -9,4 +9,5 @@ returns-clause-says g c = record {
   kept = slice_get_read c.args.groups.now.items c.args.desk.now.store.geo.agcount c.args.unit.now.group c.index_mut-kept.result.now (sym c.requires.given.groups) c.requires.given.unit.inside c.index_mut-kept.ensures.value;
   left = refl;
   says = c.run.ensures.says;
+  moves = c.run.ensures.moves;
 }

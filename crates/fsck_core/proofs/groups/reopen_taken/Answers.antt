@@ -10,4 +10,5 @@ returns g c = record {
       (done_well c.reopen_among.new.desk c.reopen_among.result c.tell_done.result c.tell_done.ensures c.reopen_among.ensures.reason);
   says = (c.reopen_among.result, c.tell_done.ensures, c.reopen_among.ensures.says);
   units = refl;
+  known = c.reopen_among.ensures.known;
 }
