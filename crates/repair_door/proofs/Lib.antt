@@ -1,1 +1,3 @@
+pub mod DecideLemmas
 pub mod DoorLemmas
+pub mod GateLemmas

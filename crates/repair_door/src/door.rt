@@ -1,9 +1,12 @@
-ghost use Rattle.std.specs.Prelude.{◌≡◌, ◌≤◌, ◌<◌, IfOk, OnOk};
+ghost use Rattle.std.specs.Prelude.{◌≡◌, ◌≤◌, ◌<◌, IfErr, IfOk, IfSome, None, OnOk, Some};
 ghost use Rattle.blk_device.specs.Causes.{HasCause};
-ghost use Rattle.blk_device.specs.Contents.{map_told};
+ghost use Rattle.blk_device.specs.Contents.{Contents, map_told};
 ghost use Rattle.blk_device.specs.declared.device.Region.TheVariants.{Image, Redo};
+ghost use Rattle.geom.specs.Places.{layout};
 ghost use Rattle.redo_area.specs.Area.{after_recovery};
 ghost use Rattle.repair_door.specs.Causes.{is_failed};
+ghost use Rattle.repair_door.specs.Doors.{Leaves, PassesBy, door_refusal, heads_refusal, redo_refusal, superblock_refusal};
+ghost use Rattle.repair_door.specs.Found.{HasGeometry, IsClosed};
 
 use crate::no_entry::NoEntry;
 use blk_device::{Device, Region};
@@ -17,9 +20,14 @@ use std::marker::Brand;
 use std::sync::ledger::{Blank, Ledger};
 
 // Finishes a change that waits in the redo region.
+#[tactic(auto, using(crate::proofs::GateLemmas::told_closed))]
 fn finish_change<D: Device>(dev: &mut D) -> Result<(), NoEntry>
     ensures long { OnOk result (REDO_BLOCKS ≤ D.blocks dev.old Redo) }
     ensures written { OnOk result (D.content dev.new ≡ map_told after_recovery (D.content dev.old)) }
+    ensures closed { OnOk result (IfSome (D.content dev.new) IsClosed) }
+    ensures exact { IfSome (D.content dev.old)
+        (λ m. PassesBy (redo_refusal (D.blocks dev.old Redo) (D.blocks dev.old Image) m) result) }
+    ensures left { IfErr result (Leaves (D.content dev.old) (D.content dev.new)) }
     ensures sizes { D.blocks dev.new ≡ D.blocks dev.old }
     ensures cause { HasCause is_failed (D.faults dev.old) (D.faults dev.new) result }
 {
@@ -35,6 +43,10 @@ fn finish_change<D: Device>(dev: &mut D) -> Result<(), NoEntry>
 // Reads the superblock.
 fn geometry_of<D: Device>(dev: &mut D) -> Result<Geometry, NoEntry>
     ensures room { IfOk result (λ geo. geo.dblocks ≤ D.blocks dev.old Image) }
+    ensures told { IfOk result (λ geo. IfSome (D.content dev.new)
+        (HasGeometry (D.blocks dev.new Image) geo)) }
+    ensures exact { IfSome (D.content dev.old)
+        (λ m. PassesBy (superblock_refusal (D.blocks dev.old Image) (m Image)) result) }
     ensures same { D.content dev.new ≡ D.content dev.old }
     ensures sizes { D.blocks dev.new ≡ D.blocks dev.old }
     ensures cause { HasCause is_failed (D.faults dev.old) (D.faults dev.new) result }
@@ -62,6 +74,8 @@ fn heads_counted<D: Device, L: Ledger>(
     requires name { blank.name ≡ L.name }
     requires parts { blank.parts ≡ L.parts }
     requires three { blank.parts ≡ 3 }
+    ensures exact { (m : Contents) → D.content dev.old ≡ Some m
+        → PassesBy (heads_refusal (layout geo.now) (m Image)) result }
     ensures same { D.content dev.new ≡ D.content dev.old }
     ensures sizes { D.blocks dev.new ≡ D.blocks dev.old }
     ensures cause { HasCause is_failed (D.faults dev.old) (D.faults dev.new) result }
@@ -80,6 +94,8 @@ fn heads_of<D: Device>(
     geo: &Geometry,
 ) -> Result<Vec<GroupHeads>, NoEntry>
     requires room { geo.now.dblocks ≤ D.blocks dev.old Image }
+    ensures exact { (m : Contents) → D.content dev.old ≡ Some m
+        → PassesBy (heads_refusal (layout geo.now) (m Image)) result }
     ensures same { D.content dev.new ≡ D.content dev.old }
     ensures sizes { D.blocks dev.new ≡ D.blocks dev.old }
     ensures cause { HasCause is_failed (D.faults dev.old) (D.faults dev.new) result }
@@ -94,7 +110,15 @@ fn heads_of<D: Device>(
 pub fn pass_door<D: Device>(alloc: Global, dev: &mut D) -> Result<Geometry, NoEntry>
     ensures room { IfOk result (λ geo. geo.dblocks ≤ D.blocks dev.old Image) }
     ensures redo { OnOk result (REDO_BLOCKS ≤ D.blocks dev.old Redo) }
+    ensures told { IfOk result (λ geo. IfSome (D.content dev.new)
+        (HasGeometry (D.blocks dev.new Image) geo)) }
+    ensures heads { IfOk result (λ geo. (m : Contents) → D.content dev.new ≡ Some m
+        → heads_refusal (layout geo) (m Image) ≡ None) }
     ensures written { OnOk result (D.content dev.new ≡ map_told after_recovery (D.content dev.old)) }
+    ensures closed { OnOk result (IfSome (D.content dev.new) IsClosed) }
+    ensures exact { IfSome (D.content dev.old)
+        (λ m. PassesBy (door_refusal (D.blocks dev.old Redo) (D.blocks dev.old Image) m) result) }
+    ensures left { IfErr result (Leaves (D.content dev.old) (D.content dev.new)) }
     ensures sizes { D.blocks dev.new ≡ D.blocks dev.old }
     ensures cause { HasCause is_failed (D.faults dev.old) (D.faults dev.new) result }
 {

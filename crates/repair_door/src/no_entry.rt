@@ -1,5 +1,5 @@
 ghost use Rattle.std.specs.Prelude.{◌≡◌};
-ghost use Rattle.repair_door.specs.Causes.{is_failed, is_failed_redo};
+ghost use Rattle.repair_door.specs.Doors.{halt_entry, redo_entry};
 
 use ag_headers::HeadFault;
 use blk_device::DeviceFailed;
@@ -28,7 +28,7 @@ pub enum NoEntry {
 }
 
 impl From<RedoFault> for NoEntry {
-    ghost from_gives = { λ fault e. is_failed e ≡ is_failed_redo fault };
+    ghost from_gives = { λ fault e. e ≡ redo_entry fault };
 
     fn from(fault: RedoFault) -> Self {
         match fault {
@@ -52,9 +52,7 @@ impl From<DeviceFailed> for NoEntry {
 }
 
 impl From<Halt> for NoEntry {
-    ghost use Rattle.space_check.specs.Progress.{is_failed as is_failed_halt};
-
-    ghost from_gives = { λ halt e. is_failed e ≡ is_failed_halt halt };
+    ghost from_gives = { λ halt e. e ≡ halt_entry halt };
 
     fn from(halt: Halt) -> Self {
         match halt {
