@@ -74,6 +74,7 @@ fn end_parts<D: Device>(parts: Parts<D>, end: LiveEnd) -> (D, Repair)
             journal,
             stop,
             is_sick,
+            is_sound: false,
         }),
     )
 }

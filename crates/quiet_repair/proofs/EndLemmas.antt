@@ -14,11 +14,13 @@ use Rattle.core_parts.specs.Safe.{IsDesk, IsSafe}
 use Rattle.core_parts.specs.declared.desk.Desk.{Desk}
 use Rattle.core_parts.specs.declared.parts.Parts.{Parts}
 use Rattle.fs_model.specs.declared.entry.Entry.{Entry}
-use Rattle.quiet_repair.specs.Ends.{EndsWell, StopsWell}
+use Rattle.fs_state.specs.declared.plan.Plan.{Plan}
+use Rattle.quiet_repair.specs.Ends.{EndsWell, HasOrder, StopsWell}
 use Rattle.quiet_repair.specs.Sessions.{IsStopped}
 use Rattle.quiet_repair.specs.declared.repair.Repair.{Repair}
 use Rattle.repair_door.specs.Causes.{is_failed}
 use Rattle.repair_door.specs.declared.no_entry.NoEntry.{NoEntry}
+use Rattle.scrub_order.specs.Course.{IsInOrder}
 
 pub stops_well : {D : Type 0} (d : Ghosts D) (k : Desk D) (stop : Option ScrubFault) → IsDesk d k → IsStopped k stop → StopsWell k.book.begun (d.faults k.store.dev) k.book.journal.items stop
 stops_well d k None desk h = tt
@@ -42,6 +44,15 @@ parts_end {D} d p q dev journal stop s steady h is all =
     let told : StopsWell q.desk.book.begun (d.faults q.desk.store.dev) journal.items stop = subst (λ (v : Vec Entry). StopsWell q.desk.book.begun (d.faults q.desk.store.dev) v.items stop) (sym all) here in
     let back : StopsWell q.desk.book.begun (d.faults dev) journal.items stop = subst (λ (x : D). StopsWell q.desk.book.begun (d.faults x) journal.items stop) (sym is) told in
     subst (λ (b : ℕ). StopsWell b (d.faults dev) journal.items stop) steady.begun back
+
+-- in the order that the session kept
+pub parts_order : {D : Type 0} (p : Parts D) (plan : Plan) (turns : ℕ) (journal : Vec Entry) (stop : Option ScrubFault) → IsInOrder p.desk.store.geo.agcount plan turns stop p.desk.book.journal.items → journal ≡ p.desk.book.journal
+    → HasOrder plan turns stop journal.items
+parts_order p plan turns journal stop order all = record {
+  groups = p.desk.store.geo.agcount;
+  some = p.desk.store.geo.fitting.some_groups;
+  order = subst (λ (v : Vec Entry). IsInOrder p.desk.store.geo.agcount plan turns stop v.items) (sym all) order;
+}
 
 pub ends_on : (before begun now : ℕ) (r : Repair) → begun ≡ before → EndsWell begun now r → EndsWell before now r
 ends_on before begun now r is h = subst (λ (b : ℕ). EndsWell b now r) is h

@@ -1,4 +1,12 @@
+pub mod AloneLemmas
+pub mod ComesLemmas
+pub mod CourseLemmas
 pub mod EndLemmas
 pub mod InsideLemmas
+pub mod LookLemmas
+pub mod PlainLemmas
+pub mod RefusalLemmas
 pub mod SessionLemmas
+pub mod SoundLemmas
+pub mod StepLemmas
 pub mod StopLemmas

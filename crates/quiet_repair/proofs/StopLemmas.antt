@@ -60,10 +60,10 @@ next_stop false units.Free o = refl
 next_stop true units.Refc o = refl
 next_stop false units.Refc o = refl
 
-unit_stop : (o : Order) → (next_unit o).stop ≡ o.stop
+pub unit_stop : (o : Order) → (next_unit o).stop ≡ o.stop
 unit_stop o = next_stop (nat_le o.groups (o.group + 1)) o.unit o
 
-opened_stop : (x : Option ScrubFault) (o : Order) → (opened_by x o).stop ≡ o.stop
+pub opened_stop : (x : Option ScrubFault) (o : Order) → (opened_by x o).stop ≡ o.stop
 opened_stop None o = unit_stop o
 opened_stop (Some f) o = refl
 

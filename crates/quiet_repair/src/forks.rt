@@ -1,9 +1,11 @@
 // The owners of all forks by one pass over them, in the place of a scan for each group.
-ghost use Rattle.std.specs.Prelude.{◌≡◌, ◌<◌, None};
+ghost use Rattle.std.specs.Prelude.{◌≡◌, ◌<◌, Some};
 ghost use Rattle.core_parts.specs.Common.Asks.{IsUsable};
 ghost use Rattle.core_parts.specs.Keeps.{IsAsked, failed_by};
 ghost use Rattle.core_parts.specs.Safe.{IsSafe};
 ghost use Rattle.fsck_core.specs.Acts.{Acts};
+ghost use Rattle.fsck_core.specs.Asks.{phase_of_group};
+ghost use Rattle.fsck_core.specs.Entries.{Says};
 ghost use Rattle.quiet_repair.specs.Forks.{LeavesDesk, LeavesParts};
 ghost use Rattle.space_check.specs.Progress.{is_failed as is_failed_of};
 
@@ -125,8 +127,8 @@ fn owners_for(alloc: Global, forks: &mut Forks, g: u32) -> Option<Vec<RmapRec>> 
     }
 }
 
-// Moves the scan of a group on: at once to its end, where the pass has told its owners.
-fn advance_by<D: Device, L: Ledger>(
+/// Moves the scan of a group on: at once to its end, where the pass over all forks has told its owners.
+pub(crate) fn advance_by<D: Device, L: Ledger>(
     alloc: Global,
     parts: &mut Parts<D>,
     forks: &mut Forks,
@@ -136,6 +138,8 @@ fn advance_by<D: Device, L: Ledger>(
     requires safe { IsSafe D.Device parts.old }
     requires group { g < parts.old.desk.store.geo.agcount }
     ensures acted { Acts D.Device parts.old parts.new result.0 }
+    ensures says { Says (Ask.Advance g) parts.old parts.new result.0 }
+    ensures phase { result.1 ≡ phase_of_group parts.new.units.items (Some g) }
 {
     match owners_for(alloc, forks, g) {
         Some(owners) => end_scan(parts, g, owners),
@@ -143,18 +147,19 @@ fn advance_by<D: Device, L: Ledger>(
     }
 }
 
-/// Moves the scan of a group on, by the pass over all forks, which is made for the first of them.
-pub(crate) fn advance_quick<D: Device, L: Ledger>(
+/// Makes the pass over all forks before the first scan is moved on, and nothing before other events.
+pub(crate) fn look_first<D: Device, L: Ledger>(
     alloc: Global,
     parts: &mut Parts<D>,
     forks: &mut Forks,
-    g: u32,
+    ask: Ask,
     steps: &mut Steps<L>,
-) -> (Answer, Phase)
+)
     requires safe { IsSafe D.Device parts.old }
-    requires group { g < parts.old.desk.store.geo.agcount }
-    ensures acted { Acts D.Device parts.old parts.new result.0 }
+    ensures left { LeavesParts D.Device parts.old parts.new }
 {
-    look_once(alloc, parts, forks, steps);
-    advance_by(alloc, parts, forks, g, steps)
+    match ask {
+        Ask::Advance { .. } => look_once(alloc, parts, forks, steps),
+        _ => {}
+    }
 }

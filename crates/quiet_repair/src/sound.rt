@@ -1,20 +1,24 @@
 // The check that comes before a repair.
-ghost use Rattle.std.specs.Prelude.{◌≡◌, ◌≤◌, ℕ, IfOk, IfSome, IsTrue, None};
-ghost use Rattle.blk_device.specs.Causes.{HasCause, MovesOnly, any_error};
+ghost use Rattle.std.specs.Prelude.{◌≡◌, ◌≤◌, ℕ, IfErr, IfOk, IfSome, None};
+ghost use Rattle.std.specs.List.{list_all};
+ghost use Rattle.blk_device.specs.Causes.{HasCause, MovesOnly};
 ghost use Rattle.blk_device.specs.declared.device.Region.TheVariants.{Image};
 ghost use Rattle.geom.specs.Places.{layout};
 ghost use Rattle.image_check.specs.Image.{image_checked};
-ghost use Rattle.sblock.specs.Lists.{Each};
-ghost use Rattle.space_check.specs.Checked.{CheckCause, MeetsCheck};
+ghost use Rattle.image_check.specs.Units.{IsSession};
+ghost use Rattle.repair_door.specs.Causes.{is_failed as is_failed_entry};
+ghost use Rattle.repair_door.specs.Doors.{IsDecided};
+ghost use Rattle.space_check.specs.Checked.{CheckCause, Checked, MeetsCheck, MeetsHalt};
 ghost use Rattle.space_check.specs.Progress.{is_failed};
-ghost use Rattle.quiet_repair.specs.Sound.{IsSound, is_good_entry};
+ghost use Rattle.quiet_repair.specs.Sound.{IsSound, IsSoundOrder, is_good_entry};
 
-use blk_device::{Device, DeviceFailed};
+use blk_device::Device;
 use byte_fields::Steps;
 use check_watch::Watch;
 use fs_model::{Entry, Verdict};
 use geom::Geometry;
 use image_check::check_image;
+use repair_door::NoEntry;
 use space_check::{CheckStop, Halt};
 use std::alloc::Global;
 use std::marker::Brand;
@@ -32,7 +36,7 @@ fn is_good(entry: &Entry) -> bool
 
 // Whether nothing else is in a journal.
 fn are_all_good(journal: &[Entry]) -> bool
-    ensures { IsTrue result → Each is_good_entry journal.now }
+    ensures { result ≡ list_all is_good_entry journal.now }
 {
     for entry in journal {
         if !is_good(entry) {
@@ -56,6 +60,7 @@ fn checked_counted<D: Device, L: Ledger, W: Watch>(
     requires three { blank.parts ≡ 3 }
     ensures exact { IfSome (D.content dev.old)
         (λ c. MeetsCheck (image_checked (layout geo.now) (c Image)) result) }
+    ensures session { IsSession geo.now.agcount result }
     ensures same { D.content dev.new ≡ D.content dev.old }
     ensures sizes { D.blocks dev.new ≡ D.blocks dev.old }
     ensures cause { CheckCause (D.faults dev.old) (D.faults dev.new) result }
@@ -74,6 +79,7 @@ fn checked<D: Device, W: Watch>(
     requires room { geo.now.dblocks ≤ D.blocks dev.old Image }
     ensures exact { IfSome (D.content dev.old)
         (λ c. MeetsCheck (image_checked (layout geo.now) (c Image)) result) }
+    ensures session { IsSession geo.now.agcount result }
     ensures same { D.content dev.new ≡ D.content dev.old }
     ensures sizes { D.blocks dev.new ≡ D.blocks dev.old }
     ensures cause { CheckCause (D.faults dev.old) (D.faults dev.new) result }
@@ -82,21 +88,23 @@ fn checked<D: Device, W: Watch>(
     checked_counted::<D, Brand, W>(alloc, dev, geo, blank, watch)
 }
 
-/// The journal of a check of the image, where it finds every unit of every group good; none where it
-/// doesn't, or stops before its last unit. Nothing is written
+/// The journal of a check of the image, where it finds every unit of every group good; none exactly where
+/// it doesn't. A failed device and want of memory are the refusals, and nothing is written
 /// (XFS Online Fsck Design, "Metadata Scrubbing").
 pub(crate) fn sound_journal<D: Device, W: Watch>(
     alloc: Global,
     dev: &mut D,
     geo: &Geometry,
     watch: &mut W,
-) -> Result<Option<Vec<Entry>>, DeviceFailed>
+) -> Result<Option<Vec<Entry>>, NoEntry>
     requires room { geo.now.dblocks ≤ D.blocks dev.old Image }
     ensures sound { IfOk result (λ found. IfSome (D.content dev.old)
         (λ c. IsSound (image_checked (layout geo.now) (c Image)) found)) }
+    ensures order { IfOk result (IsSoundOrder geo.now.agcount) }
     ensures same { D.content dev.new ≡ D.content dev.old }
     ensures sizes { D.blocks dev.new ≡ D.blocks dev.old }
-    ensures cause { HasCause any_error (D.faults dev.old) (D.faults dev.new) result }
+    ensures only { IfErr result (IsDecided None) }
+    ensures cause { HasCause is_failed_entry (D.faults dev.old) (D.faults dev.new) result }
 {
     match checked(alloc, dev, geo, watch) {
         Ok(journal) => {
@@ -110,13 +118,18 @@ pub(crate) fn sound_journal<D: Device, W: Watch>(
 }
 
 // What a check that was stopped leaves to a repair.
-fn stopped(stop: CheckStop) -> Result<Option<Vec<Entry>>, DeviceFailed>
+fn stopped(stop: CheckStop) -> Result<Option<Vec<Entry>>, NoEntry>
     ensures none { IfOk result (λ found. found ≡ None) }
+    ensures sound { (checked : Checked) → MeetsHalt checked stop.cause stop.journal.items
+        → IfOk result (IsSound checked) }
+    ensures only { IfErr result (IsDecided None) }
     ensures cause { (before now : ℕ) → MovesOnly (is_failed stop.cause) before now
-        → HasCause any_error before now result }
+        → HasCause is_failed_entry before now result }
 {
     match stop.cause {
-        Halt::Failed => Err(DeviceFailed),
-        _ => Ok(None),
+        Halt::Failed => Err(NoEntry::Failed),
+        Halt::Memory => Err(NoEntry::Memory),
+        Halt::Head { .. } => Ok(None),
+        Halt::Full => Ok(None),
     }
 }
