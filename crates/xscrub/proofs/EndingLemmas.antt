@@ -10,9 +10,12 @@ use Rattle.std.specs.Prelude.{⊤}
 use Rattle.xscrub.specs.Ending.{IsShown, IsToldOf, IsFoundBy, Decides, EndsFor, HasOutcomeCause, IsSettled, IsOutcome, IsAsked, IsShort, IsOfImage, IsOfMake, IsWorded, IsImageLine, IsNoRepairLine, IsOfRepair, EndsForRepair, IsToldOrShort, EndsByWords, HasUnitsOf}
 use Rattle.xscrub.specs.Command.{Job, check_of, repair_of, make_of, unbuilt, usage}
 use Rattle.image_hosts.specs.Stored.{Request}
-use Rattle.xscrub.specs.Units.{HasAllUnits, HasFirstUnits, HasRepairUnits, HasUnits}
+use Rattle.fs_state.specs.declared.plan.Plan.{Plan}
+use Rattle.xscrub.specs.Repairs.{FindsSession}
+use Rattle.xscrub.specs.Units.{HasAllUnits, HasFirstUnits, HasRepairUnits, HasSession, HasUnits}
+use Rattle.xscrub.proofs.SessionLemmas.{cut_session, none_cut}
 use Rattle.xscrub.proofs.UnitLemmas.{no_units, all_are_first, most_are_first}
-use Rattle.xscrub.specs.Outcome.{Outcome, is_calm, is_given_up, is_no_repair, is_refusal, judged_status, judged_outcome, repaired_status, repaired_outcome, filled_outcome, made_outcome, stopped_outcome, ended_outcome, outcome_of}
+use Rattle.xscrub.specs.Outcome.{Outcome, code_of, is_calm, is_given_up, is_no_repair, is_refusal, judged_status, judged_outcome, repaired_status, repaired_outcome, filled_outcome, made_outcome, stopped_outcome, ended_outcome, outcome_of}
 use Rattle.xscrub.specs.declared.ending.Finding.{Finding}
 use Rattle.xscrub.specs.declared.ending.Finding.TheVariants as findings
 use Rattle.run_text.specs.Report.{report_of}
@@ -123,7 +126,7 @@ both_ways true = inl refl
 both_ways false = inr refl
 
 -- the status of a journal, by both of its tests
-abbrev status_by : Bool → Bool → Status
+abbrev pub status_by : Bool → Bool → Status
 status_by calm given_up = cond calm statuses.Clean (cond given_up statuses.GaveUp statuses.Faulty)
 
 judged_ends : (journal : List Entry) (h h' d d' k k' : ℕ) → h' ≡ h → d' ≡ d → k' ≡ k → EndsFor (judged_status journal) (judged_outcome journal) h h' d d' k k'
@@ -530,7 +533,7 @@ told_by_words unbuilt finding told k k' worded ends =
 told_by_words (check_of name redo) finding told k k' worded ends =
     (told_not_usage (is_some redo) finding told k k' worded ends, told_not_unbuilt (is_some redo) finding told k k' worded ends, told_image (is_some redo) finding told k k' worded ends)
 told_by_words (repair_of name redo plan turns) finding told k k' worded ends =
-    (told_not_usage_repair finding told k k' worded ends, told_not_unbuilt_repair finding told k k' worded ends, told_no_repair finding told k k' worded ends)
+    (told_not_usage_repair finding told k k' worded.0 ends, told_not_unbuilt_repair finding told k k' worded.0 ends, told_no_repair finding told k k' worded.0 ends)
 told_by_words (make_of name) finding told k k' worded ends = made_told finding told k k' worded ends
 
 -- ---- the units of a journal
@@ -598,12 +601,23 @@ short_of_repair (findings.DeviceFailed journal) short = absurd short
 short_of_repair findings.HostFailed short = absurd short
 short_of_repair (findings.Memory journal) short = tt
 
+short_session : (plan : Plan) (turns : ℕ) (finding : Finding) → IsShort finding → FindsSession plan turns finding
+short_session plan turns (findings.Judged journal) short = absurd short
+short_session plan turns (findings.Repaired journal sick) short = absurd short
+short_session plan turns (findings.Full journal) short = absurd short
+short_session plan turns (findings.Refused line) short = absurd short
+short_session plan turns findings.Made short = absurd short
+short_session plan turns findings.Usage short = absurd short
+short_session plan turns (findings.DeviceFailed journal) short = absurd short
+short_session plan turns findings.HostFailed short = absurd short
+short_session plan turns (findings.Memory journal) short = none_cut plan turns 8 journal.items refl short
+
 -- there was no memory for the words
 pub short_worded : (job : Job) (finding : Finding) → IsShort finding → IsWorded job finding
 short_worded usage finding short = inr short
 short_worded unbuilt finding short = inr short
 short_worded (check_of name redo) finding short = short_of_image (is_some redo) finding short
-short_worded (repair_of name redo plan turns) finding short = short_of_repair finding short
+short_worded (repair_of name redo plan turns) finding short = (short_of_repair finding short, short_session plan turns finding short)
 short_worded (make_of name) finding short = short_of_make finding short
 
 -- words alone have no units
@@ -628,35 +642,38 @@ no_made_units : (told : Outcome) → (told ≡ made_outcome) ⊎ ((told.journal 
 no_made_units told (inl made) = ap (λ (o : Outcome). o.journal) made
 no_made_units told (inr stopped) = stopped.0
 
--- a repair has a full journal only with so many entries
-repaired_units : (journal : List Entry) (sick : Bool) → HasRepairUnits (repaired_status sick journal) journal
-repaired_units journal false = either (list_all is_calm journal) (list_any is_given_up journal)
+-- a repair's journal is a session, as far as it is told
+repaired_units : (plan : Plan) (turns : ℕ) (journal : List Entry) (sick : Bool) → HasSession plan turns (code_of (repaired_status sick journal)) journal → HasRepairUnits plan turns (repaired_status sick journal) journal
+repaired_units plan turns journal false = either (list_all is_calm journal) (list_any is_given_up journal)
   where
-    either : (a b : Bool) → HasRepairUnits (status_by a b) journal
-    either true b = tt
-    either false true = tt
-    either false false = tt
-repaired_units journal true = either (list_any is_given_up journal)
+    either : (a b : Bool) → HasSession plan turns (code_of (status_by a b)) journal → HasRepairUnits plan turns (status_by a b) journal
+    either true b has = has
+    either false true has = has
+    either false false has = has
+repaired_units plan turns journal true = either (list_any is_given_up journal)
   where
-    either : (b : Bool) → HasRepairUnits (cond b statuses.GaveUp statuses.Faulty) journal
-    either true = tt
-    either false = tt
+    either : (b : Bool) → HasSession plan turns (code_of (cond b statuses.GaveUp statuses.Faulty)) journal → HasRepairUnits plan turns (cond b statuses.GaveUp statuses.Faulty) journal
+    either true has = has
+    either false has = has
 
-found_repair_units : (finding : Finding) → IsOfRepair finding → HasRepairUnits (outcome_of finding).status (outcome_of finding).journal
-found_repair_units (findings.Judged journal) of = absurd of
-found_repair_units (findings.Repaired journal sick) of = repaired_units journal.items sick
-found_repair_units (findings.Full journal) of = of
-found_repair_units (findings.Refused line) of = tt
-found_repair_units findings.Made of = absurd of
-found_repair_units findings.Usage of = absurd of
-found_repair_units (findings.DeviceFailed journal) of = tt
-found_repair_units findings.HostFailed of = tt
-found_repair_units (findings.Memory journal) of = tt
+found_repair_units : (plan : Plan) (turns : ℕ) (finding : Finding) → IsOfRepair finding → FindsSession plan turns finding → HasRepairUnits plan turns (outcome_of finding).status (outcome_of finding).journal
+found_repair_units plan turns (findings.Judged journal) of has = absurd of
+found_repair_units plan turns (findings.Repaired journal sick) of has = repaired_units plan turns journal.items sick has
+found_repair_units plan turns (findings.Full journal) of has = (of, has)
+found_repair_units plan turns (findings.Refused line) of has = has
+found_repair_units plan turns findings.Made of has = absurd of
+found_repair_units plan turns findings.Usage of has = absurd of
+found_repair_units plan turns (findings.DeviceFailed journal) of has = has
+found_repair_units plan turns findings.HostFailed of has = has
+found_repair_units plan turns (findings.Memory journal) of has = has
 
-told_repair_units : (finding : Finding) (told : Outcome) (k k' : ℕ) → IsOfRepair finding → IsToldOf (outcome_of finding) k k' told → HasRepairUnits told.status told.journal
-told_repair_units finding told k k' of (inl whole) = subst (λ (o : Outcome). HasRepairUnits o.status o.journal) (sym whole.0) (found_repair_units finding of)
-told_repair_units finding told k k' of (inr (inl failed)) = subst (λ (o : Outcome). HasRepairUnits o.status o.journal) (sym failed.0) tt
-told_repair_units finding told k k' of (inr (inr memory)) = subst (λ (s : Status). HasRepairUnits s told.journal) (sym memory.0) tt
+told_repair_units : (plan : Plan) (turns : ℕ) (finding : Finding) (told : Outcome) (k k' : ℕ) → IsOfRepair finding → FindsSession plan turns finding → IsToldOf (outcome_of finding) k k' told → HasRepairUnits plan turns told.status told.journal
+told_repair_units plan turns finding told k k' of has (inl whole) = subst (λ (o : Outcome). HasRepairUnits plan turns o.status o.journal) (sym whole.0) (found_repair_units plan turns finding of has)
+told_repair_units plan turns finding told k k' of has (inr (inl failed)) =
+    let journal : List Entry = (outcome_of finding).journal in
+    subst (λ (o : Outcome). HasRepairUnits plan turns o.status o.journal) (sym failed.0) (cut_session plan turns (code_of (outcome_of finding).status) 5 journal journal refl ([], sym (append-nil journal)) has)
+told_repair_units plan turns finding told k k' of has (inr (inr memory)) =
+    subst (λ (s : Status). HasRepairUnits plan turns s told.journal) (sym memory.0) (cut_session plan turns (code_of (outcome_of finding).status) 8 told.journal (outcome_of finding).journal refl memory.2 has)
 
 pub told_units : (job : Job) (finding : Finding) (told : Outcome) (k k' : ℕ) → IsWorded job finding → IsToldOf (outcome_of finding) k k' told → HasUnitsOf job told.status told.journal
 told_units usage finding told k k' worded ends =
@@ -664,5 +681,5 @@ told_units usage finding told k k' worded ends =
 told_units unbuilt finding told k k' worded ends =
     units_told finding told k k' (no_words_units finding (findings.Refused lines.Unbuilt) tt worded) (no_words_first finding (findings.Refused lines.Unbuilt) no_units worded) ends
 told_units (check_of name redo) finding told k k' worded ends = units_told finding told k k' (found_units (is_some redo) finding worded) (found_first (is_some redo) finding worded) ends
-told_units (repair_of name redo plan turns) finding told k k' worded ends = told_repair_units finding told k k' worded ends
+told_units (repair_of name redo plan turns) finding told k k' worded ends = told_repair_units plan turns finding told k k' worded.0 worded.1 ends
 told_units (make_of name) finding told k k' worded ends = no_made_units told (made_told finding told k k' worded ends)

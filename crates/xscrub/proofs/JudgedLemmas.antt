@@ -49,7 +49,7 @@ module _ (size : ℕ) (image : ℕ → List ℕ) (bytes : List ℕ) (held : imag
   bad_superblock : (fault : ImageFault) → first_fault bytes size ≡ Some fault → image_outcome size image ≡ refused (lines.Image fault)
   bad_superblock fault bad = at_superblock ∙ ap (superblock_outcome (layout_of bytes) image) bad
 
-  good_superblock : (at : Layout) → first_fault bytes size ≡ None → at ≡ layout_of bytes → image_outcome size image ≡ checked_outcome (image_checked at image)
+  pub good_superblock : (at : Layout) → first_fault bytes size ≡ None → at ≡ layout_of bytes → image_outcome size image ≡ checked_outcome (image_checked at image)
   good_superblock at good same =
       at_superblock ∙ ap (superblock_outcome (layout_of bytes) image) good ∙ ap (λ (l : Layout). checked_outcome (image_checked l image)) (sym same)
 

@@ -1,8 +1,12 @@
+pub mod AloneLemmas
+pub mod DoorLemmas
 pub mod EndingLemmas
 pub mod JudgedLemmas
 pub mod LoanLemmas
 pub mod RedoLemmas
 pub mod RepairLemmas
 pub mod SaysLemmas
+pub mod SessionLemmas
 pub mod ShownLemmas
+pub mod SoundLemmas
 pub mod UnitLemmas

@@ -43,7 +43,7 @@ pub others_stay : (name : List ℕ) (file : Option Stored) (old mid new : List �
     → (n : List ℕ) → bytes_eq n name ≡ false → new n ≡ old n
 others_stay name file old mid new outside home n apart = home n ∙ (ap (λ (b : Bool). cond b file (mid n)) apart ∙ outside n apart)
 
-image_there : (name : List ℕ) (file : Option Stored) (mid new : List ℕ → Option Stored) → ((n : List ℕ) → new n ≡ stored_with name file mid n) → new name ≡ file
+pub image_there : (name : List ℕ) (file : Option Stored) (mid new : List ℕ → Option Stored) → ((n : List ℕ) → new n ≡ stored_with name file mid n) → new name ≡ file
 image_there name file mid new home = home name ∙ ap (λ (b : Bool). cond b file (mid name)) ((bytes_eq-Decides name name).1 refl)
 
 -- a device that was handed out for a change, and came back

@@ -17,6 +17,7 @@ use Rattle.xscrub.specs.Image.{device_events, device_outcome}
 use Rattle.xscrub.specs.Outcome.{Outcome, outcome_of, is_given_up, is_calm, is_no_repair, is_refusal, judged_outcome, made_outcome, repaired_outcome, filled_outcome, stopped_outcome, ended_outcome}
 use Rattle.run_text.specs.Report.{report_of}
 use Rattle.xscrub.specs.LastLines.{is_fixed}
+use Rattle.xscrub.specs.Repairs.{FindsSession}
 use Rattle.xscrub.specs.Shown.{StopsAt, TakesFronts, last_text}
 use Rattle.image_hosts.specs.Stored.{Stored, Request, Loan, Out, Back, HoldsRedo, Lends, IsOpened, asks, opened, redo_named, stored_image, stored_redo}
 use Rattle.xscrub.specs.Units.{HasAllUnits, HasItsMost, HasFirstUnits, HasRepairUnits, HasUnits, IsFullJournal}
@@ -217,12 +218,18 @@ abbrev pub LeavesRedos : Job → (redos redos' : List ℕ → Option Stored) →
 LeavesRedos (repair_of name redo plan turns) redos redos' = (n : List ℕ) → bytes_eq n redo ≡ false → redos' n ≡ redos n
 LeavesRedos other redos redos' = (n : List ℕ) → redos' n ≡ redos n
 
+-- What a repair leaves that is done: a check of what is stored, with the redo file beside the image, ends with 0, where
+-- the host tells both.
+abbrev pub EndsSound : Job → (done : Type 0) → (stored redos : List ℕ → Option Stored) → Type 0
+EndsSound (repair_of name redo plan turns) done stored redos = done → IfSome (stored_outcome true (stored name) (redos redo)) (λ o. o.status ≡ statuses.Clean)
+EndsSound other done stored redos = ⊤
+
 -- what the words alone say of a finding
 abbrev pub IsWorded : Job → Finding → Type 0
 IsWorded usage finding = (finding ≡ findings.Usage) ⊎ IsShort finding
 IsWorded unbuilt finding = (finding ≡ findings.Refused lines.Unbuilt) ⊎ IsShort finding
 IsWorded (check_of name redo) finding = IsOfImage (is_some redo) finding
-IsWorded (repair_of name redo plan turns) finding = IsOfRepair finding
+IsWorded (repair_of name redo plan turns) finding = IsOfRepair finding × FindsSession plan turns finding
 IsWorded (make_of name) finding = IsOfMake finding
 
 pub record IsFound (decided : Option Outcome) (host host' devices devices' : ℕ) (finding : Finding) : Type 0 where
@@ -360,10 +367,10 @@ TellsBy g (repair_of name redo plan turns) stored redos stored' redos' loans loa
 TellsBy g (make_of name) stored redos stored' redos' loans loans' told =
     ((loans' ≡ loans) × (told.journal ≡ []) × (IsSettled told.status → ⊥)) ⊎ WasMade g (told.status ≡ statuses.Clean) loans loans'
 
--- the units of a journal; a new image has none, and of a repair's only the length of a full one is said
+-- the units of a journal; a new image has none, and a repair's stand by its plan and its turns
 abbrev pub HasUnitsOf : Job → Status → List Entry → Type 0
 HasUnitsOf (make_of name) status journal = journal ≡ []
-HasUnitsOf (repair_of name redo plan turns) status journal = HasRepairUnits status journal
+HasUnitsOf (repair_of name redo plan turns) status journal = HasRepairUnits plan turns status journal
 HasUnitsOf other status journal = HasUnits status journal
 
 -- the run ended before a device was handed out for a new image

@@ -1,6 +1,7 @@
 -- What is found of a device, by the image that it holds.
 use Rattle.std.specs.Prelude.{◌≡◌, ℕ, List, Bool, true, false, Option, Result, Ok, Err, IfSome}
 use Rattle.std.specs.Global.{Vec}
+use Rattle.std.specs.List.{list_all}
 use Rattle.ag_headers.specs.declared.fault.HeadFault.{HeadFault}
 use Rattle.blk_device.specs.Causes.{HasCause}
 use Rattle.blk_device.specs.Contents.{Contents}
@@ -13,7 +14,7 @@ use Rattle.image_check.specs.Image.{ReadsForEvents}
 use Rattle.space_check.specs.declared.halt.Halt.TheVariants as halts
 use Rattle.space_check.specs.declared.stop.CheckStop.{CheckStop}
 use Rattle.xscrub.specs.Image.{device_events, device_outcome, image_events, image_outcome}
-use Rattle.xscrub.specs.Outcome.{Outcome, judged_outcome, filled_outcome, ended_outcome, is_image_line, is_refusal}
+use Rattle.xscrub.specs.Outcome.{Outcome, judged_outcome, filled_outcome, ended_outcome, is_calm, is_image_line, is_refusal}
 use Rattle.xscrub.specs.Units.{HasAllUnits, HasItsMost}
 use Rattle.xscrub.specs.declared.ending.Status.TheVariants as statuses
 use Rattle.xscrub.specs.declared.judging.JudgeFault.{JudgeFault}
@@ -37,6 +38,17 @@ TellsOfImage (Refused line) = is_image_line line ≡ true
 -- it is what the image's bytes decide, where the device tells them
 abbrev pub IsJudged : Option Contents → ℕ → Judgement → Type 0
 IsJudged content size found = IfSome content (λ m. judgement_outcome found ≡ image_outcome size (m Image))
+
+-- all units of all groups were judged, and no verdict speaks against the image
+abbrev pub is_clean : Judgement → Bool
+is_clean (Judged journal) = list_all is_calm journal.items
+is_clean (Full journal) = false
+is_clean (Refused line) = false
+
+-- this answer is one that ends a check with 0
+abbrev pub IsJudgedClean : Result Judgement JudgeFault → Type 0
+IsJudgedClean (Ok found) = (judgement_outcome found).status ≡ statuses.Clean
+IsJudgedClean (Err fault) = ⊥
 
 -- the journal so far of a judgement that was stopped
 abbrev pub journal_at : JudgeFault → List Entry

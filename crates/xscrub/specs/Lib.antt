@@ -1,4 +1,6 @@
+pub mod Alone
 pub mod Command
+pub mod Doors
 pub mod Ending
 pub mod Image
 pub mod Judged

@@ -2,8 +2,10 @@
 use Rattle.std.specs.Prelude.{◌≡◌, ℕ, Bool, List, [], ◌∷◌, length, Option, IfSome}
 use Rattle.blk_device.specs.declared.device.Device.{Ghosts}
 use Rattle.blk_device.specs.declared.sink.Sink.{Ghosts as SinkGhosts}
+use Rattle.xscrub.specs.Alone.{StaysAlone}
 use Rattle.xscrub.specs.Command.{Job}
-use Rattle.xscrub.specs.Ending.{EndsByWords, EndsUnopened, HasOutcomeCause, HasUnitsOf, IsAsked, IsOutcome, IsShown, LeavesRedos, LeavesStored, TellsBy, decided_by}
+use Rattle.xscrub.specs.Doors.{EndsAtDoor}
+use Rattle.xscrub.specs.Ending.{EndsByWords, EndsSound, EndsUnopened, HasOutcomeCause, HasUnitsOf, IsAsked, IsOutcome, IsShown, LeavesRedos, LeavesStored, TellsBy, decided_by}
 use Rattle.xscrub.specs.Outcome.{Outcome, code_of}
 use Rattle.image_hosts.specs.Stored.{Stored, Request, Loan}
 use Rattle.xscrub.specs.declared.ending.Status.TheVariants as statuses
@@ -37,7 +39,8 @@ seen g s h = record {
 
 -- What a run owes: how it ended is what words and bytes decide, or has a cause in a count that
 -- rose; its journal has each unit of each group, or the first of them where it was stopped; this is what
--- the sink took; and what is stored is as it was, but for a new image and for what a repair changes.
+-- the sink took; and what is stored is as it was, but for a new image and for what a repair changes, of which a check
+-- ends with 0 where the repair does; an image of which a check finds every unit good is then as it was.
 pub record IsRun {D : Type 0} (job : Job) (told : Outcome) (old new : Seen D) (end : RunEnd) : Type 0 where
   pub status : end.status ≡ code_of told.status
   pub journal : end.journal.items ≡ told.journal
@@ -50,6 +53,9 @@ pub record IsRun {D : Type 0} (job : Job) (told : Outcome) (old new : Seen D) (e
   pub asked_for : IsAsked job (told.status ≡ statuses.Memory) old.asked new.asked
   pub stored : LeavesStored job old.tells (told.status ≡ statuses.Clean) (EndsUnopened told) old.stored new.stored
   pub redo_files : LeavesRedos job old.redos new.redos
+  pub refused : EndsAtDoor job old.stored old.redos new.stored told
+  pub alone : StaysAlone job old.stored old.redos new.stored told
+  pub sound : EndsSound job (told.status ≡ statuses.Clean) new.stored new.redos
 
 -- a run for these words, with the device that was handed out for it
 abbrev pub RunsFor : {D : Type 0} → Ghosts D → Job → (old new : Seen D) → RunEnd → Type 0

@@ -3,9 +3,12 @@
 use Rattle.std.specs.Prelude.{◌≡◌, ⊤, ℕ, ◌≤◌, ◌++◌, List, [], length}
 use Rattle.blk_device.specs.Taken.{IsFront}
 use Rattle.fs_model.specs.declared.entry.Entry.{Entry}
+use Rattle.fs_state.specs.Session.{Session, unit_order}
+use Rattle.fs_state.specs.declared.plan.Plan.{Plan}
 use Rattle.image_check.specs.Units.{AreUnits, HasUnits as HasUnitsOfGroups, StopsInUnits}
 use Rattle.space_check.specs.Events.{Event, entries_of}
 use Rattle.space_check.specs.declared.halt.Halt.TheVariants.{Full}
+use Rattle.xscrub.specs.Outcome.{code_of}
 use Rattle.xscrub.specs.declared.ending.Status.{Status}
 use Rattle.xscrub.specs.declared.ending.Status.TheVariants as statuses
 
@@ -45,6 +48,13 @@ HasUnits statuses.Memory journal = HasFront journal
 abbrev pub IsFullJournal : List Entry → Type 0
 IsFullJournal journal = 1048576 ≤ length journal
 
-abbrev pub HasRepairUnits : Status → List Entry → Type 0
-HasRepairUnits statuses.Full journal = IsFullJournal journal
-HasRepairUnits status journal = ⊤
+-- A session of a repair over the units of one group or more: one verdict for each, in their order, and each as plan,
+-- turns and the verdicts before it allow; at a status at which it is cut short the first of them, at a refusal none.
+pub record HasSession (plan : Plan) (turns status : ℕ) (journal : List Entry) : Type 0 where
+  pub groups : ℕ
+  pub some : 1 ≤ groups
+  pub session : Session (unit_order groups) plan turns groups status journal
+
+abbrev pub HasRepairUnits : Plan → (turns : ℕ) → Status → List Entry → Type 0
+HasRepairUnits plan turns statuses.Full journal = IsFullJournal journal × HasSession plan turns (code_of statuses.Full) journal
+HasRepairUnits plan turns status journal = HasSession plan turns (code_of status) journal

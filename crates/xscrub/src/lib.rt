@@ -4,6 +4,7 @@
 #![tactic(auto)]
 
 mod command;
+mod confirming;
 mod ending;
 mod gathering;
 mod judging;

@@ -41,8 +41,8 @@ fn redo_refusal<D: Device>(dev: &mut D) -> Result<Option<RedoRefusal>, DeviceFai
     Ok(refusal_where(waits))
 }
 
-// Judges the image of a device whose redo file is looked at first.
-fn judge_behind<D: Device, W: Watch>(
+/// Judges the image of a device whose redo file is looked at first.
+pub(crate) fn judge_behind<D: Device, W: Watch>(
     alloc: Global,
     dev: &mut D,
     watch: &mut W,

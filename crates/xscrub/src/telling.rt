@@ -127,7 +127,8 @@ fn is_calm_verdict(verdict: &Verdict) -> bool
     }
 }
 
-fn are_all_calm(journal: &[Entry]) -> bool
+/// Whether no verdict of a journal speaks against the image.
+pub(crate) fn are_all_calm(journal: &[Entry]) -> bool
     ensures { result ≡ list_all is_calm_entry journal.now }
 {
     for entry in journal {

@@ -1,6 +1,10 @@
 ghost use Rattle.std.specs.Prelude.{◌≡◌, ℕ, List, is_some};
-ghost use Rattle.xscrub.specs.Ending.{Finds, IsOfImage, IsWorded, IsAsked, IsShort, IsUnopened, FindsBy, LeavesRedos, LeavesStored, decided_by, stored_outcome};
+ghost use Rattle.xscrub.specs.Ending.{EndsSound, Finds, IsOfImage, IsWorded, IsAsked, IsShort, IsUnopened, FindsBy, LeavesRedos, LeavesStored, decided_by, stored_outcome};
+ghost use Rattle.xscrub.specs.Alone.{StaysAlone};
 ghost use Rattle.xscrub.specs.Command.{check_of, job_of};
+ghost use Rattle.xscrub.specs.Doors.{EndsAtDoor};
+ghost use Rattle.xscrub.specs.Outcome.{outcome_of};
+ghost use Rattle.xscrub.specs.Repairs.{IsClean};
 ghost use Rattle.xscrub.specs.Run.{RunsFor, seen};
 ghost use Rattle.image_hosts.specs.Stored.{name_of, redo_asked};
 
@@ -68,6 +72,12 @@ fn find<H: Host>(alloc: Global, host: &mut H, words: &[String]) -> Finding
     ensures stored { LeavesStored (job_of words.now) (H.tells host.old)
         (result ≡ Finding.Made) (IsUnopened result) (H.stored host.old) (H.stored host.new) }
     ensures redo { LeavesRedos (job_of words.now) (H.redo_files host.old) (H.redo_files host.new) }
+    ensures refused { EndsAtDoor (job_of words.now) (H.stored host.old) (H.redo_files host.old)
+        (H.stored host.new) (outcome_of result) }
+    ensures alone { StaysAlone (job_of words.now) (H.stored host.old) (H.redo_files host.old)
+        (H.stored host.new) (outcome_of result) }
+    ensures sound { EndsSound (job_of words.now) (IsClean result)
+        (H.stored host.new) (H.redo_files host.new) }
     ensures asked { IsAsked (job_of words.now) (IsShort result) (H.asked host.old) (H.asked host.new) }
     ensures report { H.taken host.new ≡ H.taken host.old }
     ensures sink { H.sink_faults host.new ≡ H.sink_faults host.old }
@@ -87,7 +97,8 @@ fn find<H: Host>(alloc: Global, host: &mut H, words: &[String]) -> Finding
 /// Runs the words, without the program's name, and tells the host's sink what was found, in pieces of
 /// whole lines: where a device fails or memory is short, the journal so far, and then the line that says so.
 /// A check changes no image and no redo file, the making of an image that image alone, and a repair its
-/// image and redo file; each device that the host hands out is given back.
+/// image and redo file, of which a check ends with 0 where the repair does. An image of which a check finds
+/// every unit good is then as it was, unless all is rebuilt. Each device that the host hands out is given back.
 pub fn fsck_main<H: Host>(alloc: Global, host: &mut H, words: &[String]) -> RunEnd
     ensures run { RunsFor H.Dev.Device (job_of words.now)
         (seen H.Host.own H.Sink host.old) (seen H.Host.own H.Sink host.new) result }
